@@ -25,11 +25,10 @@ pub spells_one : (found : Option (Line Global)) (line : Line Global) (text shown
 spells_one found line text shown left found_is shown_is left_is utf8 some only =
     let within = subst (λ (t : List ℕ). SpellsWithin Global t) shown_is some in
     let is : within.0 ≡ line ∷ [] = subst (λ (f : Option (Line Global)). IsOnly f within.0) found_is (left_is_text found text shown left shown_is left_is only within.0 within.1) in
-    let all : AreWithinLimits (line ∷ []) = subst (λ (l : List (Line Global)). AreWithinLimits l) is within.2 in
     record {
       utf8 = utf8;
       spelled = subst (λ (l : List (Line Global)). SpellsScript l text) is within.1;
-      within = all.0;
+      within = subst (λ (l : List (Line Global)). AreWithinLimits l text) is within.2;
     }
 
 -- it has none, or several
@@ -59,6 +58,6 @@ none_within (told.BadBlob line fault) within none some = none
 -- one of its lines is refused
 pub first_refused : (text : List ℕ) (fault : ScriptFault) → NoLines Global (Refused fault) text → IsFirstRefused Global 1 fault text → IsNotOne text (InLine fault)
 first_refused text fault refused first = record {
-  none = λ line one. none_within fault (AreWithinLimits (line ∷ [])) (refused (line ∷ []) one.spelled) (one.within, tt);
+  none = λ line one. none_within fault (AreWithinLimits (line ∷ []) text) (refused (line ∷ []) one.spelled) one.within;
   reason = first;
 }

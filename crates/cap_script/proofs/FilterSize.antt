@@ -167,7 +167,7 @@ run_fit ((left, t) ∷ rest) next room r fit e = by (step next room t) (step_fit
     by unfit f others g = absurd cc
     by too_deep f others g = absurd cc
 
-mapped_ok : {S : Type 0} (why : S → Refusal) (o : Result Rule S) (r : Rule) → result_map_both (λ q. q) why o ≡ Ok r → o ≡ Ok r
+pub mapped_ok : {S : Type 0} (why : S → Refusal) (o : Result Rule S) (r : Rule) → result_map_both (λ q. q) why o ≡ Ok r → o ≡ Ok r
 mapped_ok why (Ok q) r e = let same : q ≡ r = cc in ap (λ (p : Rule). Ok p) same
 mapped_ok why (Err stop) r e = absurd cc
 

@@ -9,9 +9,9 @@ use Rattle.cap_script.specs.FirstRefused.{IsFirstRefused, FaultOfFirstRefused, S
 use Rattle.cap_script.specs.LineFaults.{FaultIs, line_fault}
 use Rattle.cap_script.specs.LineLimits.{AreWithinLimits, LineWithin}
 use Rattle.cap_script.specs.RefusedLines.{LeavesLines, NoLine, in_line}
-use Rattle.cap_script.specs.Script.{AreLines, IsCut, IsRead, SpellsLine, SpellsScript, TakesFirst, has_line_feed, is_ignored}
-use Rattle.cap_script.specs.declared.fault.LineFault.{LineFault}
-use Rattle.cap_script.specs.declared.fault.LineFault.TheVariants.{BadBlob, Limit, OutOfMemory, Syntax}
+use Rattle.cap_script.specs.Script.{AreLines, IsCut, IsRead, ScriptSpelled, SpellsLine, SpellsScript, TakesFirst, TakesFirstBy, has_line_feed, is_ignored}
+use Rattle.cap_language.specs.declared.fault.LineFault.{LineFault}
+use Rattle.cap_language.specs.declared.fault.LineFault.TheVariants.{BadBlob, Limit, OutOfMemory, Syntax}
 use Rattle.cap_script.specs.declared.fault.ScriptFault.{ScriptFault}
 use Rattle.cap_script.specs.declared.fault.ScriptFault.TheVariants as script
 use Rattle.cap_script.specs.declared.line.Line.{Line}
@@ -74,20 +74,20 @@ module _ {A : Type 0} where
     behind = so.behind;
     are_lines = line_more so.before so.behind so.refused text line rest cut so.not_ignored so.are_lines;
     number = omega (arith, so.number);
-    spelled = (so.spelled.0, ignored_more so.spelled.0 line so.before ignored so.spelled.1, so.spelled.2);
+    spelled = (so.spelled.0, ignored_more false so.spelled.0 line so.before ignored so.spelled.1, ignored_more true so.spelled.0 line so.before ignored so.spelled.2);
     not_ignored = so.not_ignored;
     none = so.none;
     why = so.why;
   }
 
-  pub behind_one_line : (n : ℕ) (why : ScriptFault) (made : Line A) (text line rest : List ℕ) → IsCut text line rest → SpellsLine made line → LineWithin made → IsFirstRefused A (n + 1) why rest → IsFirstRefused A n why text
+  pub behind_one_line : (n : ℕ) (why : ScriptFault) (made : Line A) (text line rest : List ℕ) → IsCut text line rest → SpellsLine made line → LineWithin made line → IsFirstRefused A (n + 1) why rest → IsFirstRefused A n why text
   behind_one_line n why made text line rest cut spells within so = record {
     before = line ∷ so.before;
     refused = so.refused;
     behind = so.behind;
     are_lines = line_more so.before so.behind so.refused text line rest cut so.not_ignored so.are_lines;
     number = omega (arith, so.number);
-    spelled = (made ∷ so.spelled.0, inr (spells, so.spelled.1), (within, so.spelled.2));
+    spelled = (made ∷ so.spelled.0, inr (spells, so.spelled.1), inr (within, so.spelled.2));
     not_ignored = so.not_ignored;
     none = so.none;
     why = so.why;
@@ -95,7 +95,7 @@ module _ {A : Type 0} where
 
   -- ---- the first line is refused
 
-  first_is : (n : ℕ) (why : ScriptFault) (text line rest : List ℕ) → IsCut text line rest → is_ignored line ≡ false → line_of why ≡ n → ((made : Line A) → SpellsLine made line → LeavesLines (Refused why) (LineWithin made))
+  first_is : (n : ℕ) (why : ScriptFault) (text line rest : List ℕ) → IsCut text line rest → is_ignored line ≡ false → line_of why ≡ n → ((made : Line A) → SpellsLine made line → LeavesLines (Refused why) (LineWithin made line))
       → option_map (in_line (line_of why) line) (line_fault A line) ≡ Some (Refused why) → IsFirstRefused A n why text
   first_is n why text line rest cut said number none own =
       let parts = lines_behind text line rest cut in
@@ -125,30 +125,32 @@ module _ {A : Type 0} where
 
   -- nothing is left
   pub none_within : (rest : List ℕ) → rest ≡ [] → SpellsWithin A rest
-  none_within rest end = ([], nothing_spelled A rest end, tt)
+  none_within rest end = ([], nothing_spelled A false rest end, nothing_spelled A true rest end)
 
   -- the lines behind one that was read
-  pub within_behind : (made : Line A) (lines : List (Line A)) (rest : List ℕ) → AreWithinLimits lines → TakesFirst (Some made) lines rest → SpellsWithin A rest
-  within_behind made lines rest within takes =
-      let (others, more, on) = left_behind made lines lines rest (λ w. w) takes in (others, more, on within)
+  pub within_behind : (made : Line A) (lines : List (Line A)) (rest : List ℕ) → TakesFirst (Some made) lines rest → TakesFirstBy true (Some made) lines rest → SpellsWithin A rest
+  within_behind made lines rest takes within =
+      let (others, more, on) = left_behind made lines rest (Unit {0}) (Unit {0}) (λ u. u) takes (λ u. within) in (others, more, on tt)
 
 module _ (A : Type 0) where
   -- what is known of a text while its lines are read one by one
   abbrev pub SoFar : ℕ → List ℕ → List ℕ → Type 0
   SoFar number rest text =
-      ((lines : List (Line A)) → SpellsScript lines rest → AreWithinLimits lines → SpellsWithin A text)
-      × ((lines : List (Line A)) → SpellsScript lines text → (left : List (Line A)) × SpellsScript left rest × (AreWithinLimits lines → AreWithinLimits left))
+      ((lines : List (Line A)) → SpellsScript lines rest → AreWithinLimits lines rest → SpellsWithin A text)
+      × ((lines : List (Line A)) → SpellsScript lines text → (left : List (Line A)) × SpellsScript left rest × (AreWithinLimits lines text → AreWithinLimits left rest))
       × ((why : ScriptFault) → IsFirstRefused A number why rest → IsFirstRefused A 1 why text)
 
-  pub one_line_more : (made : Line A) (found : Option (Line A)) (number later : ℕ) (rest behind text : List ℕ) → found ≡ Some made → IsRead found rest behind → IfSome found LineWithin
-      → ((lines : List (Line A)) → SpellsScript lines rest → TakesFirst found lines behind) → IfSome found (λ line. (why : ScriptFault) → IsFirstRefused A later why behind → IsFirstRefused A number why rest)
+  pub one_line_more : (made : Line A) (found : Option (Line A)) (number later : ℕ) (rest behind text : List ℕ) → found ≡ Some made → ((limits : Bool) → IsRead limits found rest behind)
+      → ((limits : Bool) (lines : List (Line A)) → ScriptSpelled limits lines rest → TakesFirstBy limits found lines behind) → IfSome found (λ line. (why : ScriptFault) → IsFirstRefused A later why behind → IsFirstRefused A number why rest)
       → SoFar number rest text → SoFar later behind text
-  one_line_more made found number later rest behind text is read within next first so_far = (
+  one_line_more made found number later rest behind text is read next first so_far = (
     λ lines spelled all.
-        so_far.0 (made ∷ lines) (subst (λ (o : Option (Line A)). IsRead o rest behind) is read lines spelled) (subst (λ (o : Option (Line A)). IfSome o LineWithin) is within, all),
+        let both = λ (limits : Bool). subst (λ (o : Option (Line A)). IsRead limits o rest behind) is (read limits) in
+        so_far.0 (made ∷ lines) (both false lines spelled) (both true lines all),
     λ lines spelled.
         let (left, here, on) = so_far.1 lines spelled in
-        left_behind {A = A} made lines left behind on (subst (λ (o : Option (Line A)). TakesFirst o left behind) is (next left here)),
+        let takes = λ (limits : Bool) (within : ScriptSpelled limits left rest). subst (λ (o : Option (Line A)). TakesFirstBy limits o left behind) is (next limits left within) in
+        left_behind {A = A} made left behind (AreWithinLimits lines text) (AreWithinLimits left rest) on (takes false here) (takes true),
     λ why so.
         so_far.2 why (subst (λ (o : Option (Line A)). IfSome o (λ line. (why : ScriptFault) → IsFirstRefused A later why behind → IsFirstRefused A number why rest)) is first why so),
   )

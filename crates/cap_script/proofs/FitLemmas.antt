@@ -1,33 +1,214 @@
 -- The blobs of spelled commands fit their tables.
-use Rattle.std.proofs.Common.{ℕ, List, [], ◌∷◌, inl, inr}
-use Rattle.std.specs.Prelude.{All}
+use Rattle.std.proofs.Common.{◌≡◌, ℕ, Bool, true, false, leb, List, [], ◌∷◌, length, Option, Some, Result, Ok, Err, refl, sym, subst, inl, inr}
+use Rattle.std.specs.Prelude.{All, ⊤}
 use Rattle.std.specs.List.{AllByRecursion}
 use Rattle.std.proofs.lemmas.List.Elements.{All-from_recursion}
-use Rattle.cap_codec.specs.Spelling.{Spells}
+use Rattle.hex.proofs.HexLemmas.{decode_of-ok}
+use Rattle.cap_value.specs.Bytes.{AreBytes, bytes_eq}
+use Rattle.cap_value.specs.declared.refusal.Refusal.TheVariants.{TooLong}
+use Rattle.cap_codec.specs.BlobReading.{blob_at}
+use Rattle.cap_codec.specs.Spelling.{Spells as SpellsBlob}
+use Rattle.cap_codec.specs.declared.fault.BlobFault.{BlobFault}
 use Rattle.cap_codec.specs.declared.read.Contents.{Contents}
 use Rattle.cap_apply.specs.Fitting.{FitsItsColumns}
-use Rattle.cap_core.specs.declared.command.Command.{Command}
-use Rattle.cap_core.specs.declared.command.Command.TheVariants as command
 use Rattle.cap_core.specs.Table.{BlobFits}
-use Rattle.cap_script.specs.Commands.{SpelledCommand}
-use Rattle.cap_script.specs.Script.{SpellsLine, SpellsLines, SpellsScript}
+use Rattle.cap_language.specs.Forms.{Words, a_blob, behind, either, one_of}
+use Rattle.cap_language.specs.Grammar.{Grammar, Spells, exceeds, unfit}
+use Rattle.cap_language.specs.Tokens.{Begins, Blob, Integer, Text, Token, Word}
+use Rattle.cap_script.specs.Language.{Filtered, Opening, apply, attach, changeset, command, commands, commit, commit_at, contents, contents_of, create, diff, enable, ending, get, indirect, opening, patchset, restart, save, scan}
+use Rattle.cap_script.specs.Script.{Closes, LineSpelled, LinesSpelled, ScriptSpelled, SpellsLine, SpellsScript}
+use Rattle.cap_script.specs.declared.command.Spelled.{Spelled}
+use Rattle.cap_script.specs.declared.command.Spelled.TheVariants.{Filter, Whole}
 use Rattle.cap_script.specs.declared.line.Line.{Line}
-use Rattle.cap_script.specs.declared.line.Show.{Show}
 
-module _ {A : Type 0} (fit : (blob : Contents A) (bytes : List ℕ) → Spells blob bytes → FitsItsColumns blob) where
-  command-fits : (c : Command A) (show : Show A) (line rest : List ℕ) → SpelledCommand c show line rest → BlobFits c
-  command-fits (command.Apply contents policy) show line rest spelled = fit contents spelled.2.1.0 spelled.2.1.2
-  command-fits _ show line rest spelled = tt
+-- all that the grammar makes
+abbrev Makes : {X : Type 0} → (X → Type 0) → Grammar X → Type 0
+Makes {X} P g = (x : X) (line rest : List ℕ) → Spells false g x line rest → P x
+
+some_bytes : (a b : List ℕ) → ◌≡◌ {A = Option (List ℕ)} (Some a) (Some b) → a ≡ b
+some_bytes a b e = cc
+
+module _ {A : Type 0} (fit : (blob : Contents A) (bytes : List ℕ) → SpellsBlob blob bytes → FitsItsColumns blob)
+    (spelled : (bytes : List ℕ) (blob : Contents A) → AreBytes bytes → blob_at bytes ≡ Ok blob → SpellsBlob blob bytes) where
+  -- what a command is known to be
+  abbrev Fits : Spelled A → Type 0
+  Fits (Whole command show) = BlobFits command
+  Fits (Filter session) = ⊤
+
+  blob-fits : (bytes : List ℕ) → AreBytes bytes → (r : Result (Contents A) BlobFault) → blob_at bytes ≡ r → Makes (FitsItsColumns {A = A}) (contents_of r)
+  blob-fits bytes are (Ok blob) is x line rest made = subst FitsItsColumns (sym made.0) (fit blob bytes (spelled bytes blob are is))
+  blob-fits bytes are (Err why) is x line rest made = absurd made
+
+  short-fits : (bytes : List ℕ) → AreBytes bytes → (short : Bool) → Makes (FitsItsColumns {A = A}) (either short (contents_of (blob_at bytes)) (exceeds TooLong unfit))
+  short-fits bytes are true x line rest made = blob-fits bytes are (blob_at bytes) refl x line rest made
+  short-fits bytes are false x line rest made = absurd made.1
+
+  token-fits : (token : Token) (bytes line between : List ℕ) → Begins token line between → a_blob token ≡ Some bytes → AreBytes bytes
+  token-fits (Blob found) bytes line between begun wanted =
+      subst (λ (l : List ℕ). AreBytes l) (some_bytes found bytes wanted) (λ i less. (decode_of-ok begun.0 found begun.2).3 i)
+  token-fits (Word w) bytes line between begun wanted = absurd cc
+  token-fits (Integer negative n) bytes line between begun wanted = absurd cc
+  token-fits (Text t) bytes line between begun wanted = absurd cc
+
+  contents-fit : Makes (FitsItsColumns {A = A}) contents
+  unfolding contents
+  contents-fit x line rest (token, bytes, between, begun, wanted, made) =
+      short-fits bytes (token-fits token bytes _ between begun wanted) (leb (length bytes) 1000000000) x between rest made
+
+  apply-fits : Makes Fits apply
+  unfolding apply
+  apply-fits x line rest (blob, a, made, (policy, b, p, (show, c, q, e))) = subst Fits (sym e.0) (contents-fit blob line a made)
+
+  -- ---- commands without a blob
+
+  create-fits : Makes Fits create
+  unfolding create
+  create-fits x line rest (table, a, p, (schema, b, q, e)) = subst Fits (sym e.0) tt
+
+  commit-fits : Makes Fits commit
+  unfolding commit
+  commit-fits x line rest (batch, a, p, e) = subst Fits (sym e.0) tt
+
+  commit_at-fits : Makes Fits commit_at
+  unfolding commit_at
+  commit_at-fits x line rest (base, a, p, (batch, b, q, e)) = subst Fits (sym e.0) tt
+
+  get-fits : Makes Fits get
+  unfolding get
+  get-fits x line rest (table, a, p, (row, b, q, e)) = subst Fits (sym e.0) tt
+
+  scan-fits : Makes Fits scan
+  unfolding scan
+  scan-fits x line rest (table, a, p, e) = subst Fits (sym e.0) tt
+
+  save-fits : Makes Fits save
+  unfolding save
+  save-fits x line rest (database, a, p, e) = subst Fits (sym e.0) tt
+
+  attach-fits : Makes Fits attach
+  unfolding attach
+  attach-fits x line rest (session, a, p, (table, b, q, e)) = subst Fits (sym e.0) tt
+
+  enable-fits : Makes Fits enable
+  unfolding enable
+  enable-fits x line rest (session, a, p, (asked, b, q, e)) = subst Fits (sym e.0) tt
+
+  indirect-fits : Makes Fits indirect
+  unfolding indirect
+  indirect-fits x line rest (session, a, p, (asked, b, q, e)) = subst Fits (sym e.0) tt
+
+  diff-fits : Makes Fits diff
+  unfolding diff
+  diff-fits x line rest (session, a, p, (from, b, q, (table, c, r, e))) = subst Fits (sym e.0) tt
+
+  changeset-fits : Makes Fits changeset
+  unfolding changeset
+  changeset-fits x line rest (session, a, p, (flags, b, q, e)) = subst Fits (sym e.0) tt
+
+  patchset-fits : Makes Fits patchset
+  unfolding patchset
+  patchset-fits x line rest (session, a, p, (flags, b, q, e)) = subst Fits (sym e.0) tt
+
+  restart-fits : Makes Fits restart
+  unfolding restart
+  restart-fits x line rest (session, a, p, (flags, b, q, e)) = subst Fits (sym e.0) tt
+
+  -- ---- lines
+
+  either-fits : (b : Bool) (first second : Grammar (Spelled A)) → Makes Fits first → Makes Fits second → Makes Fits (either b (behind first) second)
+  either-fits true first second one two x line rest (unit, between, nothing, made) = one x line rest (subst (λ (l : List ℕ). Spells false first x l rest) nothing.1 made)
+  either-fits false first second one two x line rest made = two x line rest made
+
+  -- what each word begins
+  abbrev AreFit : Words (Spelled A) → Type 0
+  AreFit [] = Unit {0}
+  AreFit ((w, grammar) ∷ others) = Makes Fits grammar × AreFit others
+
+  one_of-fits : (words : Words (Spelled A)) → AreFit words → (w : List ℕ) → Makes Fits (one_of words w)
+  one_of-fits [] all w x line rest made = absurd made
+  one_of-fits ((v, grammar) ∷ others) (first, all) w x line rest made =
+      either-fits (bytes_eq w v) grammar (one_of others w) first (one_of-fits others all w) x line rest made
+
+  commands-fit : (w : List ℕ) → Makes Fits (one_of commands w)
+  commands-fit = one_of-fits commands (
+    create-fits,
+    (
+      commit-fits,
+      (
+        commit_at-fits,
+        (
+          apply-fits,
+          (
+            get-fits,
+            (
+              scan-fits,
+              (
+                save-fits,
+                (
+                  (λ x line rest e. subst Fits (sym e.0) tt),
+                  (
+                    (λ x line rest (session, a, p, e). subst Fits (sym e.0) tt),
+                    (
+                      attach-fits,
+                      (
+                        (λ x line rest (session, a, p, e). subst Fits (sym e.0) tt),
+                        (
+                          (λ x line rest (session, a, p, e). subst Fits (sym e.0) tt),
+                          (
+                            enable-fits,
+                            (
+                              indirect-fits,
+                              (
+                                (λ x line rest (session, a, p, e). subst Fits (sym e.0) tt),
+                                (
+                                  diff-fits,
+                                  (
+                                    changeset-fits,
+                                    (
+                                      patchset-fits,
+                                      (restart-fits, tt),
+                                    ),
+                                  ),
+                                ),
+                              ),
+                            ),
+                          ),
+                        ),
+                      ),
+                    ),
+                  ),
+                ),
+              ),
+            ),
+          ),
+        ),
+      ),
+    ),
+  )
+
+  command-fits : Makes Fits command
+  unfolding command
+  command-fits x line rest (token, w, between, begun, wanted, made) = commands-fit w x between rest made
+
+  closed-fits : (w : Option ℕ) (said : Spelled A) (line : Line A) (opened : Opening A) (between rest : List ℕ) → Fits said → Spells false (ending w said) opened between rest → Closes false line opened rest → BlobFits line.command
+  closed-fits w (Whole command show) line opened between rest fits (unit, behind, end, is) closes =
+      let closes_too : line ≡ record { worker = w; command = command; show = show } = rw is.0 at closes in
+      subst (λ (l : Line A). BlobFits l.command) (sym closes_too) fits
+  closed-fits w (Filter session) line opened between rest fits is closes =
+      let closes_too : Closes false line (Filtered w session) rest = rw is.0 at closes in
+      subst (λ (l : Line A). BlobFits l.command) (sym closes_too.3) tt
 
   line-fits : (line : Line A) (text : List ℕ) → SpellsLine line text → BlobFits line.command
-  line-fits line text spelled = command-fits line.command line.show spelled.1.0 spelled.0 spelled.1.2
+  unfolding LineSpelled opening
+  line-fits line text (opened, rest, (w, between, first, (said, behind, second, third)), closes) =
+      closed-fits w said line opened behind rest (command-fits said between behind second) third closes
 
-  lines-fit : (lines : List (Line A)) (texts : List (List ℕ)) → SpellsLines lines texts → AllByRecursion (λ line. BlobFits line.command) lines
+  lines-fit : (lines : List (Line A)) (texts : List (List ℕ)) → LinesSpelled false lines texts → AllByRecursion (λ line. BlobFits line.command) lines
   lines-fit [] texts spelled = tt
   lines-fit (line ∷ lines) [] spelled = absurd spelled
   lines-fit (line ∷ lines) (text ∷ texts) (inl ignored) = lines-fit (line ∷ lines) texts ignored.1
   lines-fit (line ∷ lines) (text ∷ texts) (inr spelled) = (line-fits line text spelled.0, lines-fit lines texts spelled.1)
 
   pub script-fits : (text : List ℕ) (lines : List (Line A)) → SpellsScript lines text → All (λ line. BlobFits line.command) lines
-  unfolding SpellsScript
+  unfolding ScriptSpelled
   script-fits text lines spelled = All-from_recursion (λ line. BlobFits line.command) lines (lines-fit lines spelled.0 spelled.2)

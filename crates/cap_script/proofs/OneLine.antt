@@ -7,8 +7,8 @@ use Rattle.cap_value.specs.declared.memory.Fault.TheVariants.{Refused}
 use Rattle.cap_script.specs.FirstRefused.{line_of}
 use Rattle.cap_script.specs.LineFaults.{FaultIs, line_fault}
 use Rattle.cap_script.specs.RefusedLines.{in_line}
-use Rattle.cap_script.specs.declared.fault.LineFault.{LineFault}
-use Rattle.cap_script.specs.declared.fault.LineFault.TheVariants.{BadBlob, Limit, OutOfMemory, Syntax}
+use Rattle.cap_language.specs.declared.fault.LineFault.{LineFault}
+use Rattle.cap_language.specs.declared.fault.LineFault.TheVariants.{BadBlob, Limit, OutOfMemory, Syntax}
 use Rattle.cap_script.specs.declared.line.Line.{Line}
 
 pub numbered : (fault : LineFault) (number : ℕ) (text : List ℕ) → MatchFault (in_line number text fault) ⊤ (λ why. line_of why ≡ number)

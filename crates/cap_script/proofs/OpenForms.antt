@@ -1,261 +1,375 @@
--- The forms of a line can be read on from where they begin.
-use Rattle.std.proofs.Common.{◌≡◌, ℕ, zero, suc, Bool, true, false, eqb, leb, map, List, [], ◌∷◌, ◌++◌, length, Some, Ok, codes, refl, sym, ap, ◌∙◌, subst, arith, append_assoc, inr}
-use Rattle.std.specs.Char.{is_ascii_digit}
-use Rattle.std.specs.List.{AllByRecursion, list_all}
-use Rattle.std.proofs.lemmas.Bool.{cond_both, or_parts}
-use Rattle.cap_row.specs.Schema.{is_schema}
-use Rattle.cap_value.specs.Bytes.{bytes_eq, is_name}
-use Rattle.cap_value.specs.declared.refusal.Refusal.{Refusal}
-use Rattle.cap_value.specs.declared.refusal.Refusal.TheVariants.{BadName, BadSchema, TooLong}
-use Rattle.cap_filter.specs.Tokens.{is_word, is_word_byte}
-use Rattle.cap_script.specs.LineFaults.{answer, beyond_if, field, fields, flag, is_key_letter, more_operations, name, on_operation, on_schema, on_value, operation, operations, policy, report_words, row, row_words, schema, value, values, verbs}
-use Rattle.cap_script.specs.Reading.{Reading, Verdict, goes_on, unfit, exceeds, no_blob, fits, fits_if, within_if, judged, scanned, right_here, next, on_word, a_word, any_of, one_of, natural, on_natural, keyword, a_sign, each, ◌⋙◌}
-use Rattle.cap_script.specs.Scanning.{token_at}
-use Rattle.cap_script.specs.Tokens.{Token, behind_blanks, blob, integer, is_blank, is_letter, sign, text, word}
-use Rattle.cap_script.proofs.OpenLemmas.{Form, Open, OpenVerdict, Sample, Tail, form_a_sign, form_both, form_each, form_next, form_where, goes_with, open_next, open_ok, reached, reached_at, same_tail, tail_byte}
-use Rattle.cap_script.proofs.PlaceLaw.{local_beyond, local_on_natural, local_on_operation, local_on_schema, local_on_value, local_on_word, local_verbs}
-use Rattle.cap_script.proofs.PlaceLemmas.{LocalVerdict, local_any_of, local_fits_if, local_here, local_next, local_ok, local_one_of, local_within_if}
-use Rattle.cap_script.proofs.ScanLemmas.{integer_is, no_blob_by, word_is}
+-- The commands can be read on from where they begin.
+use Rattle.std.proofs.Common.{◌≡◌, ℕ, Bool, true, false, leb, List, [], ◌∷◌, length, Option, Some, None, Result, Ok, Err, codes, refl}
+use Rattle.cap_value.specs.declared.refusal.Refusal.TheVariants.{TooLong, TooMany}
+use Rattle.cap_value.specs.declared.value.Value.{Value}
+use Rattle.cap_row.specs.Fields.{Fields}
+use Rattle.cap_row.specs.Key.{key_from}
+use Rattle.cap_row.specs.Schema.{schema_of}
+use Rattle.cap_table.specs.declared.row_ref.RowRef.{RowRef}
+use Rattle.cap_table.specs.declared.row_ref.RowRef.TheVariants.{Loose}
+use Rattle.cap_database.specs.declared.cause.Cause.{Cause}
+use Rattle.cap_database.specs.declared.cause.Cause.TheVariants.{Direct, Cascade}
+use Rattle.cap_database.specs.declared.op.Action.TheVariants.{Insert, Update, Delete}
+use Rattle.cap_database.specs.declared.op.Op.{Op}
+use Rattle.cap_codec.specs.BlobReading.{blob_at}
+use Rattle.cap_codec.specs.declared.fault.BlobFault.{BlobFault}
+use Rattle.cap_codec.specs.declared.key_flags.KeyFlags.{KeyFlags}
+use Rattle.cap_codec.specs.declared.key_flags.KeyFlags.TheVariants.{Ones, Places}
+use Rattle.cap_codec.specs.declared.read.Contents.{Contents}
+use Rattle.cap_codec.specs.declared.read.Contents.TheVariants.{Changes}
+use Rattle.cap_filter.specs.Printed.{quote}
+use Rattle.cap_apply.specs.declared.policy.Answer.{Answer}
+use Rattle.cap_apply.specs.declared.policy.Answer.TheVariants.{Omit, Replace, Abort}
+use Rattle.cap_apply.specs.declared.policy.Policy.{Policy}
+use Rattle.cap_core.specs.declared.command.Command.{Command}
+use Rattle.cap_core.specs.declared.command.Command.TheVariants as made
+use Rattle.cap_language.specs.Forms.{Words, a_blob, a_word, either, keyword, name, natural, one_of, separated, sign, value, values}
+use Rattle.cap_language.specs.Grammar.{Grammar, done, exceeds, follows, next, read, read_at, unfit}
+use Rattle.cap_language.specs.Tokens.{Blob, Word}
+use Rattle.cap_language.proofs.FormLaws.{eats_keyword, form_keyword, form_name, form_natural, form_value, form_values, goes_44, goes_59}
+use Rattle.cap_script.specs.Language.{answer, apply, attach, batch, cascaded, changeset, columns, commands, commit, commit_at, contents, contents_of, create, delete, diff, enable, field, fields, flag, flags_in, get, indirect, insert, key_flags, nth_operation, operation, operations, patchset, policy, report, restart, row, row_of, save, scan, schema, update}
+use Rattle.cap_script.specs.declared.command.Spelled.{Spelled}
+use Rattle.cap_script.specs.declared.command.Spelled.TheVariants.{Filter, Whole}
+use Rattle.cap_script.specs.declared.line.Show.{Show}
+use Rattle.cap_script.specs.declared.line.Show.TheVariants as show
+use Rattle.cap_language.proofs.OpenGrammars.{Form, Last, blob_token, eats_map, eats_next, finish_full, form_both, form_map, form_next, form_separated, form_sign, kind_done, kind_either, kind_exceeds, kind_no_blob, kind_one_of, kind_unfit, kind_within, last_both, last_end, last_form, last_map, open_limit, sample_fits, sample_then, word_token}
+use Rattle.cap_language.proofs.OpenLaws.{Nothing, Nothings, Open, OpenKind, Tail, Tails, nothing_tail, open_done, open_next, same_tail}
 
--- ---- words
+-- ---- columns and flags
 
--- A word that begins neither a list's sign nor a blob.
-pub record Plain (c : ℕ) (w : List ℕ) : Type 0 where
-  pub letter : is_letter c ≡ true
-  pub no_x : eqb c 120 ≡ false
-  pub all : is_word (c ∷ w) ≡ true
-  pub no_blank : is_blank c ≡ false
-  pub no_sign : goes_with c ≡ false
+columns_kind : (flags : Option (List Bool)) → OpenKind Tails (columns flags)
+columns_kind None = kind_unfit Tails
+columns_kind (Some flags) = kind_within Tails (schema_of flags) flags
 
-word_token : (c : ℕ) (w line : List ℕ) → Plain c w → Tail line → token_at (c ∷ (w ++ line)) ≡ Some (word (c ∷ w), line)
-word_token c w line plain tail = word_is (c ∷ w) (c ∷ (w ++ line)) line (refl, plain.letter, no_blob_by c (w ++ line) plain.no_x, plain.all, tail_byte is_word_byte line refl tail)
-
-word_next : (judge : Token → Verdict) (c : ℕ) (w line : List ℕ) → Plain c w → Tail line → next judge (32 ∷ (c ∷ (w ++ line))) ≡ judged (c ∷ (w ++ line)) line (judge (word (c ∷ w)))
-word_next judge c w line plain tail =
-    let skipped : behind_blanks (32 ∷ (c ∷ (w ++ line))) ≡ c ∷ (w ++ line) = rw plain.no_blank refl in
-    ap (right_here judge) skipped ∙ ap (scanned judge (c ∷ (w ++ line))) (word_token c w line plain tail)
-
-word_tail : (c : ℕ) (w line : List ℕ) → Plain c w → Tail (32 ∷ (c ∷ (w ++ line)))
-word_tail c w line plain = (refl, rw plain.no_blank plain.no_sign)
-
--- a word that fits
-sample_fits : (judge : Token → Verdict) (c : ℕ) (w : List ℕ) → Plain c w → judge (word (c ∷ w)) ≡ fits → Sample Tail (next judge)
-sample_fits judge c w plain is = record {
-  text = c ∷ w;
-  tail = λ line tail. word_tail c w line plain;
-  reads = λ line tail. reached_at (next judge (32 ∷ (c ∷ (w ++ line)))) (Ok line) line (word_next judge c w line plain tail ∙ ap (judged (c ∷ (w ++ line)) line) is) (reached line);
-}
-
--- a word behind which more is read
-sample_then : (judge : Token → Verdict) (c : ℕ) (w : List ℕ) (read : Reading) → Plain c w → judge (word (c ∷ w)) ≡ goes_on read → Sample Tail read → Sample Tail (next judge)
-sample_then judge c w read plain is sample =
-    let whole : (line : List ℕ) → (c ∷ w) ++ (32 ∷ sample.text) ++ line ≡ c ∷ (w ++ (32 ∷ (sample.text ++ line))) = λ line. append_assoc (c ∷ w) (32 ∷ sample.text) line in
-    record {
-      text = (c ∷ w) ++ (32 ∷ sample.text);
-      tail = λ line tail. subst (λ (l : List ℕ). Tail (32 ∷ l)) (sym (whole line)) (word_tail c w (32 ∷ (sample.text ++ line)) plain);
-      reads = λ line tail. reached_at (next judge (32 ∷ ((c ∷ w) ++ (32 ∷ sample.text) ++ line))) (read (32 ∷ (sample.text ++ line))) line
-          (ap (λ (l : List ℕ). next judge (32 ∷ l)) (whole line) ∙ word_next judge c w (32 ∷ (sample.text ++ line)) plain (sample.tail line tail) ∙ ap (judged (c ∷ (w ++ (32 ∷ (sample.text ++ line)))) (32 ∷ (sample.text ++ line))) is) (sample.reads line tail);
-    }
-
--- ---- what is judged
-
-pub open_fits_if : (T : List ℕ → Type 0) (b : Bool) → OpenVerdict T (fits_if b)
-open_fits_if T true = open_ok T
-open_fits_if T false = tt
-
-pub open_within_if : (T : List ℕ → Type 0) (b : Bool) (why : Refusal) → OpenVerdict T (within_if b why)
-open_within_if T true why = open_ok T
-open_within_if T false why = tt
-
-pub open_one_of : (T : List ℕ → Type 0) (words : List (List ℕ × Reading)) → AllByRecursion (λ entry. Open T entry.1) words → (w : List ℕ) → OpenVerdict T (one_of words w)
-open_one_of T [] all w = tt
-open_one_of T ((v, behind) ∷ others) (first, all) w = cond_both (bytes_eq w v) (goes_on behind) (one_of others w) (OpenVerdict T) (λ e. first) (λ e. open_one_of T others all w)
-
-open_any_of : (T : List ℕ → Type 0) (words : List (List ℕ)) (w : List ℕ) → OpenVerdict T (any_of words w)
-open_any_of T [] w = tt
-open_any_of T (v ∷ others) w = cond_both (bytes_eq w v) fits (any_of others w) (OpenVerdict T) (λ e. open_ok T) (λ e. open_any_of T others w)
-
-pub open_on_word : (T : List ℕ → Type 0) (judge : List ℕ → Verdict) → ((w : List ℕ) → OpenVerdict T (judge w)) → (t : Token) → OpenVerdict T (on_word judge t)
-open_on_word T judge known (word w) = known w
-open_on_word T judge known (integer negative n) = tt
-open_on_word T judge known (text t) = tt
-open_on_word T judge known (blob bytes) = tt
-open_on_word T judge known (sign s) = tt
-
-pub form_word : (judge : List ℕ → Verdict) → ((w : List ℕ) → LocalVerdict (judge w)) → ((w : List ℕ) → OpenVerdict Tail (judge w)) → Sample Tail (a_word judge) → Form (a_word judge)
-form_word judge local known sample = form_next (on_word judge) (local_on_word judge local) (open_on_word Tail judge known) sample
-
--- ---- tokens
-
-plain : (c : ℕ) (w : List ℕ) → is_letter c ≡ true → eqb c 120 ≡ false → is_word (c ∷ w) ≡ true → is_blank c ≡ false → goes_with c ≡ false → Plain c w
-plain c w a b d e f = record { letter = a; no_x = b; all = d; no_blank = e; no_sign = f }
-
-pub form_name : Form name
-form_name = form_word _ (λ w. local_within_if (is_name w) BadName) (λ w. open_within_if Tail (is_name w) BadName) (sample_fits (on_word (λ w. within_if (is_name w) BadName)) 116 [] (plain 116 [] refl refl refl refl refl) refl)
-
-pub form_schema : Form schema
+form_schema : Form schema
+unfolding schema
 form_schema =
-    form_word on_schema local_on_schema
-    (λ w. cond_both (list_all is_key_letter w) (within_if (is_schema (map (λ letter. eqb letter 107) w)) BadSchema) unfit (OpenVerdict Tail) (λ e. open_within_if Tail (is_schema (map (λ letter. eqb letter 107) w)) BadSchema) (λ e. tt))
-    (sample_fits (on_word on_schema) 107 [] (plain 107 [] refl refl refl refl refl) refl)
+    form_next a_word (λ w. columns (flags_in w)) (λ w. columns_kind (flags_in w))
+    (sample_fits a_word (λ w. columns (flags_in w)) (Word (107 ∷ [])) 107 [] (107 ∷ []) refl refl (word_token 107 [] refl refl refl) refl (true ∷ []) (λ before line. refl))
 
-pub form_keyword : (c : ℕ) (w : List ℕ) → Plain c w → bytes_eq (c ∷ w) (c ∷ w) ≡ true → Form (keyword (c ∷ w))
-form_keyword c w p same = form_word (λ found. fits_if (bytes_eq found (c ∷ w))) (λ found. local_fits_if (bytes_eq found (c ∷ w))) (λ found. open_fits_if Tail (bytes_eq found (c ∷ w))) (sample_fits (on_word (λ found. fits_if (bytes_eq found (c ∷ w)))) c w p (ap fits_if same))
-
-open_natural_verdict : (t : Token) → OpenVerdict Tail (on_natural (λ n. fits) t)
-open_natural_verdict (word w) = tt
-open_natural_verdict (integer true n) = tt
-open_natural_verdict (integer false n) = open_ok Tail
-open_natural_verdict (text t) = tt
-open_natural_verdict (blob bytes) = tt
-open_natural_verdict (sign s) = tt
-
-one_at : (line : List ℕ) → Tail line → token_at (49 ∷ line) ≡ Some (integer false 1, line)
-one_at line tail = integer_is false 1 (49 ∷ line) line (49 ∷ [], refl, omega arith, refl, refl, tail_byte is_ascii_digit line refl tail, record { sfits = omega arith })
-
-pub form_natural : Form natural
-form_natural =
-    form_next (on_natural (λ n. fits)) (local_on_natural (λ n. fits) (λ n. local_ok)) open_natural_verdict
-    (record {
-      text = 49 ∷ [];
-      tail = λ line tail. (refl, refl);
-      reads = λ line tail. reached_at (natural (32 ∷ (49 ∷ line))) (Ok line) line (ap (scanned (on_natural (λ n. fits)) (49 ∷ line)) (one_at line tail)) (reached line);
-    })
-
-open_on_value : (t : Token) → OpenVerdict Tail (on_value t)
-open_on_value (word w) = open_fits_if Tail (bytes_eq w (codes "null"))
-open_on_value (integer negative n) = open_ok Tail
-open_on_value (text t) = open_within_if Tail (leb (length t) 1000000000) TooLong
-open_on_value (blob bytes) = open_within_if Tail (leb (length bytes) 1000000000) TooLong
-open_on_value (sign s) = tt
-
-form_value : Form value
-form_value = form_next on_value local_on_value open_on_value (sample_fits on_value 110 (117 ∷ 108 ∷ 108 ∷ []) (plain 110 (117 ∷ 108 ∷ 108 ∷ []) refl refl refl refl refl) refl)
-
--- ---- signs
-
-goes_44 : (byte : ℕ) → goes_with byte ≡ false → eqb byte 44 ≡ false
-goes_44 byte e = (or_parts (eqb byte 44) _ e).0
-
-goes_59 : (byte : ℕ) → goes_with byte ≡ false → eqb byte 59 ≡ false
-goes_59 byte e = (or_parts (eqb byte 59) (eqb byte 64) (or_parts (eqb byte 44) _ e).1).0
-
-pub goes_64 : (byte : ℕ) → goes_with byte ≡ false → eqb byte 64 ≡ false
-goes_64 byte e = (or_parts (eqb byte 59) (eqb byte 64) (or_parts (eqb byte 44) _ e).1).1
-
--- ---- rows and operations
-
-form_values : Form values
-form_values =
-    form_both (a_sign 40) (value ⋙ each 44 value ⋙ a_sign 41) (form_a_sign 40 refl refl)
-    (form_both value (each 44 value ⋙ a_sign 41) form_value (form_both (each 44 value) (a_sign 41) (form_each 44 goes_44 value form_value) (form_a_sign 41 refl refl)))
-
-pub form_row : Form row
-form_row =
-    let values_too = form_values in
-    let number = form_natural in
-    form_word (one_of row_words) (local_one_of row_words (values_too.local, (number.local, tt))) (open_one_of Tail row_words (values_too.inner, (number.inner, tt)))
-    (sample_then (on_word (one_of row_words)) 108 (111 ∷ 111 ∷ 115 ∷ 101 ∷ []) natural (plain 108 (111 ∷ 111 ∷ 115 ∷ 101 ∷ []) refl refl refl refl refl) refl number.sample)
-
-form_field : Form field
-form_field = form_both natural (a_sign 61 ⋙ value) form_natural (form_both (a_sign 61) value (form_a_sign 61 refl refl) form_value)
-
-form_fields : Form fields
-form_fields = form_both field (each 44 field) form_field (form_each 44 goes_44 field form_field)
-
-form_insert : Form (name ⋙ values)
-form_insert = form_both name values form_name form_values
-
-form_update : Form (name ⋙ row ⋙ keyword (codes "set") ⋙ fields)
-form_update =
-    form_both name (row ⋙ keyword (codes "set") ⋙ fields) form_name
-    (form_both row (keyword (codes "set") ⋙ fields) form_row (form_both (keyword (codes "set")) fields (form_keyword 115 (101 ∷ 116 ∷ []) (plain 115 (101 ∷ 116 ∷ []) refl refl refl refl refl) refl) form_fields))
-
-form_delete : Form (name ⋙ row)
-form_delete = form_both name row form_name form_row
-
-open_verbs : (w : List ℕ) → OpenVerdict Tail (one_of verbs w)
-open_verbs =
-    let a = form_insert in
-    let b = form_update in
-    let d = form_delete in
-    open_one_of Tail verbs (a.inner, (b.inner, (d.inner, tt)))
-
-delete_word : Plain 100 (101 ∷ 108 ∷ 101 ∷ 116 ∷ 101 ∷ [])
-delete_word = plain 100 (101 ∷ 108 ∷ 101 ∷ 116 ∷ 101 ∷ []) refl refl refl refl refl
-
-form_verb : Form (a_word (one_of verbs))
-form_verb = let known = form_delete in form_word (one_of verbs) local_verbs open_verbs (sample_then (on_word (one_of verbs)) 100 (101 ∷ 108 ∷ 101 ∷ 116 ∷ 101 ∷ []) (name ⋙ row) delete_word refl known.sample)
-
-open_on_operation : (w : List ℕ) → OpenVerdict Tail (on_operation w)
-open_on_operation =
-    let a = form_insert in
-    let b = form_update in
-    let d = form_delete in
-    let v = form_verb in
-    open_one_of Tail ((codes "cascade", a_word (one_of verbs)) ∷ verbs) (v.inner, (a.inner, (b.inner, (d.inner, tt))))
-
-form_operation : Form (operation false)
-form_operation =
-    let known = form_delete in
-    form_word (λ w. beyond_if false (on_operation w)) (λ w. local_beyond false (on_operation w) (local_on_operation w)) open_on_operation
-    (sample_then (on_word (λ w. beyond_if false (on_operation w))) 100 (101 ∷ 108 ∷ 101 ∷ 116 ∷ 101 ∷ []) (name ⋙ row) delete_word refl known.sample)
-
-open_beyond : (v : Verdict) → OpenVerdict Tail (beyond_if true v)
-open_beyond (goes_on read) = tt
-open_beyond unfit = tt
-open_beyond (exceeds why) = tt
-open_beyond (no_blob why) = tt
-
--- the 10,001st operation
-abbrev on_beyond : Token → Verdict
-on_beyond = on_word (λ w. beyond_if true (on_operation w))
-
-beyond_verdict : (t : Token) → LocalVerdict (on_beyond t)
-beyond_verdict = local_on_word (λ w. beyond_if true (on_operation w)) (λ w. local_beyond true (on_operation w) (local_on_operation w))
-
-open_full : Open Tail (operation true)
-open_full =
-    open_next Tail same_tail on_beyond beyond_verdict (open_on_word Tail (λ w. beyond_if true (on_operation w)) (λ w. open_beyond (on_operation w))) (local_here on_beyond beyond_verdict)
-    (record {
-      text = 100 ∷ 101 ∷ 108 ∷ 101 ∷ 116 ∷ 101 ∷ [];
-      tail = λ line tail. word_tail 100 (101 ∷ 108 ∷ 101 ∷ 116 ∷ 101 ∷ []) line delete_word;
-      ends = λ line tail. inr (word_next on_beyond 100 (101 ∷ 108 ∷ 101 ∷ 116 ∷ 101 ∷ []) line delete_word tail);
-    })
-
-form_more_operations : (room : ℕ) → Form (more_operations room)
-unfolding more_operations
-form_more_operations zero = form_where 59 goes_59 (operation true) (local_next on_beyond beyond_verdict) open_full
-form_more_operations (suc room) = let both = form_both (operation false) (more_operations room) form_operation (form_more_operations room) in form_where 59 goes_59 (operation false ⋙ more_operations room) both.local both.inner
-
-pub form_operations : Form operations
-form_operations = form_both (operation false) (more_operations 9999) form_operation (form_more_operations 9999)
-
--- ---- answers and flags
+form_flag : Form flag
+unfolding flag
+form_flag =
+    let words = (codes "on", done (Some true)) ∷ (codes "off", done (Some false)) ∷ (codes "ask", done None) ∷ [] in
+    form_next a_word (one_of words) (kind_one_of Tails words (open_done Tails (Some true), (open_done Tails (Some false), (open_done Tails None, tt))))
+    (sample_fits a_word (one_of words) (Word (codes "on")) 111 (110 ∷ []) (codes "on") refl refl (word_token 111 (110 ∷ []) refl refl refl) refl (Some true) (λ before line. refl))
 
 form_answer : Form answer
+unfolding answer
 form_answer =
-    let words = codes "omit" ∷ codes "replace" ∷ codes "abort" ∷ [] in
-    form_word (any_of words) (local_any_of words) (open_any_of Tail words) (sample_fits (on_word (any_of words)) 111 (109 ∷ 105 ∷ 116 ∷ []) (plain 111 (109 ∷ 105 ∷ 116 ∷ []) refl refl refl refl refl) refl)
+    let words = (codes "omit", done Omit) ∷ (codes "replace", done Replace) ∷ (codes "abort", done Abort) ∷ [] in
+    form_next a_word (one_of words) (kind_one_of Tails words (open_done Tails Omit, (open_done Tails Replace, (open_done Tails Abort, tt))))
+    (sample_fits a_word (one_of words) (Word (codes "omit")) 111 (109 ∷ 105 ∷ 116 ∷ []) (codes "omit") refl refl (word_token 111 (109 ∷ 105 ∷ 116 ∷ []) refl refl refl) refl Omit (λ before line. refl))
 
-pub form_policy : Form policy
-form_policy = form_both answer (answer ⋙ answer) form_answer (form_both answer answer form_answer form_answer)
+abbrev policy_of : Answer → Answer → Answer → Policy
+policy_of a b c = record { on_data = a; on_notfound = b; on_conflict = c }
 
-pub form_flag : Form flag
-form_flag =
-    let words = codes "on" ∷ codes "off" ∷ codes "ask" ∷ [] in
-    form_word (any_of words) (local_any_of words) (open_any_of Tail words) (sample_fits (on_word (any_of words)) 111 (110 ∷ []) (plain 111 (110 ∷ []) refl refl refl refl refl) refl)
+form_policy : Form policy
+unfolding policy
+form_policy =
+    form_both answer (λ a. follows answer (λ b. follows answer (λ c. done (policy_of a b c)))) form_answer
+    (λ a. form_both answer (λ b. follows answer (λ c. done (policy_of a b c))) form_answer (λ b. form_map answer (policy_of a b) form_answer))
 
-pub session_sample : (judge : Token → Verdict) → judge (word (codes "session")) ≡ fits → Sample Tail (next judge)
-session_sample judge is = sample_fits judge 115 (101 ∷ 115 ∷ 115 ∷ 105 ∷ 111 ∷ 110 ∷ []) (plain 115 (101 ∷ 115 ∷ 115 ∷ 105 ∷ 111 ∷ 110 ∷ []) refl refl refl refl refl) is
+form_places : Form (follows (keyword (codes "places")) (λ u. done Places))
+form_places = form_map (keyword (codes "places")) (λ u. Places) (form_keyword 112 (108 ∷ 97 ∷ 99 ∷ 101 ∷ 115 ∷ []) refl refl refl refl refl refl)
 
-pub form_places : Form (keyword (codes "places"))
-form_places = form_keyword 112 (108 ∷ 97 ∷ 99 ∷ 101 ∷ 115 ∷ []) (plain 112 (108 ∷ 97 ∷ 99 ∷ 101 ∷ 115 ∷ []) refl refl refl refl refl) refl
+last_key_flags : Last Nothings key_flags
+unfolding key_flags
+last_key_flags = last_end Ones (follows (keyword (codes "places")) (λ u. done Places)) form_places (eats_map (keyword (codes "places")) (λ u. Places) (eats_keyword (codes "places")))
 
-pub form_report : Form (a_word (any_of report_words))
-form_report =
-    form_word (any_of report_words) (local_any_of report_words) (open_any_of Tail report_words)
-    (sample_fits (on_word (any_of report_words)) 114 (101 ∷ 112 ∷ 111 ∷ 114 ∷ 116 ∷ []) (plain 114 (101 ∷ 112 ∷ 111 ∷ 114 ∷ 116 ∷ []) refl refl refl refl refl) refl)
+-- the text of a filter, behind a space
+abbrev pub filter_text : List ℕ
+filter_text = 32 ∷ codes "all"
 
-pub form_filter_word : Form (keyword (codes "filter"))
-form_filter_word = form_keyword 102 (105 ∷ 108 ∷ 116 ∷ 101 ∷ 114 ∷ []) (plain 102 (105 ∷ 108 ∷ 116 ∷ 101 ∷ 114 ∷ []) refl refl refl refl refl) refl
+abbrev delete_word : List ℕ
+delete_word = 101 ∷ 108 ∷ 101 ∷ 116 ∷ 101 ∷ []
+
+module _ {A : Type 0} where
+  -- ---- rows and operations
+
+  abbrev key_row : Grammar (RowRef A)
+  key_row = follows values (λ fields. done (row_of (key_from fields)))
+
+  abbrev loose_row : Grammar (RowRef A)
+  loose_row = follows natural (λ id. done (Loose id))
+
+  form_loose : Form loose_row
+  form_loose = form_map natural Loose form_natural
+
+  form_row : Form (row {A = A})
+  unfolding row
+  form_row =
+      let words = (codes "key", key_row) ∷ (codes "loose", loose_row) ∷ [] in
+      let key = form_map values (λ (fields : Fields A). row_of (key_from fields)) form_values in
+      let loose = form_loose in
+      form_next a_word (one_of words) (kind_one_of Tails words (key.inner, (loose.inner, tt)))
+      (sample_then a_word (one_of words) (Word (codes "loose")) 108 (111 ∷ 111 ∷ 115 ∷ 101 ∷ []) (codes "loose") refl refl (word_token 108 (111 ∷ 111 ∷ 115 ∷ 101 ∷ []) refl refl refl) refl loose_row (λ before line. refl) loose.sample)
+
+  abbrev set_field : ℕ → Value A → ℕ × Value A
+  set_field column value = (column, value)
+
+  form_field : Form (field {A = A})
+  unfolding field
+  form_field =
+      form_both natural (λ column. follows (sign 61) (λ u. follows value (λ v. done (set_field column v)))) form_natural
+      (λ column. form_both (sign 61) (λ u. follows value (λ v. done (set_field column v))) (form_sign 61 refl refl) (λ u. form_map value (set_field column) form_value))
+
+  form_fields : Form (fields {A = A})
+  unfolding fields
+  form_fields =
+      form_both (keyword (codes "set")) (λ u. separated 44 (λ i. field)) (form_keyword 115 (101 ∷ 116 ∷ []) refl refl refl refl refl refl)
+      (λ u. form_separated 44 goes_44 (λ i. field) (λ i. let form = form_field in form.inner) form_field)
+
+  abbrev inserted : Cause → List ℕ → Fields A → Op A
+  inserted cause table row = record { table = table; cause = cause; action = Insert row }
+
+  form_insert : (cause : Cause) → Form (insert {A = A} cause)
+  unfolding insert
+  form_insert cause = form_both name (λ table. follows values (λ row. done (inserted cause table row))) form_name (λ table. form_map values (inserted cause table) form_values)
+
+  abbrev deleted : Cause → List ℕ → RowRef A → Op A
+  deleted cause table row = record { table = table; cause = cause; action = Delete row }
+
+  form_delete : (cause : Cause) → Form (delete {A = A} cause)
+  unfolding delete
+  form_delete cause = form_both name (λ table. follows row (λ row. done (deleted cause table row))) form_name (λ table. form_map row (deleted cause table) form_row)
+
+  form_update : (cause : Cause) → Form (update {A = A} cause)
+  unfolding update
+  form_update cause =
+      form_both name (λ table. follows row (λ row. follows fields (λ set. done (record { table = table; cause = cause; action = Update row set })))) form_name
+      (λ table. form_both row (λ row. follows fields (λ set. done (record { table = table; cause = cause; action = Update row set }))) form_row
+      (λ row. form_map fields (λ set. record { table = table; cause = cause; action = Update row set }) form_fields))
+
+  form_cascaded : Form (cascaded {A = A})
+  unfolding cascaded
+  form_cascaded =
+      let words = (codes "insert", insert Cascade) ∷ (codes "update", update Cascade) ∷ (codes "delete", delete Cascade) ∷ [] in
+      let a = form_insert Cascade in
+      let b = form_update Cascade in
+      let d = form_delete Cascade in
+      form_next a_word (one_of words) (kind_one_of Tails words (a.inner, (b.inner, (d.inner, tt))))
+      (sample_then a_word (one_of words) (Word (codes "delete")) 100 delete_word (codes "delete") refl refl (word_token 100 delete_word refl refl refl) refl (delete Cascade) (λ before line. refl) d.sample)
+
+  form_operation : Form (operation {A = A} false)
+  unfolding operation
+  form_operation =
+      let words = (codes "insert", insert Direct) ∷ (codes "update", update Direct) ∷ (codes "delete", delete Direct) ∷ (codes "cascade", cascaded) ∷ [] in
+      let a = form_insert Direct in
+      let b = form_update Direct in
+      let d = form_delete Direct in
+      let c = form_cascaded in
+      form_next a_word (one_of words) (kind_one_of Tails words (a.inner, (b.inner, (d.inner, (c.inner, tt)))))
+      (sample_then a_word (one_of words) (Word (codes "delete")) 100 delete_word (codes "delete") refl refl (word_token 100 delete_word refl refl refl) refl (delete Direct) (λ before line. refl) d.sample)
+
+  open_full : Open Tails (read (operation {A = A} true))
+  unfolding operation
+  open_full =
+      let words = (codes "insert", exceeds TooMany (insert Direct)) ∷ (codes "update", exceeds TooMany (update Direct)) ∷ (codes "delete", exceeds TooMany (delete Direct)) ∷ (codes "cascade", exceeds TooMany cascaded) ∷ [] in
+      let full = open_limit {X = Op A} Tails TooMany in
+      open_next Tails same_tail a_word (one_of words) (kind_one_of Tails words (full, (full, (full, (full, tt)))))
+      (finish_full a_word (one_of words) (Word (codes "delete")) 100 delete_word (codes "delete") refl refl (word_token 100 delete_word refl refl refl) refl (λ before line. refl))
+
+  open_operation : (is_full : Bool) → Open Tails (read (operation {A = A} is_full))
+  open_operation true = open_full
+  open_operation false = let form = form_operation in form.inner
+
+  form_operations : Form (operations {A = A})
+  unfolding operations
+  form_operations = form_separated 59 goes_59 nth_operation (λ i. open_operation (leb 10000 i)) form_operation
+
+  form_batch : (base : Option ℕ) → Form (batch {A = A} base)
+  unfolding batch
+  form_batch base = form_map operations (λ ops. record { base = base; ops = ops; seen = None }) form_operations
+
+  -- ---- blobs
+
+  blob_kind : (r : Result (Contents A) BlobFault) → OpenKind Tails (contents_of r)
+  blob_kind (Ok blob) = kind_done Tails blob
+  blob_kind (Err why) = kind_no_blob Tails why
+
+  abbrev of_bytes : List ℕ → Grammar (Contents A)
+  of_bytes bytes = either (leb (length bytes) 1000000000) (contents_of (blob_at bytes)) (exceeds TooLong unfit)
+
+  empty_blob : (before line : List ℕ) → read_at true (of_bytes []) before line ≡ Ok (Changes [], line)
+  unfolding blob_at
+  empty_blob before line = refl
+
+  form_contents : Form (contents {A = A})
+  unfolding contents
+  form_contents =
+      form_next a_blob of_bytes (λ bytes. kind_either Tails (leb (length bytes) 1000000000) (contents_of (blob_at bytes)) (exceeds TooLong unfit) (blob_kind (blob_at bytes)) (kind_exceeds Tails TooLong unfit))
+      (sample_fits a_blob of_bytes (Blob []) 120 (quote ∷ (quote ∷ [])) [] refl refl blob_token refl (Changes []) empty_blob)
+
+  abbrev report_words : Words (Show A)
+  report_words = (codes "report", done show.Report) ∷ (codes "buffer", done show.Buffer) ∷ []
+
+  form_report_word : Form (next a_word (one_of report_words))
+  form_report_word =
+      form_next a_word (one_of report_words) (kind_one_of Tails report_words (open_done Tails show.Report, (open_done Tails show.Buffer, tt)))
+      (sample_fits a_word (one_of report_words) (Word (codes "report")) 114 (101 ∷ 112 ∷ 111 ∷ 114 ∷ 116 ∷ []) (codes "report") refl refl (word_token 114 (101 ∷ 112 ∷ 111 ∷ 114 ∷ 116 ∷ []) refl refl refl) refl show.Report (λ before line. refl))
+
+  last_report : Last Nothings (report {A = A})
+  unfolding report
+  last_report = last_end show.Plain (next a_word (one_of report_words)) form_report_word (eats_next a_word (one_of report_words))
+
+  -- ---- what may follow a command
+
+  -- nothing behind a whole command, and behind a session's number the text of a filter
+  abbrev pub Closing : Spelled A → List ℕ → Type 0
+  Closing (Whole command show) line = Nothing line
+  Closing (Filter session) line = line ≡ filter_text
+
+  pub closing_tail : (said : Spelled A) (line : List ℕ) → Closing said line → Tail line
+  closing_tail (Whole command show) line nil = nothing_tail line nil
+  closing_tail (Filter session) line is = rw is (refl, refl)
+
+  -- ---- commands
+
+  closing : (g : Grammar (Spelled A)) → Form g → Open Closing (read g)
+  closing g form = let last = last_form Closing closing_tail g form in last.inner
+
+  abbrev plainly : Command A → Spelled A
+  plainly command = Whole command show.Plain
+
+  open_create : Open Closing (read (create {A = A}))
+  unfolding create
+  open_create =
+      closing (follows name (λ table. follows schema (λ schema. done (plainly (made.CreateTable table schema)))))
+      (form_both name (λ table. follows schema (λ schema. done (plainly (made.CreateTable table schema)))) form_name (λ table. form_map schema (λ schema. plainly (made.CreateTable table schema)) form_schema))
+
+  open_commit : Open Closing (read (commit {A = A}))
+  unfolding commit
+  open_commit = closing (follows (batch None) (λ batch. done (plainly (made.Commit batch)))) (form_map (batch None) (λ batch. plainly (made.Commit batch)) (form_batch None))
+
+  open_commit_at : Open Closing (read (commit_at {A = A}))
+  unfolding commit_at
+  open_commit_at =
+      closing (follows natural (λ base. follows (batch (Some base)) (λ batch. done (plainly (made.Commit batch)))))
+      (form_both natural (λ base. follows (batch (Some base)) (λ batch. done (plainly (made.Commit batch)))) form_natural (λ base. form_map (batch (Some base)) (λ batch. plainly (made.Commit batch)) (form_batch (Some base))))
+
+  open_apply : Open Closing (read (apply {A = A}))
+  unfolding apply
+  open_apply =
+      let last = last_both Closing closing_tail contents (λ blob. follows policy (λ policy. follows report (λ report. done (Whole (made.Apply blob policy) report)))) form_contents
+      (λ blob. last_both Closing closing_tail policy (λ policy. follows report (λ report. done (Whole (made.Apply blob policy) report))) form_policy
+      (λ policy. last_map Closing report (λ report. Whole (made.Apply blob policy) report) last_report)) in
+      last.inner
+
+  open_get : Open Closing (read (get {A = A}))
+  unfolding get
+  open_get =
+      closing (follows name (λ table. follows row (λ row. done (Whole made.Read (show.Get table row)))))
+      (form_both name (λ table. follows row (λ row. done (Whole made.Read (show.Get table row)))) form_name (λ table. form_map row (λ row. Whole made.Read (show.Get table row)) form_row))
+
+  open_scan : Open Closing (read (scan {A = A}))
+  unfolding scan
+  open_scan = closing (follows name (λ table. done (Whole made.Read (show.Scan table)))) (form_map name (λ table. Whole made.Read (show.Scan table)) form_name)
+
+  open_save : Open Closing (read (save {A = A}))
+  unfolding save
+  open_save = closing (follows name (λ database. done (plainly (made.SaveAs database)))) (form_map name (λ database. plainly (made.SaveAs database)) form_name)
+
+  open_session : (f : ℕ → Spelled A) → Open Closing (read (follows natural (λ session. done (f session))))
+  open_session f = closing (follows natural (λ session. done (f session))) (form_map natural f form_natural)
+
+  open_attach : Open Closing (read (attach {A = A}))
+  unfolding attach
+  open_attach =
+      closing (follows natural (λ session. follows name (λ table. done (plainly (made.Attach session table)))))
+      (form_both natural (λ session. follows name (λ table. done (plainly (made.Attach session table)))) form_natural (λ session. form_map name (λ table. plainly (made.Attach session table)) form_name))
+
+  open_enable : Open Closing (read (enable {A = A}))
+  unfolding enable
+  open_enable =
+      closing (follows natural (λ session. follows flag (λ asked. done (plainly (made.Enable session asked)))))
+      (form_both natural (λ session. follows flag (λ asked. done (plainly (made.Enable session asked)))) form_natural (λ session. form_map flag (λ asked. plainly (made.Enable session asked)) form_flag))
+
+  open_indirect : Open Closing (read (indirect {A = A}))
+  unfolding indirect
+  open_indirect =
+      closing (follows natural (λ session. follows flag (λ asked. done (plainly (made.Indirect session asked)))))
+      (form_both natural (λ session. follows flag (λ asked. done (plainly (made.Indirect session asked)))) form_natural (λ session. form_map flag (λ asked. plainly (made.Indirect session asked)) form_flag))
+
+  open_diff : Open Closing (read (diff {A = A}))
+  unfolding diff
+  open_diff =
+      closing (follows natural (λ session. follows name (λ from. follows name (λ table. done (plainly (made.Diff session from table))))))
+      (form_both natural (λ session. follows name (λ from. follows name (λ table. done (plainly (made.Diff session from table))))) form_natural
+      (λ session. form_both name (λ from. follows name (λ table. done (plainly (made.Diff session from table)))) form_name (λ from. form_map name (λ table. plainly (made.Diff session from table)) form_name)))
+
+  -- a capture, and how its key flags are written
+  open_capture : (command : ℕ → Command A) (shown : KeyFlags → Show A) → Open Closing (read (follows natural (λ session. follows key_flags (λ flags. done (Whole (command session) (shown flags))))))
+  open_capture command shown =
+      let last = last_both Closing closing_tail natural (λ session. follows key_flags (λ flags. done (Whole (command session) (shown flags)))) form_natural
+      (λ session. last_map Closing key_flags (λ flags. Whole (command session) (shown flags)) last_key_flags) in
+      last.inner
+
+  open_changeset : Open Closing (read (changeset {A = A}))
+  unfolding changeset
+  open_changeset = open_capture made.Capture show.Changeset
+
+  open_patchset : Open Closing (read (patchset {A = A}))
+  unfolding patchset
+  open_patchset = open_capture made.Capture show.Patchset
+
+  open_restart : Open Closing (read (restart {A = A}))
+  unfolding restart
+  open_restart = open_capture made.Restart show.Changeset
+
+  pub open_commands : (w : List ℕ) → OpenKind Closing (one_of (commands {A = A}) w)
+  open_commands = kind_one_of Closing commands (
+    open_create,
+    (
+      open_commit,
+      (
+        open_commit_at,
+        (
+          open_apply,
+          (
+            open_get,
+            (
+              open_scan,
+              (
+                open_save,
+                (
+                  open_done Closing (plainly made.NewSession),
+                  (
+                    open_session (λ session. plainly (made.DropSession session)),
+                    (
+                      open_attach,
+                      (
+                        open_session (λ session. plainly (made.AttachAll session)),
+                        (
+                          open_session Filter,
+                          (
+                            open_enable,
+                            (
+                              open_indirect,
+                              (
+                                open_session (λ session. plainly (made.IsEmpty session)),
+                                (
+                                  open_diff,
+                                  (
+                                    open_changeset,
+                                    (
+                                      open_patchset,
+                                      (open_restart, tt),
+                                    ),
+                                  ),
+                                ),
+                              ),
+                            ),
+                          ),
+                        ),
+                      ),
+                    ),
+                  ),
+                ),
+              ),
+            ),
+          ),
+        ),
+      ),
+    ),
+  )

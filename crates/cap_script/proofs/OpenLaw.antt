@@ -1,168 +1,133 @@
--- What stands before a fault of syntax begins a line.
-use Rattle.std.proofs.Common.{◌≡◌, ◌⊎◌, inl, inr, ℕ, ◌-◌, ◌<◌, Bool, true, false, cond, eqb, leb, drop, take, take-append-drop, length-drop, List, [], ◌∷◌, ◌++◌, length, length-append, Some, None, Result, Ok, Err, codes, refl, sym, ap, ◌∙◌, subst, arith, append_assoc, append-nil}
-use Rattle.std.specs.Result.{result_err}
-use Rattle.std.proofs.lemmas.Bool.{cond_both}
+-- What stands before the token of a fault of syntax begins a line.
+use Rattle.std.proofs.Common.{◌≡◌, ◌⊎◌, inl, inr, ℕ, ◌-◌, ◌≤◌, Bool, true, false, cond, eqb, leb, List, [], ◌∷◌, ◌++◌, length, length-append, length-drop, take, drop, take-append-drop, Option, Some, None, Ok, Err, codes, refl, sym, ap, ◌∙◌, subst, arith, append_assoc, append-nil}
+use Rattle.std.specs.Result.{result_err, result_map_both}
+use Rattle.std.proofs.lemmas.Bool.{eqb-true}
 use Rattle.std.proofs.lemmas.List.{append_cancel_right}
-use Rattle.cap_value.specs.declared.refusal.Refusal.TheVariants.{TooLong, TooMany}
-use Rattle.cap_codec.specs.BlobReading.{blob_at}
-use Rattle.cap_codec.specs.declared.fault.BlobFault.{BlobFault}
-use Rattle.hex.specs.Hex.{decode_of, decode_pairs}
-use Rattle.cap_filter.specs.Printed.{quote}
-use Rattle.cap_script.specs.FaultPlace.{BeginsLine, HasSyntaxFault}
-use Rattle.cap_script.specs.LineFaults.{contents, contents_read, flag, line, line_fault, name, on_contents, on_worker, operations, policy, report, report_words, row, schema, worker}
-use Rattle.cap_script.specs.Reading.{Outcome, Reading, Verdict, exceeds, fits, fits_if, judged, scanned, unexpected, a_word, any_of, at_end, by_sign, keyword, keyword_or_end, natural, next, on_natural, on_word, one_of, right_here, space_here, unless_end, ◌>>=◌, ◌⋙◌}
-use Rattle.cap_script.specs.Scanning.{Scanned, token_at}
-use Rattle.cap_script.specs.Tokens.{Token, begins, behind_blanks, blob, integer, is_blank, sign, text, word}
-use Rattle.cap_script.specs.declared.fault.LineFault.TheVariants.{Limit, Syntax}
-use Rattle.cap_script.proofs.LocalLemmas.{blanks_of, found_some, longer_end, same_end}
-use Rattle.cap_script.proofs.OpenForms.{goes_64, form_flag, form_name, form_natural, form_operations, form_places, form_policy, form_report, form_row, form_schema, open_on_word, open_one_of, session_sample}
-use Rattle.cap_script.proofs.OpenLemmas.{Ends, Finish, Form, Here, Nothing, Open, OpenVerdict, Reached, Sample, Skips, Tail, blanks_at, ends_at, form_both, form_next, found_tail, goes_with, never_idle, nothing_tail, only_blanks, open_both, open_next, open_ok, open_skip, reached, reached_at, sample_both, tail_sign, weaker}
-use Rattle.cap_script.proofs.PlaceLaw.{line_agrees, local_at_end, local_keyword_or_end, local_on_contents, local_on_natural, local_on_others, local_on_word, local_other_command, local_other_line, local_report, local_worker, never, no_filter_in, of_err, other_command, other_line, others, SetsFilter}
-use Rattle.cap_script.proofs.PlaceLemmas.{Local, LocalVerdict, local_end_here, local_here, local_unexpected, local_ok, local_sign, local_test, local_both, none_before, read_to, same_left, same_rest, some_front}
-use Rattle.cap_script.proofs.ScanLemmas.{blob_is}
-use Rattle.cap_script.proofs.TokenLemmas.{blanks_twice}
+use Rattle.cap_value.specs.declared.refusal.Refusal.TheVariants.{TooMany}
+use Rattle.cap_filter.specs.Reading.{a_filter, filter_of, keyword_of, refusal, run}
+use Rattle.cap_filter.specs.Rule.{Rule, all}
+use Rattle.cap_filter.specs.Tokens.{tokens_from, tokens_of}
+use Rattle.cap_core.specs.declared.command.Command.{Command}
+use Rattle.cap_core.specs.declared.command.Command.TheVariants.{NewSession}
+use Rattle.cap_language.specs.Forms.{a_number, a_word, at_end, one_of, worker, worker_behind, worker_number}
+use Rattle.cap_language.specs.Grammar.{Grammar, Read, and_then, by_end, by_sign, done, follows, misfit, on_sign, read, read_at, taken, token_then, wanted_in}
+use Rattle.cap_language.specs.Scanning.{Scanned, token_at}
+use Rattle.cap_language.specs.Tokens.{Token, Word, begins, behind_blanks}
+use Rattle.cap_language.specs.declared.fault.LineFault.TheVariants.{Limit, Syntax}
+use Rattle.cap_language.proofs.FormLaws.{goes_64}
+use Rattle.cap_language.proofs.MovedLaws.{blanks_of, longer_end, same_end}
+use Rattle.cap_language.proofs.PlaceLaws.{by_test, local, made, none_before, refused_so, same_left, same_rest, same_value}
+use Rattle.cap_language.proofs.TokenLaws.{blanks_twice, found_some}
+use Rattle.cap_script.specs.FaultPlace.{BeginsLine, HasSyntaxFault, ReachesFilter}
+use Rattle.cap_script.specs.Language.{Ended as Whole_line, Filtered, Opening, command, commands, ending, opening}
+use Rattle.cap_script.specs.LineFaults.{filter_read, line_fault, line_of_text, with_filter}
+use Rattle.cap_script.specs.declared.command.Spelled.{Spelled}
+use Rattle.cap_script.specs.declared.command.Spelled.TheVariants.{Filter, Whole}
+use Rattle.cap_script.specs.declared.line.Show.{Show}
+use Rattle.cap_script.specs.declared.line.Show.TheVariants.{Plain}
+use Rattle.cap_script.proofs.FilterSize.{mapped_ok}
+use Rattle.cap_script.proofs.OpenForms.{Closing, closing_tail, filter_text, open_commands}
+use Rattle.cap_script.proofs.PlaceLaw.{fault_in_opening, fault_of}
+use Rattle.cap_language.proofs.OpenGrammars.{sample_fits, word_token}
+use Rattle.cap_language.proofs.OpenLaws.{Behind, Ended, Open, Reached, Sample, Tail, blanks_at, finish_of, found_tail, goes_with, only_blanks, open_next, tail_sign, weaker_sample}
 
-no_length : (l : List ℕ) → length l ≡ 0 → l ≡ []
-no_length [] e = refl
-no_length (c ∷ l) e = absurd (omega (arith, e))
+-- ---- the text of a filter
 
--- ---- a word, or the line's end
+-- spaces before a filter do not matter
+tokens_behind : (b : Bool) (byte : ℕ) (line : List ℕ) → eqb byte 32 ≡ b → tokens_of line ≡ tokens_of (behind_blanks line) → tokens_of (byte ∷ line) ≡ tokens_of (cond b (behind_blanks line) (byte ∷ line))
+unfolding tokens_from
+tokens_behind true byte line is same = rw is same
+tokens_behind false byte line is same = refl
 
-nothing_blanks : (bytes : List ℕ) → Nothing bytes → behind_blanks bytes ≡ []
-nothing_blanks bytes e = ap behind_blanks e
+tokens_blank : (line : List ℕ) → tokens_of line ≡ tokens_of (behind_blanks line)
+tokens_blank [] = refl
+tokens_blank (byte ∷ line) = tokens_behind (eqb byte 32) byte line refl (tokens_blank line)
 
-end_read : (next : Reading) (bytes : List ℕ) → Nothing bytes → Reached (unless_end next (behind_blanks bytes)) bytes
-end_read next bytes e = subst (λ (l : List ℕ). Reached (unless_end next (behind_blanks l)) l) (sym e) ([], refl, refl)
+filter_same : (a b : List ℕ) (r : Rule) → tokens_of a ≡ tokens_of b → filter_of a ≡ Ok r → filter_of b ≡ Ok r
+unfolding filter_of
+filter_same a b r same e =
+    let found = mapped_ok (refusal a) (run (a_filter []) 1000 (tokens_of a)) r e in
+    ap (λ tokens. result_map_both (λ r. r) (refusal b) (run (a_filter []) 1000 tokens)) (sym same) ∙ ap (result_map_both (λ r. r) (refusal b)) found
 
-end_tail : (line : List ℕ) → Nothing line → Tail (32 ∷ ([] ++ line))
-end_tail line e = (refl, ap (λ (l : List ℕ). begins goes_with l) (nothing_blanks line e))
+all_read : filter_of filter_text ≡ Ok all
+unfolding filter_of run keyword_of tokens_from
+all_read = refl
 
-end_finish : (next : Reading) → Finish Nothing (λ line. unless_end next (behind_blanks line)) []
-end_finish next = record { text = []; tail = end_tail; ends = λ line e. inl (subst (λ (l : List ℕ). Reached (unless_end next (behind_blanks (32 ∷ l))) l) (sym e) ([], refl, refl)) }
-
-module _ (next : Reading) (form : Form next) where
-  word_here : Here Nothing (unless_end next)
-  word_here = record {
-    passes = λ c front rest behind line none e. form.inner.passes (c ∷ front) rest behind line (nothing_tail line none) e;
-    idles = λ behind line none e. end_read next line none;
-    finishes = λ c front behind e.
-        let more = form.inner.finishes (c ∷ front) behind e in
-        record { text = more.text; tail = λ line nil. more.tail line (nothing_tail line nil); ends = λ line nil. more.ends line (nothing_tail line nil) };
-    begins_at = λ behind e. end_finish next;
-  }
-
--- a word, or the line's end
-end_skips : (next : Reading) → Skips (λ line. unless_end next (behind_blanks line))
-end_skips next line = ap (unless_end next) (sym (blanks_twice line))
-
-end_sample : (next : Reading) → Sample Nothing (λ line. unless_end next (behind_blanks line))
-end_sample next = record { text = []; tail = end_tail; reads = λ line e. subst (λ (l : List ℕ). Reached (unless_end next (behind_blanks (32 ∷ l))) l) (sym e) ([], refl, refl) }
-
-open_or_end : (next : Reading) → Form next → Open Nothing (λ line. unless_end next (behind_blanks line))
-open_or_end next form = open_skip Nothing (unless_end next) (local_end_here next form.local) (word_here next form)
+filter_behind : (rest : List ℕ) → behind_blanks rest ≡ behind_blanks filter_text → filter_of rest ≡ Ok all
+filter_behind rest same = filter_same filter_text rest all (tokens_blank filter_text ∙ ap tokens_of (sym same) ∙ sym (tokens_blank rest)) all_read
 
 -- ---- workers
 
-abbrev on_number : Token → Verdict
-on_number = on_natural on_worker
+abbrev number : List ℕ → Read (Option ℕ)
+number = read worker_number
 
-abbrev number : Reading
-number = right_here on_number
+abbrev at_sign : List ℕ → Read (Option ℕ)
+at_sign = by_sign 64 number (λ here. Ok (None, here))
 
-number_verdict : (here r mid q line : List ℕ) (t : Token) → judged here r (on_number t) ≡ Ok mid → mid ≡ q → (there : List ℕ) → (r ≡ q) × (judged there line (on_number t) ≡ Ok line)
-number_verdict here r mid q line (word w) e is there = absurd cc
-number_verdict here r mid q line (integer true n) e is there = absurd cc
-number_verdict here r mid q line (integer false n) e is there = by (leb n 63) e
-  where
-    by : (b : Bool) → judged here r (fits_if b) ≡ Ok mid → (r ≡ q) × (judged there line (fits_if b) ≡ Ok line)
-    by true f = (same_rest r mid f ∙ is, refl)
-    by false f = absurd cc
-number_verdict here r mid q line (text t) e is there = absurd cc
-number_verdict here r mid q line (blob bytes) e is there = absurd cc
-number_verdict here r mid q line (sign s) e is there = absurd cc
+abbrev spaced_number : ℕ → List ℕ → Read (Option ℕ)
+spaced_number n = by_sign 32 (λ rest. Ok (Some n, rest)) (λ here. Err (misfit here))
 
-number_moved : (front behind q line mid : List ℕ) (found : Scanned) → Tail line → token_at (front ++ behind) ≡ found → scanned on_number (front ++ behind) found ≡ Ok mid → mid ≡ q ++ behind → number (front ++ line) ≡ Ok (q ++ line)
-number_moved front behind q line mid None tail is e at = absurd cc
-number_moved front behind q line mid (Some (t, r)) tail is e at =
-    let (p, same, some) = found_some t (front ++ behind) r is in
-    let (end, again) = number_verdict (front ++ behind) r mid (q ++ behind) (q ++ line) t e at (front ++ line) in
-    let moved = found_tail t front q behind line (some_front front behind p r q same end some) tail (is ∙ ap (λ (l : List ℕ). Some (t, l)) end) in
-    ap (scanned on_number (front ++ line)) moved ∙ again
+-- what is made of a number, and of the space behind it
+number_parts : (b : Bool) (n : ℕ) (w : Option ℕ) (here r rest : List ℕ) → read_at true (worker_behind b n) here r ≡ Ok (w, rest) → (b ≡ true) × (w ≡ Some n) × (r ≡ 32 ∷ rest)
+number_parts false n w here r rest e = absurd cc
+number_parts true n w here [] rest e = absurd cc
+number_parts true n w here (byte ∷ r) rest e =
+    by_test (eqb byte 32) r (λ rest. made (Some n) rest) (Err (misfit (byte ∷ r))) (λ o. o ≡ Ok (w, rest) → (true ≡ true) × (w ≡ Some n) × (byte ∷ r ≡ 32 ∷ rest))
+    (λ is f. (refl, sym (same_value (Some n) w r rest f), ap (λ (c : ℕ). c ∷ r) (eqb-true byte 32 is) ∙ ap (λ (l : List ℕ). 32 ∷ l) (same_rest (Some n) w r rest f))) (λ is f. absurd cc) e
 
-fits_refused : (front behind r : List ℕ) (b : Bool) → judged (front ++ behind) r (fits_if b) ≡ Err (Syntax (length behind)) → front ≡ []
-fits_refused front behind r true f = absurd cc
-fits_refused front behind r false f = none_before front behind (same_left (length (front ++ behind)) (length behind) f)
+number_again : (n : ℕ) (here rest : List ℕ) (t : Token) → token_at here ≡ Some (t, 32 ∷ rest) → a_number t ≡ Some n → leb n 63 ≡ true → number here ≡ Ok (Some n, rest)
+number_again n here rest t is fits few =
+    ap (λ (found : Scanned). token_then here (wanted_in a_number found) (λ n behind. read_at true (worker_behind (leb n 63) n) here behind)) is
+    ∙ ap (λ (o : Option ℕ). token_then here (taken o (32 ∷ rest)) (λ n behind. read_at true (worker_behind (leb n 63) n) here behind)) fits
+    ∙ ap (λ (b : Bool). read_at true (worker_behind b n) here (32 ∷ rest)) few
 
-number_refused : (front behind : List ℕ) (found : Scanned) → token_at (front ++ behind) ≡ found → scanned on_number (front ++ behind) found ≡ Err (Syntax (length behind)) → front ≡ []
-number_refused front behind None is e = none_before front behind (same_left (length (front ++ behind)) (length behind) e)
-number_refused front behind (Some (t, r)) is e = by t e
-  where
-    by : (t : Token) → judged (front ++ behind) r (on_number t) ≡ Err (Syntax (length behind)) → front ≡ []
-    by (word w) f = none_before front behind (same_left (length (front ++ behind)) (length behind) f)
-    by (integer true n) f = none_before front behind (same_left (length (front ++ behind)) (length behind) f)
-    by (integer false n) f = fits_refused front behind r (leb n 63) f
-    by (text t) f = none_before front behind (same_left (length (front ++ behind)) (length behind) f)
-    by (blob bytes) f = none_before front behind (same_left (length (front ++ behind)) (length behind) f)
-    by (sign s) f = none_before front behind (same_left (length (front ++ behind)) (length behind) f)
+number_found : (front q behind line r : List ℕ) (w : Option ℕ) (t : Token) (o : Option ℕ) → a_number t ≡ o → Tail line → token_at (front ++ behind) ≡ Some (t, r) → token_then (front ++ behind) (taken o r) (λ n rest. read_at true (worker_behind (leb n 63) n) (front ++ behind) rest) ≡ Ok (w, q ++ behind)
+    → number (front ++ line) ≡ Ok (w, q ++ line)
+number_found front q behind line r w t None fits tail is e = absurd cc
+number_found front q behind line r w t (Some n) fits tail is e =
+    let (few, w_is, end) = number_parts (leb n 63) n w (front ++ behind) r (q ++ behind) e in
+    let (p, whole, some) = found_some t (front ++ behind) r is in
+    let long = ap length whole in
+    let tail_long = ap length end in
+    let moved = found_tail t front (32 ∷ q) behind line (omega (arith, long, tail_long, some, length-append front behind, length-append p r, length-append q behind)) tail (is ∙ ap (λ (l : List ℕ). Some (t, l)) end) in
+    number_again n (front ++ line) (q ++ line) t moved fits few ∙ ap (λ (v : Option ℕ). made v (q ++ line)) (sym w_is)
 
--- something that a space begins, or that is kept
-abbrev pub Goes : List ℕ → List ℕ → Type 0
-Goes q line = (0 < length q) ⊎ ((rest : List ℕ) × (line ≡ 32 ∷ rest))
+number_moved : (front q behind line : List ℕ) (w : Option ℕ) (found : Scanned) → Tail line → token_at (front ++ behind) ≡ found → token_then (front ++ behind) (wanted_in a_number found) (λ n rest. read_at true (worker_behind (leb n 63) n) (front ++ behind) rest) ≡ Ok (w, q ++ behind) → number (front ++ line) ≡ Ok (w, q ++ line)
+number_moved front q behind line w None tail is e = absurd cc
+number_moved front q behind line w (Some (t, r)) tail is e = number_found front q behind line r w t (a_number t) refl tail is e
 
-space_kept : (here rest : List ℕ) → space_here here ≡ Ok rest → here ≡ rest
-space_kept here rest = cond_both (begins is_blank here) (Ok here) (Err (unexpected here)) (λ o. o ≡ Ok rest → here ≡ rest) (λ is e. same_rest here rest e) (λ is e. absurd cc)
-
-space_moved : (q behind line : List ℕ) → Goes q line → space_here (q ++ behind) ≡ Ok (q ++ behind) → space_here (q ++ line) ≡ Ok (q ++ line)
-space_moved [] behind line (inl some) e = absurd (omega (arith, some))
-space_moved [] behind line (inr (rest, is)) e = subst (λ (l : List ℕ). space_here l ≡ Ok l) (sym is) refl
-space_moved (c ∷ q) behind line goes e =
-    cond_both (is_blank c) (Ok (c ∷ q ++ behind)) (Err (unexpected (c ∷ q ++ behind))) (λ o. o ≡ Ok (c ∷ q ++ behind) → cond (is_blank c) (Ok (c ∷ q ++ line)) (Err (unexpected (c ∷ q ++ line))) ≡ Ok (c ∷ q ++ line)) (λ is f. rw is refl) (λ is f. absurd cc) e
-
-abbrev numbered : Reading
-numbered = number ⋙ space_here
-
-numbered_moved : (front q behind line : List ℕ) (o : Outcome) → Tail line → Goes q line → number (front ++ behind) ≡ o → (o >>= space_here) ≡ Ok (q ++ behind) → numbered (front ++ line) ≡ Ok (q ++ line)
-numbered_moved front q behind line (Err fault) tail goes is e = absurd cc
-numbered_moved front q behind line (Ok mid) tail goes is e =
-    let kept : mid ≡ q ++ behind = space_kept mid (q ++ behind) e in
-    let space : space_here (q ++ behind) ≡ Ok (q ++ behind) = sym (ap space_here kept) ∙ e in
-    ap (λ (o : Outcome). o >>= space_here) (number_moved front behind q line mid (token_at (front ++ behind)) tail refl is kept) ∙ space_moved q behind line goes space
-
-abbrev at_sign : Reading
-at_sign = by_sign 64 numbered (λ here. Ok here)
-
-local_numbered : Local numbered
-local_numbered = local_both number space_here (local_here on_number (local_on_natural on_worker (λ n. local_verdict (leb n 63)))) (local_test is_blank (λ here. Ok here) (λ here. Err (unexpected here)) local_ok local_unexpected)
-  where
-    local_verdict : (b : Bool) → LocalVerdict (fits_if b)
-    local_verdict true = local_ok
-    local_verdict false = tt
-
-local_at_sign : Local at_sign
-local_at_sign = local_sign 64 numbered (λ here. Ok here) local_numbered local_ok
-
-no_at_sign : (here : List ℕ) → begins goes_with here ≡ false → at_sign here ≡ Ok here
+no_at_sign : (here : List ℕ) → begins goes_with here ≡ false → at_sign here ≡ Ok (None, here)
 no_at_sign [] e = refl
 no_at_sign (byte ∷ here) e = rw (goes_64 byte e) refl
 
-sign_by : (c : ℕ) (p q behind line : List ℕ) → Tail line → Goes q line → at_sign (c ∷ p ++ behind) ≡ Ok (q ++ behind) → at_sign (c ∷ p ++ line) ≡ Ok (q ++ line)
-sign_by c p q behind line tail goes e =
-    cond_both (eqb c 64) (numbered (p ++ behind)) (Ok (c ∷ p ++ behind)) (λ o. o ≡ Ok (q ++ behind) → at_sign (c ∷ p ++ line) ≡ Ok (q ++ line))
-    (λ is f. rw is (numbered_moved p q behind line (number (p ++ behind)) tail goes refl f))
-    (λ is f. rw is (ap (λ (l : List ℕ). Ok (l ++ line)) (append_cancel_right (c ∷ p) q behind (same_rest (c ∷ p ++ behind) (q ++ behind) f)))) e
+sign_moved : (c : ℕ) (p q behind line : List ℕ) (w : Option ℕ) → Tail line → at_sign (c ∷ p ++ behind) ≡ Ok (w, q ++ behind) → at_sign (c ∷ p ++ line) ≡ Ok (w, q ++ line)
+sign_moved c p q behind line w tail e =
+    by_test (eqb c 64) (p ++ behind) number (made None (c ∷ p ++ behind)) (λ o. o ≡ Ok (w, q ++ behind) → at_sign (c ∷ p ++ line) ≡ Ok (w, q ++ line))
+    (λ is f. rw is (number_moved p q behind line w (token_at (p ++ behind)) tail refl f))
+    (λ is f. rw is (ap (λ (l : List ℕ). made None (l ++ line)) (append_cancel_right (c ∷ p) q behind (same_rest None w (c ∷ p ++ behind) (q ++ behind) f)) ∙ ap (λ (v : Option ℕ). made v (q ++ line)) (same_value None w (c ∷ p ++ behind) (q ++ behind) f))) e
 
-worker_by : (front q behind line before : List ℕ) → Tail line → Goes q line → behind_blanks (front ++ behind) ≡ (before ++ q) ++ behind → at_sign (behind_blanks (front ++ behind)) ≡ Ok (q ++ behind) → Reached (worker (front ++ line)) (q ++ line)
-worker_by front [] behind line [] tail goes at e =
-    (behind_blanks line, ap at_sign (only_blanks front behind line at) ∙ no_at_sign (behind_blanks line) (tail_sign line tail), blanks_twice line)
-worker_by front (c ∷ q) behind line [] tail goes at e =
-    reached_at (worker (front ++ line)) (Ok (c ∷ q ++ line)) (c ∷ q ++ line) (ap at_sign (blanks_at front behind line c q at) ∙ sign_by c q (c ∷ q) behind line tail goes (sym (ap at_sign at) ∙ e)) (reached (c ∷ q ++ line))
-worker_by front q behind line (c ∷ before) tail goes at e =
-    reached_at (worker (front ++ line)) (Ok (q ++ line)) (q ++ line) (ap at_sign (blanks_at front behind line c (before ++ q) at) ∙ sign_by c (before ++ q) q behind line tail goes (sym (ap at_sign at) ∙ e)) (reached (q ++ line))
+idle_worker : (behind : List ℕ) (w : Option ℕ) → at_sign behind ≡ Ok (w, behind) → None ≡ w
+idle_worker [] w e = same_value None w [] [] e
+idle_worker (byte ∷ behind) w e =
+    by_test (eqb byte 64) behind number (made None (byte ∷ behind)) (λ o. o ≡ Ok (w, byte ∷ behind) → None ≡ w)
+    (λ is f. let inside = local worker_number in let (front, same) = inside.ends behind (byte ∷ behind) w f in let long = ap length same in absurd (omega (arith, long, length-append front (byte ∷ behind))))
+    (λ is f. same_value None w (byte ∷ behind) (byte ∷ behind) f) e
 
-pub worker_moved : (front q behind line : List ℕ) → Tail line → Goes q line → worker (front ++ behind) ≡ Ok (q ++ behind) → Reached (worker (front ++ line)) (q ++ line)
-worker_moved front q behind line tail goes e =
-    let (before, at) = local_at_sign.ends (behind_blanks (front ++ behind)) (q ++ behind) e in
-    worker_by front q behind line before tail goes (at ∙ sym (append_assoc before q behind)) e
+worker_by : (front q behind line before : List ℕ) (w : Option ℕ) → Tail line → behind_blanks (front ++ behind) ≡ (before ++ q) ++ behind → at_sign (behind_blanks (front ++ behind)) ≡ Ok (w, q ++ behind) → Reached w (read worker (front ++ line)) (q ++ line)
+unfolding worker
+worker_by front [] behind line [] w tail at e =
+    (behind_blanks line, ap at_sign (only_blanks front behind line at) ∙ no_at_sign (behind_blanks line) (tail_sign line tail) ∙ ap (λ (v : Option ℕ). made v (behind_blanks line)) (idle_worker behind w (sym (ap at_sign at) ∙ e)), blanks_twice line)
+worker_by front (c ∷ q) behind line [] w tail at e =
+    (c ∷ q ++ line, ap at_sign (blanks_at front behind line c q at) ∙ sign_moved c q (c ∷ q) behind line w tail (sym (ap at_sign at) ∙ e), refl)
+worker_by front q behind line (c ∷ before) w tail at e =
+    (q ++ line, ap at_sign (blanks_at front behind line c (before ++ q) at) ∙ sign_moved c (before ++ q) q behind line w tail (sym (ap at_sign at) ∙ e), refl)
+
+worker_moved : (front q behind line : List ℕ) (w : Option ℕ) → Tail line → read worker (front ++ behind) ≡ Ok (w, q ++ behind) → Reached w (read worker (front ++ line)) (q ++ line)
+unfolding worker
+worker_moved front q behind line w tail e =
+    let inside = local (on_sign 64 worker_number (done None)) in
+    let (before, at) = inside.ends (behind_blanks (front ++ behind)) (q ++ behind) w e in
+    worker_by front q behind line before w tail (at ∙ sym (append_assoc before q behind)) e
 
 -- ---- a worker that does not fit
 
@@ -172,223 +137,199 @@ session_text = 32 ∷ codes "session"
 session_tail : Tail session_text
 session_tail = (refl, refl)
 
-zero_first : number (48 ∷ session_text) ≡ Ok session_text
+zero_first : number (48 ∷ session_text) ≡ Ok (Some 0, codes "session")
 unfolding token_at
 zero_first = refl
 
-number_done : (front behind : List ℕ) (o : Outcome) → number (front ++ behind) ≡ o → (o >>= space_here) ≡ Err (Syntax (length behind)) → (more : List ℕ) × (numbered (front ++ more) ≡ Ok session_text)
-number_done front behind (Err fault) is e =
-    let empty = number_refused front behind (token_at (front ++ behind)) refl (is ∙ e) in
-    (48 ∷ session_text, ap (λ (l : List ℕ). numbered (l ++ 48 ∷ session_text)) empty ∙ ap (λ (o : Outcome). o >>= space_here) zero_first)
-number_done front behind (Ok mid) is e =
-    let (a, same) = (local_here on_number (local_on_natural on_worker (λ n. local_verdict (leb n 63)))).ends (front ++ behind) mid is in
-    let long : length mid ≡ length behind = space_left mid e in
-    let (q, at) = longer_end front a behind mid same (omega (arith, long)) in
-    let empty : q ≡ [] = same_end q behind mid at long in
-    (session_text, ap (λ (o : Outcome). o >>= space_here) (number_moved front behind [] session_text mid (token_at (front ++ behind)) session_tail refl is (at ∙ ap (λ (l : List ℕ). l ++ behind) empty)))
-  where
-    local_verdict : (b : Bool) → LocalVerdict (fits_if b)
-    local_verdict true = local_ok
-    local_verdict false = tt
+-- there is a text with which a number and its space are read, and then a command
+abbrev NumberDone : List ℕ → Type 0
+NumberDone front = (more : List ℕ) × (w : Option ℕ) × (number (front ++ more) ≡ Ok (w, codes "session"))
 
-    space_left : (here : List ℕ) → space_here here ≡ Err (Syntax (length behind)) → length here ≡ length behind
-    space_left here = cond_both (begins is_blank here) (Ok here) (Err (unexpected here)) (λ o. o ≡ Err (Syntax (length behind)) → length here ≡ length behind) (λ is f. absurd cc) (λ is f. same_left (length here) (length behind) f)
+from_nothing : (front : List ℕ) → front ≡ [] → NumberDone front
+from_nothing front empty = (48 ∷ session_text, Some 0, ap (λ (l : List ℕ). number (l ++ 48 ∷ session_text)) empty ∙ zero_first)
 
-at_sign_done : (c : ℕ) (front behind : List ℕ) → at_sign (c ∷ front ++ behind) ≡ Err (Syntax (length behind)) → (more : List ℕ) × (at_sign (c ∷ front ++ more) ≡ Ok session_text)
-at_sign_done c front behind e =
-    cond_both (eqb c 64) (numbered (front ++ behind)) (Ok (c ∷ front ++ behind)) (λ o. o ≡ Err (Syntax (length behind)) → (more : List ℕ) × (at_sign (c ∷ front ++ more) ≡ Ok session_text))
-    (λ is f. let (more, done) = number_done front behind (number (front ++ behind)) refl f in (more, rw is done)) (λ is f. absurd cc) e
+space_missing : (n : ℕ) (here r : List ℕ) (left : ℕ) → read_at true (worker_behind true n) here r ≡ Err (Syntax left) → length r ≡ left
+space_missing n here [] left e = same_left (Option ℕ) 0 left e
+space_missing n here (byte ∷ r) left e =
+    by_test (eqb byte 32) r (λ rest. made (Some n) rest) (Err (misfit (byte ∷ r))) (λ o. o ≡ Err (Syntax left) → length (byte ∷ r) ≡ left)
+    (λ is f. absurd cc) (λ is f. same_left (Option ℕ) (length (byte ∷ r)) left f) e
 
-at_sign_begins : (behind : List ℕ) → at_sign behind ≡ Err (Syntax (length behind)) → ⊥
-at_sign_begins [] e = absurd cc
-at_sign_begins (byte ∷ behind) e =
-    cond_both (eqb byte 64) (numbered behind) (Ok (byte ∷ behind)) (λ o. o ≡ Err (Syntax (length (byte ∷ behind))) → ⊥)
-    (λ is f. let few = local_numbered.stops behind (length (byte ∷ behind)) f in omega (arith, few)) (λ is f. absurd cc) e
+number_by : (front behind r : List ℕ) (t : Token) (n : ℕ) (b : Bool) → a_number t ≡ Some n → leb n 63 ≡ b → token_at (front ++ behind) ≡ Some (t, r) → read_at true (worker_behind b n) (front ++ behind) r ≡ Err (Syntax (length behind)) → NumberDone front
+number_by front behind r t n false fits few is e = from_nothing front (none_before front behind (same_left (Option ℕ) (length (front ++ behind)) (length behind) e))
+number_by front behind r t n true fits few is e =
+    let long = space_missing n (front ++ behind) r (length behind) e in
+    let (p, whole, some) = found_some t (front ++ behind) r is in
+    let (q, at) = longer_end front p behind r whole (omega (arith, long)) in
+    let empty : q ≡ [] = same_end q behind r at long in
+    let whole_long = ap length whole in
+    let moved = found_tail t front [] behind session_text (omega (arith, whole_long, long, some, length-append front behind, length-append p r)) session_tail (is ∙ ap (λ (l : List ℕ). Some (t, l)) (at ∙ ap (λ (l : List ℕ). l ++ behind) empty)) in
+    (session_text, Some n, number_again n (front ++ session_text) (codes "session") t moved fits few)
 
-worker_done_by : (front behind p : List ℕ) → behind_blanks (front ++ behind) ≡ p ++ behind → at_sign (behind_blanks (front ++ behind)) ≡ Err (Syntax (length behind)) → (more : List ℕ) × (worker (front ++ more) ≡ Ok session_text)
-worker_done_by front behind [] at e = absurd (at_sign_begins behind (sym (ap at_sign at) ∙ e))
+number_taken : (front behind r : List ℕ) (t : Token) (o : Option ℕ) → a_number t ≡ o → token_at (front ++ behind) ≡ Some (t, r) → token_then (front ++ behind) (taken o r) (λ n rest. read_at true (worker_behind (leb n 63) n) (front ++ behind) rest) ≡ Err (Syntax (length behind)) → NumberDone front
+number_taken front behind r t None fits is e = from_nothing front (none_before front behind (same_left (Option ℕ) (length (front ++ behind)) (length behind) e))
+number_taken front behind r t (Some n) fits is e = number_by front behind r t n (leb n 63) fits refl is e
+
+number_done : (front behind : List ℕ) (found : Scanned) → token_at (front ++ behind) ≡ found → token_then (front ++ behind) (wanted_in a_number found) (λ n rest. read_at true (worker_behind (leb n 63) n) (front ++ behind) rest) ≡ Err (Syntax (length behind)) → NumberDone front
+number_done front behind None is e = from_nothing front (none_before front behind (same_left (Option ℕ) (length (front ++ behind)) (length behind) e))
+number_done front behind (Some (t, r)) is e = number_taken front behind r t (a_number t) refl is e
+
+abbrev WorkerDone : List ℕ → Type 0
+WorkerDone front = (more : List ℕ) × (w : Option ℕ) × (read worker (front ++ more) ≡ Ok (w, codes "session"))
+
+sign_done : (c : ℕ) (front behind : List ℕ) → at_sign (c ∷ front ++ behind) ≡ Err (Syntax (length behind)) → (more : List ℕ) × (w : Option ℕ) × (at_sign (c ∷ front ++ more) ≡ Ok (w, codes "session"))
+sign_done c front behind e =
+    by_test (eqb c 64) (front ++ behind) number (made None (c ∷ front ++ behind)) (λ o. o ≡ Err (Syntax (length behind)) → (more : List ℕ) × (w : Option ℕ) × (at_sign (c ∷ front ++ more) ≡ Ok (w, codes "session")))
+    (λ is f. let (more, w, done_so) = number_done front behind (token_at (front ++ behind)) refl f in (more, w, rw is done_so)) (λ is f. absurd cc) e
+
+sign_begins : (behind : List ℕ) → at_sign behind ≡ Err (Syntax (length behind)) → ⊥
+sign_begins [] e = absurd cc
+sign_begins (byte ∷ behind) e =
+    by_test (eqb byte 64) behind number (made None (byte ∷ behind)) (λ o. o ≡ Err (Syntax (length (byte ∷ behind))) → ⊥)
+    (λ is f. let inside = local worker_number in let few = inside.stops behind (length (byte ∷ behind)) f in omega (arith, few)) (λ is f. absurd cc) e
+
+worker_done_by : (front behind p : List ℕ) → behind_blanks (front ++ behind) ≡ p ++ behind → at_sign (behind_blanks (front ++ behind)) ≡ Err (Syntax (length behind)) → WorkerDone front
+unfolding worker
+worker_done_by front behind [] at e = absurd (sign_begins behind (sym (ap at_sign at) ∙ e))
 worker_done_by front behind (c ∷ p) at e =
-    let (more, done) = at_sign_done c p behind (sym (ap at_sign at) ∙ e) in
-    (more, ap at_sign (blanks_at front behind more c p at) ∙ done)
+    let (more, w, done_so) = sign_done c p behind (sym (ap at_sign at) ∙ e) in
+    (more, w, ap at_sign (blanks_at front behind more c p at) ∙ done_so)
 
-worker_done : (front behind : List ℕ) → worker (front ++ behind) ≡ Err (Syntax (length behind)) → (more : List ℕ) × (worker (front ++ more) ≡ Ok session_text)
+worker_done : (front behind : List ℕ) → read worker (front ++ behind) ≡ Err (Syntax (length behind)) → WorkerDone front
+unfolding worker
 worker_done front behind e =
+    let inside = local (on_sign 64 worker_number (done None)) in
     let (blanks, same, skips) = blanks_of (front ++ behind) in
-    let (p, at) = longer_end front blanks behind (behind_blanks (front ++ behind)) same (local_at_sign.stops (behind_blanks (front ++ behind)) (length behind) e) in
+    let (p, at) = longer_end front blanks behind (behind_blanks (front ++ behind)) same (inside.stops (behind_blanks (front ++ behind)) (length behind) e) in
     worker_done_by front behind p at e
 
--- ---- lines that set no filter
-
-open_never : Open Nothing never
-open_never = record { passes = λ front rest behind line nil e. absurd cc; finishes = λ front behind e. absurd cc }
-
--- ---- commands
-
-open_inner : (read : Reading) → Form read → Open Nothing read
-open_inner read form = weaker Nothing nothing_tail read form.inner
-
-open_session : (read : Reading) → Form read → Open Nothing (natural ⋙ read)
-open_session read form = open_inner (natural ⋙ read) (form_both natural read form_natural form)
-
-open_places : Open Nothing (natural ⋙ keyword_or_end (codes "places"))
-open_places =
-    let first = form_natural in
-    let last = form_places in
-    open_both Nothing natural (keyword_or_end (codes "places")) first.local (local_keyword_or_end (codes "places")) first.inner (open_or_end (keyword (codes "places")) last) (end_skips (keyword (codes "places"))) (end_sample (keyword (codes "places"))) nothing_tail
+-- ---- lines
 
 module _ (A : Type 0) where
-  contents_verdict : {Y : Type 0} (read : Result Y BlobFault) → OpenVerdict Tail (contents_read read)
-  contents_verdict (Ok made) = open_ok Tail
-  contents_verdict (Err why) = tt
+  -- the line that begins so has no fault, or a 10,001st operation
+  abbrev Fine : Read (Opening A) → Type 0
+  Fine r = (fault_of A r ≡ None) ⊎ (fault_of A r ≡ Some (Limit TooMany))
 
-  open_on_contents : (t : Token) → OpenVerdict Tail (on_contents A t)
-  open_on_contents (word w) = tt
-  open_on_contents (integer negative n) = tt
-  open_on_contents (text t) = tt
-  open_on_contents (blob bytes) = cond_both (leb (length bytes) 1000000000) (contents_read (blob_at {A = A} bytes)) (exceeds TooLong) (OpenVerdict Tail) (λ e. contents_verdict (blob_at {A = A} bytes)) (λ e. tt)
-  open_on_contents (sign s) = tt
+  abbrev finished : Option ℕ → Read (Spelled A) → Read (Opening A)
+  finished w o = and_then o (λ said end. read (ending w said) end)
 
-  empty_blob : on_contents A (blob []) ≡ fits
-  unfolding blob_at
-  empty_blob = refl
+  end_read : (rest : List ℕ) → behind_blanks rest ≡ [] → read at_end rest ≡ Ok (tt, [])
+  end_read rest none = rw none refl
 
-  no_digits : decode_of [] ≡ Ok []
-  unfolding decode_pairs
-  no_digits = refl
+  filter_fine : (w : Option ℕ) (session : ℕ) (rest : List ℕ) → filter_of rest ≡ Ok all → fault_of A (Ok (Filtered w session, rest)) ≡ None
+  filter_fine w session rest is = ap (λ r. result_err (with_filter A w session (filter_read rest r))) is
 
-  blob_first : (rest : List ℕ) → token_at (120 ∷ (quote ∷ (quote ∷ rest))) ≡ Some (blob [], rest)
-  blob_first rest = blob_is [] (120 ∷ (quote ∷ (quote ∷ rest))) rest ([], refl, no_digits)
+  ended_fine : (w : Option ℕ) (value : Option (Spelled A)) (o : Read (Spelled A)) (line : List ℕ) → Behind Closing value line → Ended value o line → Fine (finished w o)
+  ended_fine w (Some (Whole command show)) o line nil (rest, is, same) =
+      inl (ap (λ p. fault_of A (finished w p)) is ∙ ap (λ r. fault_of A (and_then r (λ u end. Ok (Whole_line (record { worker = w; command = command; show = show }), end)))) (end_read rest (same ∙ ap behind_blanks nil)))
+  ended_fine w (Some (Filter session)) o line text (rest, is, same) =
+      inl (ap (λ p. fault_of A (finished w p)) is ∙ filter_fine w session rest (filter_behind rest (same ∙ ap behind_blanks text)))
+  ended_fine w None o line nil many = inr (ap (λ p. fault_of A (finished w p)) many)
 
-  form_contents : Form (contents A)
-  form_contents = form_next (on_contents A) (local_on_contents A) open_on_contents (record {
-    text = 120 ∷ (quote ∷ (quote ∷ []));
-    tail = λ line tail. (refl, refl);
-    reads = λ line tail. reached_at (contents A (32 ∷ (120 ∷ (quote ∷ (quote ∷ line))))) (Ok line) line (ap (scanned (on_contents A) (120 ∷ (quote ∷ (quote ∷ line)))) (blob_first line) ∙ ap (judged (120 ∷ (quote ∷ (quote ∷ line))) line) empty_blob) (reached line);
-  })
+  -- ---- the command
 
-  open_apply : Open Nothing (contents A ⋙ policy ⋙ report)
-  open_apply =
-      let first = form_contents in
-      let second = form_policy in
-      let last = form_report in
-      let end = open_or_end (a_word (any_of report_words)) last in
-      let skips = end_skips (a_word (any_of report_words)) in
-      let sample = end_sample (a_word (any_of report_words)) in
-      open_both Nothing (contents A) (policy ⋙ report) first.local (local_both policy report second.local local_report) first.inner
-      (open_both Nothing policy report second.local local_report second.inner end skips sample nothing_tail) (λ line. ap (λ (o : Outcome). o >>= report) (second.skips line))
-      (sample_both Nothing policy report second.local local_report second.inner end skips sample second.sample) nothing_tail
+  session_sample : Sample Closing (read (command {A = A}))
+  unfolding command
+  session_sample =
+      weaker_sample Closing closing_tail (read (command {A = A}))
+      (sample_fits a_word (one_of commands) (Word (codes "session")) 115 (101 ∷ 115 ∷ 115 ∷ 105 ∷ 111 ∷ 110 ∷ []) (codes "session") refl refl (word_token 115 (101 ∷ 115 ∷ 115 ∷ 105 ∷ 111 ∷ 110 ∷ []) refl refl refl) refl (Whole NewSession Plain) (λ before line. refl))
 
-  abbrev on_command : Token → Verdict
-  on_command = on_word (one_of (others A))
+  open_command : Open Closing (read (command {A = A}))
+  unfolding command
+  open_command = open_next Closing closing_tail a_word (one_of commands) open_commands (finish_of Closing (read (command {A = A})) session_sample)
 
-  all_local : (w : List ℕ) → LocalVerdict (one_of (others A) w)
-  all_local w = local_on_others A w
+  line_for : Option (Spelled A) → List ℕ
+  line_for None = []
+  line_for (Some (Whole said show)) = []
+  line_for (Some (Filter session)) = filter_text
 
-  open_commands : (w : List ℕ) → OpenVerdict Nothing (one_of (others A) w)
-  open_commands = open_one_of Nothing (others A) (open_inner (name ⋙ schema) (form_both name schema form_name form_schema), (open_inner operations form_operations, (open_session operations form_operations, (open_apply, (open_inner (name ⋙ row) (form_both name row form_name form_row), (open_inner name form_name, (open_inner name form_name, (open_ok Nothing, (open_inner natural form_natural, (open_session name form_name, (open_inner natural form_natural, (open_never, (open_session flag form_flag, (open_session flag form_flag, (open_inner natural form_natural, (open_session (name ⋙ name) (form_both name name form_name form_name), (open_places, (open_places, (open_places, tt)))))))))))))))))))
+  behind_for : (value : Option (Spelled A)) → Behind Closing value (line_for value)
+  unfolding line_for
+  behind_for None = refl
+  behind_for (Some (Whole said show)) = refl
+  behind_for (Some (Filter session)) = refl
 
-  command_verdict : (t : Token) → LocalVerdict (on_command t)
-  command_verdict = local_on_word (one_of (others A)) all_local
-
-  open_verdict : (t : Token) → OpenVerdict Nothing (on_command t)
-  open_verdict = open_on_word Nothing (one_of (others A)) open_commands
-
-  session_first : Sample Tail (other_command A)
-  session_first = session_sample on_command refl
-
-  session_finish : Finish Nothing (other_command A) []
-  session_finish =
-      let sample = session_first in
-      record { text = sample.text; tail = λ line nil. sample.tail line (nothing_tail line nil); ends = λ line nil. inl (sample.reads line (nothing_tail line nil)) }
-
-  open_command : Open Nothing (other_command A)
-  open_command = open_next Nothing nothing_tail on_command command_verdict open_verdict (local_here on_command command_verdict) session_finish
-
-  -- ---- lines
-
-  end_ok : (rest : List ℕ) → behind_blanks rest ≡ [] → at_end rest ≡ Ok []
-  end_ok rest e = ap (unless_end (λ here. Err (unexpected here))) e
-
-  end_refused : (here behind : List ℕ) → unless_end (λ l. Err (unexpected l)) here ≡ Err (Syntax (length behind)) → length here ≡ length behind
-  end_refused [] behind e = absurd cc
-  end_refused (c ∷ here) behind e = same_left (length (c ∷ here)) (length behind) e
-
-  abbrev said : Reading
-  said = other_command A ⋙ at_end
-
-  said_session : said session_text ≡ Ok []
-  unfolding token_at
-  said_session = refl
-
-  said_skips : (a b : List ℕ) → behind_blanks a ≡ behind_blanks b → said a ≡ said b
-  said_skips a b e = ap (λ (o : Outcome). o >>= at_end) (ap (right_here on_command) e)
-
-  said_ends : (o : Outcome) → Ends o [] → Ends (o >>= at_end) []
-  said_ends o (inl (rest, is, same)) = inl ([], ap (λ (p : Outcome). p >>= at_end) is ∙ end_ok rest same, refl)
-  said_ends o (inr many) = inr (ap (λ (p : Outcome). p >>= at_end) many)
+  session_fine : (w : Option ℕ) → Fine (finished w (read command (codes "session")))
+  unfolding command token_at
+  session_fine w = inl refl
 
   -- the rest of a line can be said, behind a space, or all of it was said
-  said_done : (front behind : List ℕ) (o : Outcome) → other_command A (front ++ behind) ≡ o → (o >>= at_end) ≡ Err (Syntax (length behind)) → (more : List ℕ) × Tail more × Goes front more × Ends (said (front ++ more)) []
-  said_done front behind (Err fault) is e =
+  abbrev SaidDone : Option ℕ → List ℕ → Type 0
+  SaidDone w front = (more : List ℕ) × Tail more × Fine (finished w (read command (front ++ more)))
+
+  end_left : (here : List ℕ) (left : ℕ) → by_end {Y = Unit {0}} (Ok (tt, [])) (λ l. Err (misfit l)) here ≡ Err (Syntax left) → length here ≡ left
+  end_left [] left e = absurd cc
+  end_left (c ∷ here) left e = same_left (Unit {0}) (length (c ∷ here)) left e
+
+  blank_front : (q behind mid : List ℕ) → mid ≡ q ++ behind → length (behind_blanks mid) ≡ length behind → behind_blanks q ≡ []
+  blank_front q behind mid at long =
+      let (blanks, same, skips) = blanks_of mid in
+      let (p, here) = longer_end q blanks behind (behind_blanks mid) (sym at ∙ same) (omega (arith, long)) in
+      let empty : p ≡ [] = same_end p behind (behind_blanks mid) here long in
+      let end : behind_blanks (q ++ behind) ≡ behind = sym (ap behind_blanks at) ∙ here ∙ ap (λ (l : List ℕ). l ++ behind) empty in
+      sym (ap behind_blanks (append-nil q)) ∙ only_blanks q behind [] end
+
+  whole_fault : (w : Option ℕ) (command : Command A) (show : Show A) (mid : List ℕ) (left : ℕ) (r : Read (Unit {0})) → read at_end mid ≡ r → and_then r (λ u end. Ok (Whole_line (record { worker = w; command = command; show = show }), end)) ≡ Err (Syntax left) → length (behind_blanks mid) ≡ left
+  whole_fault w command show mid left (Ok (u, end)) is e = absurd cc
+  whole_fault w command show mid left (Err fault) is e = end_left (behind_blanks mid) left (is ∙ refused_so (Unit {0}) (Opening A) fault (Syntax left) e)
+
+  said_done : (w : Option ℕ) (front behind : List ℕ) (o : Read (Spelled A)) → read command (front ++ behind) ≡ o → finished w o ≡ Err (Syntax (length behind)) → SaidDone w front
+  said_done w front behind (Err fault) is e =
       let known = open_command in
-      let more = known.finishes front behind (is ∙ e) in
-      (32 ∷ (more.text ++ []), more.tail [] refl, inr (more.text ++ [], refl), said_ends (other_command A (front ++ (32 ∷ (more.text ++ [])))) (more.ends [] refl))
-  said_done front behind (Ok mid) is e =
-      let known = local_other_command A in
-      let (a, same) = known.ends (front ++ behind) mid is in
-      let (q, at) = longer_end front a behind mid same (local_at_end.stops mid (length behind) e) in
+      let more = known.finishes front behind (is ∙ refused_so (Spelled A) (Opening A) fault (Syntax (length behind)) e) in
+      let line = line_for more.value in
+      (32 ∷ (more.text ++ line), more.tail line (behind_for more.value), ended_fine w more.value (read command (front ++ (32 ∷ (more.text ++ line)))) line (behind_for more.value) (more.ends line (behind_for more.value)))
+  said_done w front behind (Ok (Filter session, mid)) is e = absurd cc
+  said_done w front behind (Ok (Whole command_made show, mid)) is e =
+      let known = local (command {A = A}) in
+      let (a, same) = known.ends (front ++ behind) mid (Whole command_made show) is in
+      let long = whole_fault w command_made show mid (length behind) (read at_end mid) refl e in
       let (blanks, skipped, skips) = blanks_of mid in
-      let long = end_refused (behind_blanks mid) behind e in
-      let all_blank : behind_blanks q ≡ [] = blank_front q behind mid at long in
-      let reach = open_command.passes front q behind [] refl (is ∙ ap read_to at) in
-      ([], tt, inl (some_said front behind mid q at is), said_ends (other_command A (front ++ [])) (inl (reach.0, reach.1, reach.2 ∙ ap behind_blanks (append-nil q) ∙ all_blank)))
-    where
-      blank_front : (q behind mid : List ℕ) → mid ≡ q ++ behind → length (behind_blanks mid) ≡ length behind → behind_blanks q ≡ []
-      blank_front q behind mid at long =
-          let (blanks, same, skips) = blanks_of mid in
-          let (p, here) = longer_end q blanks behind (behind_blanks mid) (sym at ∙ same) (omega (arith, long)) in
-          let empty : p ≡ [] = same_end p behind (behind_blanks mid) here long in
-          let end : behind_blanks (q ++ behind) ≡ behind = sym (ap behind_blanks at) ∙ here ∙ ap (λ (l : List ℕ). l ++ behind) empty in
-          sym (ap behind_blanks (append-nil q)) ∙ only_blanks q behind [] end
+      let skipped_long = ap length skipped in
+      let (q, at) = longer_end front a behind mid same (omega (arith, long, skipped_long, length-append blanks (behind_blanks mid))) in
+      let known_too = open_command in
+      let reach = known_too.passes front q behind [] (Whole command_made show) refl (is ∙ ap (made (Whole command_made show)) at) in
+      ([], tt, ended_fine w (Some (Whole command_made show)) (read command (front ++ [])) [] refl (reach.0, reach.1, reach.2 ∙ ap behind_blanks (append-nil q) ∙ blank_front q behind mid at long))
 
-      some_said : (front behind mid q : List ℕ) → mid ≡ q ++ behind → other_command A (front ++ behind) ≡ Ok mid → 0 < length front
-      some_said (c ∷ front) behind mid q at is = omega arith
-      some_said [] behind mid q at is =
-          let known = local_other_command A in
-          let (a, same) = known.ends behind mid is in
-          let one = ap length same in
-          let two = ap length at in
-          let empty : q ≡ [] = no_length q (omega (arith, one, two, length-append a mid, length-append q behind)) in
-          absurd (never_idle Nothing nothing_tail on_command command_verdict open_verdict behind (is ∙ ap read_to (at ∙ ap (λ (l : List ℕ). l ++ behind) empty)))
+  -- ---- the whole line
 
-  line_behind : (front more : List ℕ) (q : List ℕ) → Reached (worker (front ++ more)) (q ++ more) → Ends (said (q ++ more)) [] → Ends (other_line A (front ++ more)) []
-  line_behind front more q (rest, is, same) ended = ends_at (other_line A (front ++ more)) (said (q ++ more)) [] (ap (λ (o : Outcome). o >>= said) is ∙ said_skips rest (q ++ more) same) ended
+  abbrev rest_read : Option ℕ → List ℕ → Read (Opening A)
+  rest_read w rest = finished w (read command rest)
 
-  line_done : (front behind : List ℕ) (o : Outcome) → worker (front ++ behind) ≡ o → (o >>= said) ≡ Err (Syntax (length behind)) → (more : List ℕ) × Ends (other_line A (front ++ more)) []
+  command_skips : (a b : List ℕ) → behind_blanks a ≡ behind_blanks b → read (command {A = A}) a ≡ read command b
+  unfolding command
+  command_skips a b e =
+      ap (λ (here : List ℕ). token_then here (wanted_in a_word (token_at here)) (λ t rest. read_at true (one_of (commands {A = A}) t) here rest)) e
+
+  abbrev said : Option ℕ → Grammar (Opening A)
+  said w = follows command (λ spelled. ending w spelled)
+
+  line_behind : (front more q : List ℕ) (w : Option ℕ) → Reached w (read worker (front ++ more)) (q ++ more) → Fine (rest_read w (q ++ more)) → Fine (and_then (read worker (front ++ more)) rest_read)
+  line_behind front more q w (rest, is, same) fine =
+      subst Fine (sym (ap (λ r. and_then r rest_read) is ∙ ap (finished w) (command_skips rest (q ++ more) same))) fine
+
+  line_done : (front behind : List ℕ) (o : Read (Option ℕ)) → read worker (front ++ behind) ≡ o → and_then o rest_read ≡ Err (Syntax (length behind)) → (more : List ℕ) × Fine (and_then (read worker (front ++ more)) rest_read)
   line_done front behind (Err fault) is e =
-      let (more, done) = worker_done front behind (is ∙ e) in
-      (more, inl ([], ap (λ (o : Outcome). o >>= said) done ∙ said_session, refl))
-  line_done front behind (Ok mid) is e =
-      let (a, same) = local_worker.ends (front ++ behind) mid is in
-      let known = local_both (other_command A) at_end (local_other_command A) local_at_end in
-      let (q, at) = longer_end front a behind mid same (known.stops mid (length behind) e) in
-      let (more, tail, goes, ended) = said_done q behind (other_command A (q ++ behind)) refl (sym (ap said at) ∙ e) in
-      (more, line_behind front more q (worker_moved front q behind more tail goes (is ∙ ap read_to at)) ended)
+      let (more, w, done_so) = worker_done front behind (is ∙ refused_so (Option ℕ) (Opening A) fault (Syntax (length behind)) e) in
+      (more, subst Fine (sym (ap (λ r. and_then r rest_read) done_so)) (session_fine w))
+  line_done front behind (Ok (w, mid)) is e =
+      let first = local worker in
+      let (a, same) = first.ends (front ++ behind) mid w is in
+      let few = said_stops w mid (length behind) e in
+      let (q, at) = longer_end front a behind mid same few in
+      let (more, tail, fine) = said_done w q behind (read command (q ++ behind)) refl (sym (ap (rest_read w) at) ∙ e) in
+      (more, line_behind front more q w (worker_moved front q behind more w tail (is ∙ ap (made w) at)) fine)
+    where
+      said_stops : (w : Option ℕ) (mid : List ℕ) (left : ℕ) → rest_read w mid ≡ Err (Syntax left) → left ≤ length mid
+      said_stops w mid left e = let whole = local (said w) in whole.stops mid left e
 
-  -- what is read of the line that sets no filter
-  ended_fault : (bytes : List ℕ) → Ends (other_line A bytes) [] → (line_fault A bytes ≡ None) ⊎ (line_fault A bytes ≡ Some (Limit TooMany))
-  unfolding line_fault
-  ended_fault bytes (inl (rest, is, same)) = inl (ap result_err (line_agrees A bytes (no_filter_in A bytes (Ok rest) is (λ f. absurd cc)) ∙ is))
-  ended_fault bytes (inr many) = inr (ap result_err (line_agrees A bytes (no_filter_in A bytes (Err (Limit TooMany)) many (λ f. absurd cc)) ∙ many))
-
-  pub unexpected_begins : (bytes : List ℕ) (left : ℕ) → HasSyntaxFault A bytes left → (SetsFilter bytes → ⊥) → BeginsLine A bytes left
-  unfolding line_fault BeginsLine
-  unexpected_begins bytes left e none =
-      let read = sym (line_agrees A bytes none) ∙ of_err A left (line A bytes) e in
-      let known = local_other_line A in
-      let few = known.stops bytes left read in
+  pub fault_begins : (bytes : List ℕ) (left : ℕ) → HasSyntaxFault A bytes left → (ReachesFilter A bytes → ⊥) → BeginsLine A bytes left
+  unfolding line_fault line_of_text BeginsLine opening
+  fault_begins bytes left e none =
+      let found = fault_in_opening A bytes left e none in
+      let whole_line = local (opening {A = A}) in
+      let few = whole_line.stops bytes left found in
       let n = length bytes - left in
       let whole : bytes ≡ take n bytes ++ drop n bytes = sym (take-append-drop n bytes) in
       let long : length (drop n bytes) ≡ left = omega (arith, few, length-drop n bytes) in
-      let (more, ended) = line_done (take n bytes) (drop n bytes) (worker (take n bytes ++ drop n bytes)) refl (ap (other_line A) (sym whole) ∙ read ∙ ap (λ (m : ℕ). Err (Syntax m)) (sym long)) in
-      (take n bytes, drop n bytes, whole, sym long, more, ended_fault (take n bytes ++ more) ended)
+      let (more, fine) = line_done (take n bytes) (drop n bytes) (read worker (take n bytes ++ drop n bytes)) refl (ap (read opening) (sym whole) ∙ found ∙ ap (λ (m : ℕ). Err (Syntax m)) (sym long)) in
+      (take n bytes, drop n bytes, whole, sym long, more, fine)

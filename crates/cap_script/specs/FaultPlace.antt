@@ -1,27 +1,17 @@
 -- At which token a line stops being that of a command.
-use Rattle.std.specs.Prelude.{◌≡◌, ◌⊎◌, ℕ, List, [], ◌∷◌, ◌++◌, length, Option, Some, None, Ok, codes}
-use Rattle.std.specs.Option.{option_map}
+use Rattle.std.specs.Prelude.{◌≡◌, ◌⊎◌, ℕ, List, ◌++◌, length, Option, Some, None, Ok}
 use Rattle.cap_value.specs.declared.refusal.Refusal.TheVariants.{TooMany}
-use Rattle.cap_script.specs.LineFaults.{line_fault, worker}
-use Rattle.cap_script.specs.Reading.{keyword, natural, ◌⋙◌}
-use Rattle.cap_script.specs.Scanning.{token_at}
-use Rattle.cap_script.specs.Tokens.{Token}
-use Rattle.cap_script.specs.declared.fault.LineFault.TheVariants.{Limit, Syntax}
-
--- the word, integer, text or blob that the text begins with
-abbrev pub first_token : List ℕ → Option Token
-first_token text = option_map (λ found. found.0) (token_at text)
-
--- both are empty, or they begin with the same byte and with the same token, or none
-abbrev pub BeginAlike : List ℕ → List ℕ → Type 0
-BeginAlike [] other = other ≡ []
-BeginAlike (byte ∷ rest) [] = ⊥
-BeginAlike (byte ∷ rest) (first ∷ more) =
-    (byte ≡ first) × (first_token (byte ∷ rest) ≡ first_token (first ∷ more))
+use Rattle.cap_language.specs.Grammar.{read}
+use Rattle.cap_language.specs.Places.{BeginAlike}
+use Rattle.cap_language.specs.declared.fault.LineFault.TheVariants.{Limit, Syntax}
+use Rattle.cap_script.specs.Language.{Filtered, opening}
+use Rattle.cap_script.specs.LineFaults.{line_fault}
 
 -- the line's filter is reached: its command is `filter`, and the session's number is read
-abbrev pub ReachesFilter : List ℕ → Type 0
-ReachesFilter line = (rest : List ℕ) × ((worker ⋙ keyword (codes "filter") ⋙ natural) line ≡ Ok rest)
+abbrev pub ReachesFilter : Type 0 → List ℕ → Type 0
+ReachesFilter A line =
+    (worker : Option ℕ) × (session : ℕ) × (rest : List ℕ)
+    × (read (opening {A = A}) line ≡ Ok (Filtered worker session, rest))
 
 -- the line has a fault of syntax, from whose token on it has this many bytes
 abbrev pub HasSyntaxFault : Type 0 → List ℕ → ℕ → Type 0

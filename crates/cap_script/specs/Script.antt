@@ -1,22 +1,20 @@
 -- How lines and workloads are spelled.
-use Rattle.std.specs.Prelude.{◌≡◌, ◌⊎◌, ◌≤◌, ℕ, Bool, true, false, ◌==◌, ◌||◌, length, List, [], ◌∷◌, ◌++◌}
-use Rattle.std.specs.Prelude.{Option, Some, None, is_some, ◌<◌}
+use Rattle.std.specs.Prelude.{◌≡◌, ◌⊎◌, ℕ, Bool, true, false, ◌==◌, ◌||◌, length, List, [], ◌∷◌, ◌++◌}
+use Rattle.std.specs.Prelude.{Option, Some, None, is_some, IsTrue, ◌<◌}
 use Rattle.std.specs.List.{list_any}
-use Rattle.cap_script.specs.Forms.{Form, ◌▸◌, Without}
-use Rattle.cap_script.specs.Commands.{SpelledCommand}
-use Rattle.cap_script.specs.Tokens.{Begins, begins, behind_blanks, integer, is_blank, Next, sign}
+use Rattle.cap_filter.specs.Grammar.{Spells as SpellsFilter}
+use Rattle.cap_filter.specs.Limits.{is_within_limits}
+use Rattle.cap_filter.specs.Rule.{Rule}
+use Rattle.cap_core.specs.declared.command.Command.TheVariants.{SetFilter}
+use Rattle.cap_language.specs.Grammar.{Spells}
+use Rattle.cap_language.specs.Tokens.{begins, behind_blanks}
+use Rattle.cap_script.specs.Language.{Ended, Filtered, Opening, opening}
 use Rattle.cap_script.specs.declared.line.Line.{Line}
+use Rattle.cap_script.specs.declared.line.Show.TheVariants.{Plain}
 
 -- an ignored line: `#` and a comment, or only spaces
 abbrev pub is_ignored : List ℕ → Bool
 is_ignored line = begins (λ byte. byte == 35) line || length (behind_blanks line) == 0
-
--- The worker: no `@`, or `@` and right after it a number of at most 63, and a space right after that.
-abbrev pub SpelledWorker : Option ℕ → Form
-SpelledWorker None = Without 64
-SpelledWorker (Some worker) = λ line rest.
-    (digits : List ℕ) × Next (sign 64) line digits × Begins (integer false worker) digits rest × (worker ≤ 63)
-    × (begins is_blank rest ≡ true)
 
 abbrev pub has_line_feed : List ℕ → Bool
 has_line_feed = list_any (λ byte. byte == 10)
@@ -34,40 +32,70 @@ IsCut text line rest =
     (has_line_feed line ≡ false) × ((text ≡ line ++ 10 ∷ rest) ⊎ ((text ≡ line) × (rest ≡ [])))
 
 module _ {A : Type 0} where
-  -- the worker, the command, and spaces to the end of the line
-  abbrev pub SpellsLine : Line A → List ℕ → Type 0
-  SpellsLine line text =
-      (rest : List ℕ) × (SpelledWorker line.worker ▸ SpelledCommand line.command line.show) text rest
-      × (behind_blanks rest ≡ [])
+  -- the line that sets this filter
+  abbrev pub filter_line : Option ℕ → ℕ → Rule → Line A
+  filter_line worker session filter =
+      record { worker = worker; command = SetFilter session filter; show = Plain }
+
+  -- the line that begins so: it has ended, or the rest of it spells the filter, with the limits or without
+  -- them
+  abbrev pub Closes : Bool → Line A → Opening A → List ℕ → Type 0
+  Closes limits line (Ended whole) rest = line ≡ whole
+  Closes limits line (Filtered worker session) rest =
+      (filter : Rule) × SpellsFilter rest filter × (limits ≡ true → IsTrue (is_within_limits filter))
+      × (line ≡ filter_line worker session filter)
+
+  -- the text of a line spells it, with the limits or without them
+  unfoldable pub LineSpelled : Bool → Line A → List ℕ → Type 0
+  LineSpelled limits line text =
+      (opened : Opening A) × (rest : List ℕ) × Spells limits opening opened text rest
+      × Closes limits line opened rest
 
   -- each line of the text is ignored, or spells the next command
+  abbrev pub LinesSpelled : Bool → List (Line A) → List (List ℕ) → Type 0
+  LinesSpelled limits [] [] = Unit {0}
+  LinesSpelled limits (line ∷ lines) [] = ⊥
+  LinesSpelled limits [] (text ∷ texts) = (is_ignored text ≡ true) × LinesSpelled limits [] texts
+  LinesSpelled limits (line ∷ lines) (text ∷ texts) =
+      ((is_ignored text ≡ true) × LinesSpelled limits (line ∷ lines) texts)
+      ⊎ (LineSpelled limits line text × LinesSpelled limits lines texts)
+
+  unfoldable pub ScriptSpelled : Bool → List (Line A) → List ℕ → Type 0
+  ScriptSpelled limits lines text =
+      (texts : List (List ℕ)) × AreLines texts text × LinesSpelled limits lines texts
+
+  -- the line spells this command, whether or not it is within the limits
+  abbrev pub SpellsLine : Line A → List ℕ → Type 0
+  SpellsLine = LineSpelled false
+
   abbrev pub SpellsLines : List (Line A) → List (List ℕ) → Type 0
-  SpellsLines [] [] = Unit {0}
-  SpellsLines (line ∷ lines) [] = ⊥
-  SpellsLines [] (text ∷ texts) = (is_ignored text ≡ true) × SpellsLines [] texts
-  SpellsLines (line ∷ lines) (text ∷ texts) =
-      ((is_ignored text ≡ true) × SpellsLines (line ∷ lines) texts)
-      ⊎ (SpellsLine line text × SpellsLines lines texts)
+  SpellsLines = LinesSpelled false
 
   -- the text spells these lines
-  unfoldable pub SpellsScript : List (Line A) → List ℕ → Type 0
-  SpellsScript lines text = (texts : List (List ℕ)) × AreLines texts text × SpellsLines lines texts
+  abbrev pub SpellsScript : List (Line A) → List ℕ → Type 0
+  SpellsScript = ScriptSpelled false
 
   -- the text spells this line and then the lines of the rest, or no line
-  abbrev pub IsRead : Option (Line A) → List ℕ → List ℕ → Type 0
-  IsRead None text rest = SpellsScript [] text
-  IsRead (Some line) text rest =
-      (lines : List (Line A)) → SpellsScript lines rest → SpellsScript (line ∷ lines) text
+  abbrev pub IsRead : Bool → Option (Line A) → List ℕ → List ℕ → Type 0
+  IsRead limits None text rest = ScriptSpelled limits [] text
+  IsRead limits (Some line) text rest =
+      (lines : List (Line A)) → ScriptSpelled limits lines rest → ScriptSpelled limits (line ∷ lines) text
 
   -- the first of the lines, with a rest that spells the others, or none where there is none
+  abbrev pub TakesFirstBy : Bool → Option (Line A) → List (Line A) → List ℕ → Type 0
+  TakesFirstBy limits None lines rest = lines ≡ []
+  TakesFirstBy limits (Some line) lines rest =
+      (others : List (Line A)) × (lines ≡ line ∷ others) × ScriptSpelled limits others rest
+
   abbrev pub TakesFirst : Option (Line A) → List (Line A) → List ℕ → Type 0
-  TakesFirst None lines rest = lines ≡ []
-  TakesFirst (Some line) lines rest =
-      (others : List (Line A)) × (lines ≡ line ∷ others) × SpellsScript others rest
+  TakesFirst = TakesFirstBy false
 
   -- there is a line, and the rest spells it and the others
+  abbrev pub IsLeftBy : Bool → List (Line A) → List ℕ → Type 0
+  IsLeftBy limits lines rest = (0 < length lines) × ScriptSpelled limits lines rest
+
   abbrev pub IsLeft : List (Line A) → List ℕ → Type 0
-  IsLeft lines rest = (0 < length lines) × SpellsScript lines rest
+  IsLeft = IsLeftBy false
 
   -- whether the first line begins with `@`
   abbrev pub begins_at : List (Line A) → Bool

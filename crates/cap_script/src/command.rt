@@ -1,264 +1,261 @@
-//! Reads commands. Each function but the first reads a command after its first word.
-ghost use Rattle.std.specs.Prelude.{◌≡◌, ◌≢◌, List, ℕ, OnErr, IfOk, IfErr, MatchOption, Some, codes};
-ghost use Rattle.cap_apply.specs.declared.policy.Answer.{Answer};
-ghost use Rattle.cap_apply.specs.declared.policy.Policy.{Policy};
-ghost use Rattle.cap_script.specs.Commands.{SpelledBlob, SpelledCommand, SpelledPolicy, SpelledReport};
-ghost use Rattle.cap_script.specs.Forms.{NotSpelled, Word};
-ghost use Rattle.cap_script.specs.LineFaults.{answer, command, commands, contents, name, operations, policy};
-ghost use Rattle.cap_script.specs.LineFaults.{report, row, schema};
-ghost use Rattle.cap_script.specs.LineLimits.{CommandWithin, SchemaWithin, ShowWithin};
-ghost use Rattle.cap_script.specs.Reading.{Reads, ◌⋙◌, behind, natural};
-ghost use Rattle.cap_script.specs.RefusedLines.{NoBlob, NoCommand, NoSchema};
-ghost use Rattle.cap_script.specs.Words.{answer_word, head_word, letters, report_word};
-ghost use Rattle.cap_script.specs.declared.line.Show.{Show};
+//! Reads commands. Each function but the first reads a command behind its first word.
+ghost use Rattle.std.specs.Prelude.{◌≡◌, None, Some, List, Bool, IfOk, MatchOption};
+ghost use Rattle.cap_language.specs.Grammar.{Reads, read};
+ghost use Rattle.cap_script.specs.Language.{answer, apply, command, commit, commit_at, contents, create};
+ghost use Rattle.cap_script.specs.Language.{flags_in};
+ghost use Rattle.cap_script.specs.Language.{get, key_letter, policy, report, save, scan, schema};
+ghost use Rattle.cap_script.specs.declared.command.Spelled.TheVariants.{Whole};
+ghost use Rattle.cap_script.specs.declared.line.Show.TheVariants.{Plain};
 
 use crate::Show;
-use crate::cursor::Cursor;
-use crate::fault::LineFault;
-use crate::operation::{batch, name};
-use crate::session_command::session_command;
-use crate::value::row_ref;
-use crate::words::{Head, answer_of, flags_of, head_of};
+use crate::operation::{batch, row_ref};
+use crate::session_command::{attach, changeset, diff, enable, indirect, patchset, restart};
 use cap_apply::{Answer, Policy};
 use cap_codec::{Contents, read_blob};
 use cap_core::Command;
+use cap_language::{Cursor, LineFault, name};
 use cap_row::Schema;
 use cap_txn::Batch;
-use cap_value::{AllocHandle, Refusal, VALUE_BYTES_MAX};
+use cap_value::{AllocHandle, OutOfMemory, Refusal, VALUE_BYTES_MAX};
 
-// Reads a command, and how its reply is printed.
+// What is spelled behind the worker.
+#[derive(Drop)]
+pub(crate) enum Spelled<A: AllocHandle> {
+    // A command, and how its reply is printed.
+    Whole(Command<A>, Show<A>),
+    // A filter of the session with this number. Its text is the rest of the line.
+    Filter(u64),
+}
+
+// A command whose reply is printed alone.
+pub(crate) fn plain<A: AllocHandle>(command: Command<A>) -> Spelled<A>
+    ensures { result ≡ Whole command Plain }
+{
+    Spelled::Whole(command, Show::Plain)
+}
+
+// Reads a command.
+#[tactic(auto, unfolding(crate::specs::Language::command))]
 pub(crate) fn command<A: AllocHandle>(
     alloc: A,
     cursor: &mut Cursor<'_>,
-) -> Result<(Command<A>, Show<A>), LineFault>
-    ensures next { IfOk result (λ made.
-        SpelledCommand made.0 made.1 cursor.old.rest.now cursor.new.rest.now) }
-    ensures within { IfOk result (λ made. CommandWithin made.0 × ShowWithin made.1) }
-    ensures none { IfErr result (λ fault. NoCommand A fault cursor.old.rest.now) }
-    ensures reads { Reads result cursor.new.rest.now (command A cursor.old.rest.now) }
+) -> Result<Spelled<A>, LineFault>
+    ensures reads { Reads result cursor.new.rest.now (read command cursor.old.rest.now) }
 {
     let word = cursor.word()?;
-    let head = head_of(word.text).ok_or(word.unexpected)?;
-    command_of(alloc, cursor, head)
-}
-
-// Reads the command that this word begins, and how its reply is printed.
-fn command_of<A: AllocHandle>(
-    alloc: A,
-    cursor: &mut Cursor<'_>,
-    head: Head,
-) -> Result<(Command<A>, Show<A>), LineFault>
-    ensures next { (line : List ℕ) → Word (head_word head) line cursor.old.rest.now
-        → IfOk result (λ made. SpelledCommand made.0 made.1 line cursor.new.rest.now) }
-    ensures within { IfOk result (λ made. CommandWithin made.0 × ShowWithin made.1) }
-    ensures none { (line : List ℕ) → Word (head_word head) line cursor.old.rest.now
-        → IfErr result (λ fault. NoCommand A fault line) }
-    ensures reads { Reads result cursor.new.rest.now
-        (behind (commands A) (head_word head) cursor.old.rest.now) }
-{
-    match head {
-        Head::Create => create(alloc, cursor),
-        Head::Commit => commit(alloc, cursor),
-        Head::CommitAt => commit_at(alloc, cursor),
-        Head::Apply => apply(alloc, cursor),
-        Head::Get => get(alloc, cursor),
-        Head::Scan => scan(alloc, cursor),
-        Head::Save => save(alloc, cursor),
-        Head::Session => Ok((Command::NewSession, Show::Plain)),
-        Head::OnSession(word) => session_command(alloc, cursor, word),
+    if word.is("create") {
+        create(alloc, cursor)
+    } else if word.is("commit") {
+        commit(alloc, cursor)
+    } else if word.is("commitat") {
+        commit_at(alloc, cursor)
+    } else if word.is("apply") {
+        apply(alloc, cursor)
+    } else if word.is("get") {
+        get(alloc, cursor)
+    } else if word.is("scan") {
+        scan(alloc, cursor)
+    } else if word.is("save") {
+        save(alloc, cursor)
+    } else if word.is("session") {
+        Ok(plain(Command::NewSession))
+    } else if word.is("drop") {
+        let session = cursor.natural()?;
+        Ok(plain(Command::DropSession { session }))
+    } else if word.is("attach") {
+        attach(alloc, cursor)
+    } else if word.is("attachall") {
+        let session = cursor.natural()?;
+        Ok(plain(Command::AttachAll { session }))
+    } else if word.is("filter") {
+        Ok(Spelled::Filter(cursor.natural()?))
+    } else if word.is("enable") {
+        enable(cursor)
+    } else if word.is("indirect") {
+        indirect(cursor)
+    } else if word.is("isempty") {
+        let session = cursor.natural()?;
+        Ok(plain(Command::IsEmpty { session }))
+    } else if word.is("diff") {
+        diff(alloc, cursor)
+    } else if word.is("changeset") {
+        changeset(cursor)
+    } else if word.is("patchset") {
+        patchset(cursor)
+    } else if word.is("restart") {
+        restart(cursor)
+    } else {
+        Err(word.misfit)
     }
 }
 
 // Reads a new table: `T F`.
-fn create<A: AllocHandle>(
-    alloc: A,
-    cursor: &mut Cursor<'_>,
-) -> Result<(Command<A>, Show<A>), LineFault>
-    ensures next { (line : List ℕ) → Word (codes "create") line cursor.old.rest.now
-        → IfOk result (λ made. SpelledCommand made.0 made.1 line cursor.new.rest.now) }
-    ensures within { IfOk result (λ made. CommandWithin made.0 × ShowWithin made.1) }
-    ensures none { (line : List ℕ) → Word (codes "create") line cursor.old.rest.now
-        → IfErr result (λ fault. NoCommand A fault line) }
-    ensures reads { Reads result cursor.new.rest.now ((name ⋙ schema) cursor.old.rest.now) }
+#[tactic(auto, unfolding(crate::specs::Language::create))]
+fn create<A: AllocHandle>(alloc: A, cursor: &mut Cursor<'_>) -> Result<Spelled<A>, LineFault>
+    ensures reads { Reads result cursor.new.rest.now (read create cursor.old.rest.now) }
 {
     let table = name(alloc, cursor)?;
     let schema = schema(alloc, cursor)?;
-    Ok((Command::CreateTable { table, schema }, Show::Plain))
+    Ok(plain(Command::CreateTable { table, schema }))
 }
 
 // Reads the columns of a table: one letter a column, `k` for a column of the primary key and `v` for another.
+#[tactic(auto, unfolding(crate::specs::Language::schema))]
 fn schema<A: AllocHandle>(alloc: A, cursor: &mut Cursor<'_>) -> Result<Schema<A>, LineFault>
-    ensures next { IfOk result (λ made. Word (letters made) cursor.old.rest.now cursor.new.rest.now) }
-    ensures within { IfOk result (λ made. SchemaWithin made) }
-    ensures none { IfErr result (λ fault. NoSchema fault cursor.old.rest.now) }
-    ensures reads { Reads result cursor.new.rest.now (schema cursor.old.rest.now) }
+    ensures reads { Reads result cursor.new.rest.now (read schema cursor.old.rest.now) }
 {
     let word = cursor.word()?;
-    let flags = flags_of(alloc, word.text)?.ok_or(word.unexpected)?;
-    Ok(Schema::new(alloc, flags.as_slice())?)
+    match flags_in(alloc, word.text)? {
+        Some(flags) => Ok(Schema::new(alloc, flags.as_slice())?),
+        None => Err(word.misfit),
+    }
+}
+
+// The key flags of the columns, if the word has only the letters `k` and `v`.
+fn flags_in<A: AllocHandle>(alloc: A, word: &str) -> Result<Option<Vec<bool, A>>, OutOfMemory>
+    ensures { IfOk result (λ found. MatchOption found (flags_in word.now ≡ None)
+        (λ flags. flags_in word.now ≡ Some flags.items)) }
+{
+    let mut flags = Vec::new(alloc);
+    for letter in word.as_bytes() {
+        let Some(flag) = key_letter(*letter) else {
+            return Ok(None);
+        };
+        flags.push(flag)?;
+    }
+    Ok(Some(flags))
+}
+
+// The key flag of a column, if the letter is `k` or `v`.
+fn key_letter(letter: u8) -> Option<bool>
+    ensures { result ≡ key_letter letter }
+{
+    match letter {
+        b'k' => Some(true),
+        b'v' => Some(false),
+        _ => None,
+    }
 }
 
 // Reads a batch without a base version: `OP ; OP ..`.
-fn commit<A: AllocHandle>(
-    alloc: A,
-    cursor: &mut Cursor<'_>,
-) -> Result<(Command<A>, Show<A>), LineFault>
-    ensures next { (line : List ℕ) → Word (codes "commit") line cursor.old.rest.now
-        → IfOk result (λ made. SpelledCommand made.0 made.1 line cursor.new.rest.now) }
-    ensures within { IfOk result (λ made. CommandWithin made.0 × ShowWithin made.1) }
-    ensures none { (line : List ℕ) → Word (codes "commit") line cursor.old.rest.now
-        → IfErr result (λ fault. NoCommand A fault line) }
-    ensures reads { Reads result cursor.new.rest.now (operations cursor.old.rest.now) }
+#[tactic(auto, unfolding(crate::specs::Language::commit))]
+fn commit<A: AllocHandle>(alloc: A, cursor: &mut Cursor<'_>) -> Result<Spelled<A>, LineFault>
+    ensures reads { Reads result cursor.new.rest.now (read commit cursor.old.rest.now) }
 {
     let batch = batch(alloc, cursor, Batch::blind(alloc))?;
-    Ok((Command::Commit(batch), Show::Plain))
+    Ok(plain(Command::Commit(batch)))
 }
 
 // Reads a batch with a base version: `N OP ; OP ..`.
-fn commit_at<A: AllocHandle>(
-    alloc: A,
-    cursor: &mut Cursor<'_>,
-) -> Result<(Command<A>, Show<A>), LineFault>
-    ensures next { (line : List ℕ) → Word (codes "commitat") line cursor.old.rest.now
-        → IfOk result (λ made. SpelledCommand made.0 made.1 line cursor.new.rest.now) }
-    ensures within { IfOk result (λ made. CommandWithin made.0 × ShowWithin made.1) }
-    ensures none { (line : List ℕ) → Word (codes "commitat") line cursor.old.rest.now
-        → IfErr result (λ fault. NoCommand A fault line) }
-    ensures reads { Reads result cursor.new.rest.now
-        ((natural ⋙ operations) cursor.old.rest.now) }
+#[tactic(auto, unfolding(crate::specs::Language::commit_at))]
+fn commit_at<A: AllocHandle>(alloc: A, cursor: &mut Cursor<'_>) -> Result<Spelled<A>, LineFault>
+    ensures reads { Reads result cursor.new.rest.now (read commit_at cursor.old.rest.now) }
 {
     let base = cursor.natural()?;
     let batch = batch(alloc, cursor, Batch::based(alloc, base))?;
-    Ok((Command::Commit(batch), Show::Plain))
+    Ok(plain(Command::Commit(batch)))
 }
 
 // Reads a blob, a policy, which is the answers to DATA, NOTFOUND and CONFLICT, and how the outcome is
 // printed: `x'..' D N C`.
-fn apply<A: AllocHandle>(
-    alloc: A,
-    cursor: &mut Cursor<'_>,
-) -> Result<(Command<A>, Show<A>), LineFault>
-    ensures next { (line : List ℕ) → Word (codes "apply") line cursor.old.rest.now
-        → IfOk result (λ made. SpelledCommand made.0 made.1 line cursor.new.rest.now) }
-    ensures within { IfOk result (λ made. CommandWithin made.0 × ShowWithin made.1) }
-    ensures none { (line : List ℕ) → Word (codes "apply") line cursor.old.rest.now
-        → IfErr result (λ fault. NoCommand A fault line) }
-    ensures reads { Reads result cursor.new.rest.now
-        ((contents A ⋙ policy ⋙ report) cursor.old.rest.now) }
+#[tactic(auto, unfolding(crate::specs::Language::apply))]
+fn apply<A: AllocHandle>(alloc: A, cursor: &mut Cursor<'_>) -> Result<Spelled<A>, LineFault>
+    ensures reads { Reads result cursor.new.rest.now (read apply cursor.old.rest.now) }
 {
     let blob = contents(alloc, cursor)?;
     let policy = policy(cursor)?;
     let show = report(cursor)?;
-    Ok((Command::Apply { blob, policy }, show))
+    Ok(Spelled::Whole(Command::Apply { blob, policy }, show))
 }
 
 // Reads the changeset or patchset in a blob, the next token.
+#[tactic(auto, unfolding(crate::specs::Language::contents))]
 fn contents<A: AllocHandle>(alloc: A, cursor: &mut Cursor<'_>) -> Result<Contents<A>, LineFault>
-    ensures next { IfOk result (λ made. SpelledBlob made cursor.old.rest.now cursor.new.rest.now) }
-    ensures none { IfErr result (λ fault. NoBlob A fault cursor.old.rest.now) }
-    ensures reads { Reads result cursor.new.rest.now (contents A cursor.old.rest.now) }
+    ensures reads { Reads result cursor.new.rest.now (read contents cursor.old.rest.now) }
 {
-    let bytes = cursor.blob(alloc)?;
+    let Some(bytes) = cursor.blob(alloc)? else {
+        return Err(cursor.misfit());
+    };
     if bytes.len() > VALUE_BYTES_MAX {
         return Err(LineFault::Limit(Refusal::TooLong));
     }
     Ok(read_blob(alloc, bytes.as_slice())?)
 }
 
+#[tactic(auto, unfolding(crate::specs::Language::policy))]
 fn policy(cursor: &mut Cursor<'_>) -> Result<Policy, LineFault>
-    ensures next { IfOk result (λ made. SpelledPolicy made cursor.old.rest.now cursor.new.rest.now) }
-    ensures none { OnErr result ((policy : Policy) → NotSpelled (SpelledPolicy policy) cursor.old.rest.now) }
-    ensures reads { Reads result cursor.new.rest.now (policy cursor.old.rest.now) }
+    ensures reads { Reads result cursor.new.rest.now (read policy cursor.old.rest.now) }
 {
+    let on_data = answer(cursor)?;
+    let on_notfound = answer(cursor)?;
+    let on_conflict = answer(cursor)?;
     Ok(Policy {
-        on_data: answer(cursor)?,
-        on_notfound: answer(cursor)?,
-        on_conflict: answer(cursor)?,
+        on_data,
+        on_notfound,
+        on_conflict,
     })
 }
 
 // Reads the answer to a conflict: `omit`, `replace` or `abort`.
+#[tactic(auto, unfolding(crate::specs::Language::answer))]
 fn answer(cursor: &mut Cursor<'_>) -> Result<Answer, LineFault>
-    ensures next { IfOk result (λ made. Word (answer_word made) cursor.old.rest.now cursor.new.rest.now) }
-    ensures none { OnErr result ((answer : Answer) →
-        NotSpelled (Word (answer_word answer)) cursor.old.rest.now) }
-    ensures reads { Reads result cursor.new.rest.now (answer cursor.old.rest.now) }
+    ensures reads { Reads result cursor.new.rest.now (read answer cursor.old.rest.now) }
 {
     let word = cursor.word()?;
-    answer_of(word.text).ok_or(word.unexpected)
+    if word.is("omit") {
+        Ok(Answer::Omit)
+    } else if word.is("replace") {
+        Ok(Answer::Replace)
+    } else if word.is("abort") {
+        Ok(Answer::Abort)
+    } else {
+        Err(word.misfit)
+    }
 }
 
 // Reads how the outcome of an apply is printed: `report`, `buffer`, or nothing for its counts alone.
+#[tactic(auto, unfolding(crate::specs::Language::report))]
 fn report<A: AllocHandle>(cursor: &mut Cursor<'_>) -> Result<Show<A>, LineFault>
-    ensures next { IfOk result (λ made. SpelledReport made cursor.old.rest.now cursor.new.rest.now) }
-    ensures within { IfOk result (λ made. ShowWithin made) }
-    ensures none { OnErr result ((show : Show A) → NotSpelled (SpelledReport show) cursor.old.rest.now) }
-    ensures reads { Reads result cursor.new.rest.now (report cursor.old.rest.now) }
+    ensures reads { Reads result cursor.new.rest.now (read report cursor.old.rest.now) }
 {
-    if cursor.takes_end() {
+    cursor.skip_spaces();
+    if cursor.rest.is_empty() {
         return Ok(Show::Plain);
     }
     let word = cursor.word()?;
-    report_of(word.text).ok_or(word.unexpected)
-}
-
-// What is printed of an apply beside its counts, if the word is `report` or `buffer`.
-fn report_of<A: AllocHandle>(word: &str) -> Option<Show<A>>
-    ensures { MatchOption result ((word.now ≢ codes "report") × (word.now ≢ codes "buffer"))
-        (λ show. report_word show ≡ Some word.now) }
-{
-    match word {
-        "report" => Some(Show::Report),
-        "buffer" => Some(Show::Buffer),
-        _ => None,
+    if word.is("report") {
+        Ok(Show::Report)
+    } else if word.is("buffer") {
+        Ok(Show::Buffer)
+    } else {
+        Err(word.misfit)
     }
 }
 
 // Reads a query for a row of a snapshot: `T REF`.
-fn get<A: AllocHandle>(
-    alloc: A,
-    cursor: &mut Cursor<'_>,
-) -> Result<(Command<A>, Show<A>), LineFault>
-    ensures next { (line : List ℕ) → Word (codes "get") line cursor.old.rest.now
-        → IfOk result (λ made. SpelledCommand made.0 made.1 line cursor.new.rest.now) }
-    ensures within { IfOk result (λ made. CommandWithin made.0 × ShowWithin made.1) }
-    ensures none { (line : List ℕ) → Word (codes "get") line cursor.old.rest.now
-        → IfErr result (λ fault. NoCommand A fault line) }
-    ensures reads { Reads result cursor.new.rest.now ((name ⋙ row) cursor.old.rest.now) }
+#[tactic(auto, unfolding(crate::specs::Language::get))]
+fn get<A: AllocHandle>(alloc: A, cursor: &mut Cursor<'_>) -> Result<Spelled<A>, LineFault>
+    ensures reads { Reads result cursor.new.rest.now (read get cursor.old.rest.now) }
 {
     let table = name(alloc, cursor)?;
     let row = row_ref(alloc, cursor)?;
-    Ok((Command::Read, Show::Get(table, row)))
+    Ok(Spelled::Whole(Command::Read, Show::Get(table, row)))
 }
 
 // Reads a query for all rows of a table: `T`.
-fn scan<A: AllocHandle>(
-    alloc: A,
-    cursor: &mut Cursor<'_>,
-) -> Result<(Command<A>, Show<A>), LineFault>
-    ensures next { (line : List ℕ) → Word (codes "scan") line cursor.old.rest.now
-        → IfOk result (λ made. SpelledCommand made.0 made.1 line cursor.new.rest.now) }
-    ensures within { IfOk result (λ made. CommandWithin made.0 × ShowWithin made.1) }
-    ensures none { (line : List ℕ) → Word (codes "scan") line cursor.old.rest.now
-        → IfErr result (λ fault. NoCommand A fault line) }
-    ensures reads { Reads result cursor.new.rest.now (name cursor.old.rest.now) }
+#[tactic(auto, unfolding(crate::specs::Language::scan))]
+fn scan<A: AllocHandle>(alloc: A, cursor: &mut Cursor<'_>) -> Result<Spelled<A>, LineFault>
+    ensures reads { Reads result cursor.new.rest.now (read scan cursor.old.rest.now) }
 {
     let table = name(alloc, cursor)?;
-    Ok((Command::Read, Show::Scan(table)))
+    Ok(Spelled::Whole(Command::Read, Show::Scan(table)))
 }
 
 // Reads the name under which the tables are saved: `B`.
-fn save<A: AllocHandle>(
-    alloc: A,
-    cursor: &mut Cursor<'_>,
-) -> Result<(Command<A>, Show<A>), LineFault>
-    ensures next { (line : List ℕ) → Word (codes "save") line cursor.old.rest.now
-        → IfOk result (λ made. SpelledCommand made.0 made.1 line cursor.new.rest.now) }
-    ensures within { IfOk result (λ made. CommandWithin made.0 × ShowWithin made.1) }
-    ensures none { (line : List ℕ) → Word (codes "save") line cursor.old.rest.now
-        → IfErr result (λ fault. NoCommand A fault line) }
-    ensures reads { Reads result cursor.new.rest.now (name cursor.old.rest.now) }
+#[tactic(auto, unfolding(crate::specs::Language::save))]
+fn save<A: AllocHandle>(alloc: A, cursor: &mut Cursor<'_>) -> Result<Spelled<A>, LineFault>
+    ensures reads { Reads result cursor.new.rest.now (read save cursor.old.rest.now) }
 {
     let database = name(alloc, cursor)?;
-    Ok((Command::SaveAs { database }, Show::Plain))
+    Ok(plain(Command::SaveAs { database }))
 }

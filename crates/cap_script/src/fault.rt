@@ -3,8 +3,8 @@ ghost use Rattle.std.specs.Prelude.{◌≡◌};
 ghost use Rattle.cap_script.specs.RefusedLines.{in_line};
 
 use cap_codec::BlobFault;
-use cap_value::{Fault, OutOfMemory, Refusal};
-use std::alloc::AllocFailed;
+use cap_language::LineFault;
+use cap_value::{Fault, Refusal};
 use thiserror::Error;
 
 /// Why a workload's text is refused. Lines are counted from 1, and bytes of a line from 0.
@@ -36,78 +36,17 @@ pub enum ScriptFault {
     },
 }
 
-// Why a line has no command.
-#[derive(Clone, Copy, Debug, PartialEq, Eq, Drop)]
-pub(crate) enum LineFault {
-    // A token is not expected where it stands: from its first byte on the line has this many bytes, none
-    // where it ends too early.
-    Syntax { left: usize },
-    // The next token exceeds a limit.
-    Limit(Refusal),
-    // The bytes of the next token are neither a changeset nor a patchset.
-    BadBlob(BlobFault),
-    OutOfMemory,
-}
-
-impl LineFault {
-    // The fault of the workload, where the line has this number and this text.
-    pub(crate) fn in_line(self, line: u64, text: &str) -> Fault<ScriptFault>
-        ensures { result ≡ in_line line text.now self }
-    {
-        match self {
-            LineFault::Syntax { left } => Fault::Refused(ScriptFault::Syntax {
-                line,
-                at: text.len().saturating_sub(left) as u64,
-            }),
-            LineFault::Limit(why) => Fault::Refused(ScriptFault::Limit { line, why }),
-            LineFault::BadBlob(fault) => Fault::Refused(ScriptFault::BadBlob { line, fault }),
-            LineFault::OutOfMemory => Fault::OutOfMemory,
-        }
-    }
-}
-
-impl From<OutOfMemory> for LineFault {
-    ghost use Rattle.cap_script.specs.declared.fault.LineFault.TheVariants.{OutOfMemory};
-
-    ghost from_gives = { λ _ fault. fault ≡ OutOfMemory };
-
-    fn from(_error: OutOfMemory) -> LineFault {
-        LineFault::OutOfMemory
-    }
-}
-
-impl<T: Drop> From<AllocFailed<T>> for LineFault {
-    ghost use Rattle.cap_script.specs.declared.fault.LineFault.TheVariants.{OutOfMemory};
-
-    ghost from_gives = { λ _ fault. fault ≡ OutOfMemory };
-
-    fn from(_error: AllocFailed<T>) -> LineFault {
-        LineFault::OutOfMemory
-    }
-}
-
-impl From<Fault<Refusal>> for LineFault {
-    ghost use Rattle.cap_script.specs.Refused.{limit_fault};
-
-    ghost from_gives = { λ refused fault. fault ≡ limit_fault refused };
-
-    fn from(fault: Fault<Refusal>) -> LineFault {
-        match fault {
-            Fault::Refused(why) => LineFault::Limit(why),
-            Fault::OutOfMemory => LineFault::OutOfMemory,
-        }
-    }
-}
-
-impl From<Fault<BlobFault>> for LineFault {
-    ghost use Rattle.cap_script.specs.Refused.{blob_fault};
-
-    ghost from_gives = { λ refused fault. fault ≡ blob_fault refused };
-
-    fn from(fault: Fault<BlobFault>) -> LineFault {
-        match fault {
-            Fault::Refused(fault) => LineFault::BadBlob(fault),
-            Fault::OutOfMemory => LineFault::OutOfMemory,
-        }
+// The fault of the workload, where the line with this number and this text has this fault.
+pub(crate) fn in_line(fault: LineFault, line: u64, text: &str) -> Fault<ScriptFault>
+    ensures { result ≡ in_line line text.now fault }
+{
+    match fault {
+        LineFault::Syntax { left } => Fault::Refused(ScriptFault::Syntax {
+            line,
+            at: text.len().saturating_sub(left) as u64,
+        }),
+        LineFault::Limit(why) => Fault::Refused(ScriptFault::Limit { line, why }),
+        LineFault::BadBlob(fault) => Fault::Refused(ScriptFault::BadBlob { line, fault }),
+        LineFault::OutOfMemory => Fault::OutOfMemory,
     }
 }

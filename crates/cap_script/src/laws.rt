@@ -8,8 +8,7 @@ ghost use Rattle.cap_script.specs.Script.{SpellsLine, SpellsScript};
 ghost use Rattle.cap_script.specs.declared.line.Line.{Line};
 
 use cap_apply::spelled_blobs_fit_their_columns;
-use cap_codec::no_bytes_spell_two;
-use cap_filter::{one_filter, spelled_is_read};
+use cap_filter::{one_filter, read_is_spelled, spelled_is_read};
 use cap_value::AllocHandle;
 
 /// A text spells at most one workload.
@@ -17,7 +16,6 @@ pub fn one_workload<A: AllocHandle>()
     ensures { (text : List ℕ) (a b : List (Line A)) → SpellsScript a text → SpellsScript b text → a ≡ b }
 {
     one_filter();
-    no_bytes_spell_two::<A>();
 }
 
 /// The blobs of the commands that a text spells fit their tables.
@@ -26,25 +24,24 @@ pub fn spelled_commands_fit<A: AllocHandle>()
         → All (λ line. BlobFits line.command) lines }
 {
     spelled_blobs_fit_their_columns::<A>();
+    cap_codec::read_is_spelled::<A>();
 }
 
 /// A line has no fault exactly where it spells a command within the limits.
 pub fn a_line_without_fault<A: AllocHandle>()
     ensures spelled { (text : List ℕ) → line_fault A text ≡ None
-        → (line : Line A) × SpellsLine line text × LineWithin line }
-    ensures read { (text : List ℕ) (line : Line A) → SpellsLine line text → LineWithin line
-        → line_fault A text ≡ None }
+        → (line : Line A) × SpellsLine line text × LineWithin line text }
+    ensures read { (text : List ℕ) (line : Line A) → LineWithin line text → line_fault A text ≡ None }
 {
     spelled_is_read();
-    cap_filter::read_is_spelled();
-    cap_codec::read_is_spelled::<A>();
+    read_is_spelled();
 }
 
 /// A fault of syntax depends on nothing behind its token: each line that has the same bytes before, and the
 /// same token there, has the fault there. Lines whose filter is reached are left out: in a filter's text
 /// `cap_filter::unfit_place` says which token does not fit.
 pub fn syntax_fault_lasts<A: AllocHandle>()
-    ensures { (line : List ℕ) (left : ℕ) → HasSyntaxFault A line left → (ReachesFilter line → ⊥)
+    ensures { (line : List ℕ) (left : ℕ) → HasSyntaxFault A line left → (ReachesFilter A line → ⊥)
         → KeepsSyntaxFault A line left }
 {}
 
@@ -52,6 +49,6 @@ pub fn syntax_fault_lasts<A: AllocHandle>()
 /// read, or has a 10,001st operation. Lines whose filter is reached are left out: of a filter's text
 /// `cap_filter::unfit_place` says the same.
 pub fn syntax_fault_place<A: AllocHandle>()
-    ensures { (line : List ℕ) (left : ℕ) → HasSyntaxFault A line left → (ReachesFilter line → ⊥)
+    ensures { (line : List ℕ) (left : ℕ) → HasSyntaxFault A line left → (ReachesFilter A line → ⊥)
         → BeginsLine A line left }
 {}

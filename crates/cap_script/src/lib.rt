@@ -3,7 +3,6 @@
 
 mod buffer_text;
 mod command;
-mod cursor;
 mod fault;
 mod fault_text;
 mod laws;
@@ -17,8 +16,6 @@ mod report_text;
 mod rest;
 mod row_text;
 mod session_command;
-mod token;
-mod value;
 mod words;
 mod workload;
 

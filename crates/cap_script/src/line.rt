@@ -1,19 +1,19 @@
 //! A line of a workload.
 ghost use Rattle.std.specs.Prelude.{◌≡◌, IfOk, IfErr};
-ghost use Rattle.cap_script.specs.LineFaults.{FaultIs, line_fault};
+ghost use Rattle.cap_filter.specs.Reading.{filter_of};
+ghost use Rattle.cap_script.specs.LineFaults.{FaultIs, MakesUnlessMemory, filter_read, line_fault};
+ghost use Rattle.cap_script.specs.LineFaults.{line_of_text};
 ghost use Rattle.cap_script.specs.LineLimits.{LineWithin};
 ghost use Rattle.cap_script.specs.RefusedLines.{NoLine};
 ghost use Rattle.cap_script.specs.Script.{SpellsLine, is_ignored};
 
-use crate::command::command;
-use crate::cursor::Cursor;
-use crate::fault::LineFault;
-use crate::token::after_blanks;
-use cap_codec::{KeyFlags, no_bytes_spell_two};
+use crate::command::{Spelled, command};
+use cap_codec::KeyFlags;
 use cap_core::Command;
-use cap_filter::one_filter;
+use cap_filter::{TableFilter, read_is_spelled, spelled_is_read, unfit_place};
+use cap_language::{Cursor, LineFault, after_blanks};
 use cap_table::RowRef;
-use cap_value::{AllocHandle, Name};
+use cap_value::{AllocHandle, Fault, Name, Refusal};
 
 /// How a reply is printed.
 #[derive(Drop)]
@@ -49,21 +49,54 @@ impl<A: AllocHandle> Line<A> {
     // The line with this text, which is not ignored.
     pub(crate) fn parse(alloc: A, text: &str) -> Result<Self, LineFault>
         ensures spelled { IfOk result (λ line. SpellsLine line text.now) }
-        ensures within { IfOk result (λ line. LineWithin line) }
+        ensures within { IfOk result (λ line. LineWithin line text.now) }
         ensures none { IfErr result (λ fault. NoLine A fault text.now) }
         ensures fault { FaultIs result (line_fault A text.now) }
     {
-        one_filter();
-        no_bytes_spell_two::<A>();
-        let mut cursor = Cursor::new(text);
+        read_is_spelled();
+        spelled_is_read();
+        unfit_place();
+        Self::read(alloc, text)
+    }
+
+    // What is read of the text, from left to right.
+    #[tactic(auto, unfolding(crate::specs::LineFaults::line_of_text, crate::specs::Language::opening))]
+    fn read(alloc: A, text: &str) -> Result<Self, LineFault>
+        ensures { MakesUnlessMemory result (line_of_text A text.now) }
+    {
+        let mut cursor = Cursor { rest: text };
         let worker = cursor.worker()?;
-        let (command, show) = command(alloc, &mut cursor)?;
-        cursor.end()?;
-        Ok(Line {
-            worker,
-            command,
-            show,
-        })
+        match command(alloc, &mut cursor)? {
+            Spelled::Whole(command, show) => {
+                cursor.end()?;
+                Ok(Line {
+                    worker,
+                    command,
+                    show,
+                })
+            }
+            Spelled::Filter(session) => {
+                let filter = filter(alloc, &cursor)?;
+                Ok(Line {
+                    worker,
+                    command: Command::SetFilter { session, filter },
+                    show: Show::Plain,
+                })
+            }
+        }
+    }
+}
+
+// Reads a filter, which is the rest of the line.
+fn filter<A: AllocHandle>(alloc: A, cursor: &Cursor<'_>) -> Result<TableFilter<A>, LineFault>
+    ensures { MakesUnlessMemory result
+        (filter_read cursor.now.rest.now (filter_of cursor.now.rest.now)) }
+{
+    match TableFilter::parse(alloc, cursor.rest) {
+        Ok(filter) => Ok(filter),
+        Err(Fault::Refused(Refusal::BadFilter { at })) => Err(cursor.misfit_at(at)),
+        Err(Fault::Refused(why)) => Err(LineFault::Limit(why)),
+        Err(Fault::OutOfMemory) => Err(LineFault::OutOfMemory),
     }
 }
 

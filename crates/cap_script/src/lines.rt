@@ -1,5 +1,6 @@
 //! An iterator over the lines of a workload.
-ghost use Rattle.std.specs.Prelude.{◌≡◌, ◌≤◌, ◌<◌, List, length, IfOk, IfErr, IfSome, MatchResult};
+ghost use Rattle.std.specs.Prelude.{◌≡◌, ◌==◌, ◌≤◌, ◌<◌, List, length, IfOk, IfErr, IfSome, MatchResult};
+ghost use Rattle.cap_language.specs.Tokens.{begins};
 ghost use Rattle.cap_script.specs.FirstRefused.{FaultOfFirstRefused, SpellsWithin};
 ghost use Rattle.cap_script.specs.RefusedLines.{NoLines};
 ghost use Rattle.cap_script.specs.Script.{IsLeft, SpellsScript, TakesFirst, begins_at};
@@ -8,7 +9,7 @@ ghost use Rattle.cap_script.specs.declared.line.Line.{Line};
 use crate::ScriptFault;
 use crate::line::Line;
 use crate::rest::Rest;
-use crate::token::{after_blanks, begins_worker};
+use cap_language::after_blanks;
 use cap_value::{AllocHandle, Fault, OutOfMemory};
 use std::marker::Model;
 
@@ -82,4 +83,11 @@ impl<'t, A: AllocHandle> Lines<'t, A> {
         };
         begins_worker(after_blanks(text))
     }
+}
+
+// Whether the text begins with `@`.
+fn begins_worker(text: &str) -> bool
+    ensures { result ≡ begins (λ byte. byte == 64) text.now }
+{
+    text.as_bytes().first() == Some(&b'@')
 }

@@ -3,6 +3,7 @@ ghost use Rattle.std.specs.Prelude.{IfOk, IfErr};
 ghost use Rattle.cap_script.specs.ReadLine.{HasFault, IsFound};
 
 use crate::ScriptFault;
+use crate::fault::in_line;
 use crate::line::{Line, is_ignored};
 use cap_value::{AllocHandle, Fault};
 
@@ -26,6 +27,6 @@ pub fn read_line<A: AllocHandle>(
     }
     match Line::parse(alloc, text) {
         Ok(line) => Ok(Some(line)),
-        Err(fault) => Err(fault.in_line(number, text)),
+        Err(fault) => Err(in_line(fault, number, text)),
     }
 }

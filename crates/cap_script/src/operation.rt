@@ -1,108 +1,128 @@
 //! Reads the operations of a transaction.
-ghost use Rattle.std.specs.Prelude.{◌≡◌, ◌≤◌, ◌<◌, ◌++◌, ◌∷◌, [], true, false, None, List, ℕ, length, IfOk};
-ghost use Rattle.std.specs.Prelude.{IfErr};
-ghost use Rattle.std.specs.Prelude.{OnOk, codes};
-ghost use Rattle.std.specs.List.{AllByRecursion};
-ghost use Rattle.cap_script.specs.Forms.{◌▸◌, Word};
-ghost use Rattle.cap_script.specs.Limits.{NameWithin, OpWithin, OpsWithin, ValueWithin};
-ghost use Rattle.cap_script.specs.LineFaults.{field, fields, name, operation, operations, verbs};
-ghost use Rattle.cap_script.specs.Operations.{SpelledAction, SpelledField, SpelledFields, SpelledOperation};
-ghost use Rattle.cap_script.specs.Operations.{SpelledOperations};
-ghost use Rattle.cap_script.specs.Reading.{Reads, ◌⋙◌, a_word, behind, keyword, one_of};
-ghost use Rattle.cap_script.specs.Refused.{Leaves, NoAction, NoField, NoFields, NoName, NoNextOperation};
-ghost use Rattle.cap_script.specs.Refused.{NoOperation, NoOperations};
-ghost use Rattle.cap_script.specs.Words.{verb_word};
+ghost use Rattle.std.specs.Prelude.{◌≡◌, ◌<◌, ◌++◌, ◌∷◌, [], true, false, None, length, nat_le, IfErr};
+ghost use Rattle.std.specs.Prelude.{MatchResult, OnOk};
+ghost use Rattle.cap_language.specs.Forms.{separated};
+ghost use Rattle.cap_language.specs.Grammar.{Reads, read, seen_items};
+ghost use Rattle.cap_script.specs.Language.{batch, cascaded, delete, field, fields, insert, operation, row};
+ghost use Rattle.cap_script.specs.Language.{update};
 
-use crate::cursor::Cursor;
-use crate::fault::LineFault;
-use crate::value::{row_ref, value, values};
-use crate::words::{Verb, verb_of};
 use cap_database::{Action, Assignments, Cause, Op};
-use cap_row::Row;
+use cap_language::{Cursor, LineFault, name, value, values};
+use cap_row::{Key, Row};
+use cap_table::RowRef;
 use cap_txn::{Batch, OPS_MAX};
-use cap_value::{AllocHandle, Name, Refusal, Value};
+use cap_value::{AllocHandle, Refusal, Value};
 
-// Reads the name of a table or of a saved database.
-pub(crate) fn name<A: AllocHandle>(alloc: A, cursor: &mut Cursor<'_>) -> Result<Name<A>, LineFault>
-    ensures next { IfOk result (λ made. Word made cursor.old.rest.now cursor.new.rest.now) }
-    ensures within { IfOk result (λ made. NameWithin made) }
-    ensures none { IfErr result (λ fault. NoName fault cursor.old.rest.now) }
-    ensures reads { Reads result cursor.new.rest.now (name cursor.old.rest.now) }
-    ensures left { length cursor.new.rest.now ≤ length cursor.old.rest.now }
+// Reads a reference to a row: `key(V,..)` or `loose N`. A key with a NULL is read as `loose 0`, which names
+// no row.
+#[tactic(auto, unfolding(crate::specs::Language::row))]
+pub(crate) fn row_ref<A: AllocHandle>(
+    alloc: A,
+    cursor: &mut Cursor<'_>,
+) -> Result<RowRef<A>, LineFault>
+    ensures reads { Reads result cursor.new.rest.now (read row cursor.old.rest.now) }
 {
     let word = cursor.word()?;
-    Ok(Name::new(alloc, word.text)?)
+    if word.is("key") {
+        let values = values(alloc, cursor)?;
+        return match Key::new(alloc, values)? {
+            Some(key) => Ok(RowRef::Key(key)),
+            None => Ok(RowRef::Loose(0)),
+        };
+    }
+    if word.is("loose") {
+        return Ok(RowRef::Loose(cursor.natural()?));
+    }
+    Err(word.misfit)
 }
 
 // Reads operations into an empty batch: `OP ; OP ..`.
+#[tactic(auto, unfolding(crate::specs::Language::batch))]
 pub(crate) fn batch<A: AllocHandle>(
     alloc: A,
     cursor: &mut Cursor<'_>,
-    mut batch: Batch<A>,
+    empty: Batch<A>,
 ) -> Result<Batch<A>, LineFault>
-    requires { batch.ops ≡ [] }
-    ensures base { IfOk result (λ made. made.base ≡ batch.base) }
-    ensures seen { IfOk result (λ made. made.seen ≡ None) }
-    ensures next { IfOk result (λ made.
-        SpelledOperations made.ops cursor.old.rest.now cursor.new.rest.now) }
-    ensures within { IfOk result (λ made. OpsWithin made.ops) }
-    ensures none { IfErr result (λ fault. NoOperations A fault cursor.old.rest.now) }
-    ensures reads { Reads result cursor.new.rest.now (operations cursor.old.rest.now) }
+    requires { (empty.ops ≡ []) × (empty.seen ≡ None) }
+    ensures reads { Reads result cursor.new.rest.now (read (batch empty.base) cursor.old.rest.now) }
 {
-    push(&mut batch, operation(alloc, cursor, false)?)?;
-    while cursor.takes_sign(';') {
-        let is_full = batch.ops().len() >= OPS_MAX;
-        push(&mut batch, operation(alloc, cursor, is_full)?)?;
+    let mut made = empty;
+    push(&mut made, operation(alloc, cursor, false)?)?;
+    while cursor.takes_sign(b';') {
+        let is_full = is_full(&made);
+        push(&mut made, operation(alloc, cursor, is_full)?)?;
     }
-    Ok(batch)
+    Ok(made)
 }
 
-// Appends the operation.
+// Whether there is no room behind these operations.
+fn is_full<A: AllocHandle>(batch: &Batch<A>) -> bool
+    ensures { result ≡ nat_le 10000 (length batch.now.ops) }
+{
+    batch.ops().len() >= OPS_MAX
+}
+
+// Appends the operation, for which there is room.
 fn push<A: AllocHandle>(batch: &mut Batch<A>, op: Op<A>) -> Result<(), LineFault>
+    requires { length batch.old.ops < 10000 }
     ensures base { OnOk result (batch.new.base ≡ batch.old.base) }
     ensures seen { OnOk result (batch.new.seen ≡ None) }
     ensures ops { OnOk result (batch.new.ops ≡ batch.old.ops ++ op ∷ []) }
-    ensures room { OnOk result (length batch.old.ops < 10000) }
-    ensures full { IfErr result (λ fault. Leaves fault (length batch.old.ops < 10000)) }
-    ensures memory { IfErr result (λ fault. length batch.old.ops < 10000 → fault ≡ LineFault.OutOfMemory) }
+    ensures memory { IfErr result (λ fault. fault ≡ LineFault.OutOfMemory) }
 {
     Ok(batch.push(op)?)
 }
 
 // Reads an operation: `insert T (V,..)`, `update T REF set I = V , ..` or `delete T REF`, after `cascade`
-// where that is its cause. Where the batch is full its first token exceeds the limit.
+// where that is its cause. Where there is no room for it, its first token exceeds the limit.
+#[tactic(auto, unfolding(crate::specs::Language::operation))]
 fn operation<A: AllocHandle>(
     alloc: A,
     cursor: &mut Cursor<'_>,
     is_full: bool,
 ) -> Result<Op<A>, LineFault>
-    ensures next { IfOk result (λ made. SpelledOperation made cursor.old.rest.now cursor.new.rest.now) }
-    ensures within { IfOk result (λ made. OpWithin made) }
-    ensures none { IfErr result (λ fault. NoNextOperation A fault is_full cursor.old.rest.now) }
-    ensures reads { Reads result cursor.new.rest.now (operation is_full cursor.old.rest.now) }
-    ensures left { length cursor.new.rest.now ≤ length cursor.old.rest.now }
+    ensures reads { Reads result cursor.new.rest.now (read (operation is_full) cursor.old.rest.now) }
+    ensures room { OnOk result (is_full ≡ false) }
 {
     let word = cursor.word()?;
-    match verb_of(word.text) {
-        Some(verb) => {
-            has_room(is_full)?;
-            operation_of(alloc, cursor, Cause::Direct, verb)
-        }
-        None => {
-            if word.text != "cascade" {
-                return Err(word.unexpected);
-            }
-            has_room(is_full)?;
-            cascaded(alloc, cursor)
-        }
+    if word.is("insert") {
+        has_room(is_full)?;
+        insert(alloc, cursor, Cause::Direct)
+    } else if word.is("update") {
+        has_room(is_full)?;
+        update(alloc, cursor, Cause::Direct)
+    } else if word.is("delete") {
+        has_room(is_full)?;
+        delete(alloc, cursor, Cause::Direct)
+    } else if word.is("cascade") {
+        has_room(is_full)?;
+        cascaded(alloc, cursor)
+    } else {
+        Err(word.misfit)
     }
 }
 
-// Refuses an operation where the batch is full.
+// Reads the operation behind the word `cascade`.
+#[tactic(auto, unfolding(crate::specs::Language::cascaded))]
+fn cascaded<A: AllocHandle>(alloc: A, cursor: &mut Cursor<'_>) -> Result<Op<A>, LineFault>
+    ensures reads { Reads result cursor.new.rest.now (read cascaded cursor.old.rest.now) }
+{
+    let word = cursor.word()?;
+    if word.is("insert") {
+        insert(alloc, cursor, Cause::Cascade)
+    } else if word.is("update") {
+        update(alloc, cursor, Cause::Cascade)
+    } else if word.is("delete") {
+        delete(alloc, cursor, Cause::Cascade)
+    } else {
+        Err(word.misfit)
+    }
+}
+
+// Refuses an operation where there is no room for it.
 fn has_room(is_full: bool) -> Result<(), LineFault>
-    ensures none { IfErr result (λ fault. Leaves fault (is_full ≡ false)) }
-    ensures room { OnOk result (is_full ≡ false) }
-    ensures full { IfErr result (λ fault. (is_full ≡ true) × (fault ≡ LineFault.Limit Refusal.TooMany)) }
+    ensures { MatchResult result (λ _. is_full ≡ false)
+        (λ fault. (is_full ≡ true) × (fault ≡ LineFault.Limit Refusal.TooMany)) }
 {
     if is_full {
         Err(LineFault::Limit(Refusal::TooMany))
@@ -111,102 +131,91 @@ fn has_room(is_full: bool) -> Result<(), LineFault>
     }
 }
 
-// Reads the operation after the word `cascade`.
-fn cascaded<A: AllocHandle>(alloc: A, cursor: &mut Cursor<'_>) -> Result<Op<A>, LineFault>
-    ensures next { (line : List ℕ) → Word (codes "cascade") line cursor.old.rest.now
-        → IfOk result (λ made. SpelledOperation made line cursor.new.rest.now) }
-    ensures within { IfOk result (λ made. OpWithin made) }
-    ensures none { (line : List ℕ) → Word (codes "cascade") line cursor.old.rest.now
-        → IfErr result (λ fault. NoOperation A fault line) }
-    ensures reads { Reads result cursor.new.rest.now (a_word (one_of verbs) cursor.old.rest.now) }
-    ensures left { length cursor.new.rest.now ≤ length cursor.old.rest.now }
-{
-    let word = cursor.word()?;
-    let verb = verb_of(word.text).ok_or(word.unexpected)?;
-    operation_of(alloc, cursor, Cause::Cascade, verb)
-}
-
-// Reads the operation that the verb begins.
-fn operation_of<A: AllocHandle>(
+// Reads a new row of a table: `T (V,..)`.
+#[tactic(auto, unfolding(crate::specs::Language::insert))]
+fn insert<A: AllocHandle>(
     alloc: A,
     cursor: &mut Cursor<'_>,
     cause: Cause,
-    verb: Verb,
 ) -> Result<Op<A>, LineFault>
-    ensures cause { IfOk result (λ made. made.cause ≡ cause) }
-    ensures next { (line : List ℕ) → Word (verb_word verb) line cursor.old.rest.now
-        → IfOk result (λ made. SpelledAction made.table made.action line cursor.new.rest.now) }
-    ensures within { IfOk result (λ made. OpWithin made) }
-    ensures none { (line : List ℕ) → Word (verb_word verb) line cursor.old.rest.now
-        → IfErr result (λ fault. NoAction A fault line) }
-    ensures reads { Reads result cursor.new.rest.now (behind verbs (verb_word verb) cursor.old.rest.now) }
-    ensures left { length cursor.new.rest.now ≤ length cursor.old.rest.now }
+    ensures reads { Reads result cursor.new.rest.now (read (insert cause) cursor.old.rest.now) }
 {
     let table = name(alloc, cursor)?;
-    match verb {
-        Verb::Insert => {
-            let row = Row::new(values(alloc, cursor)?)?;
-            let action = Action::Insert(row);
-            Ok(Op {
-                table,
-                cause,
-                action,
-            })
-        }
-        Verb::Update => {
-            let row = row_ref(alloc, cursor)?;
-            let action = Action::Update(row, assignments(alloc, cursor)?);
-            Ok(Op {
-                table,
-                cause,
-                action,
-            })
-        }
-        Verb::Delete => {
-            let action = Action::Delete(row_ref(alloc, cursor)?);
-            Ok(Op {
-                table,
-                cause,
-                action,
-            })
-        }
-    }
+    let action = Action::Insert(Row::new(values(alloc, cursor)?)?);
+    Ok(Op {
+        table,
+        cause,
+        action,
+    })
+}
+
+// Reads a row of a table and what is set in it: `T REF set I = V , ..`.
+#[tactic(auto, unfolding(crate::specs::Language::update))]
+fn update<A: AllocHandle>(
+    alloc: A,
+    cursor: &mut Cursor<'_>,
+    cause: Cause,
+) -> Result<Op<A>, LineFault>
+    ensures reads { Reads result cursor.new.rest.now (read (update cause) cursor.old.rest.now) }
+{
+    let table = name(alloc, cursor)?;
+    let row = row_ref(alloc, cursor)?;
+    let action = Action::Update(row, fields(alloc, cursor)?);
+    Ok(Op {
+        table,
+        cause,
+        action,
+    })
+}
+
+// Reads a row of a table that is deleted: `T REF`.
+#[tactic(auto, unfolding(crate::specs::Language::delete))]
+fn delete<A: AllocHandle>(
+    alloc: A,
+    cursor: &mut Cursor<'_>,
+    cause: Cause,
+) -> Result<Op<A>, LineFault>
+    ensures reads { Reads result cursor.new.rest.now (read (delete cause) cursor.old.rest.now) }
+{
+    let table = name(alloc, cursor)?;
+    let action = Action::Delete(row_ref(alloc, cursor)?);
+    Ok(Op {
+        table,
+        cause,
+        action,
+    })
 }
 
 // Reads the assignments of an update: `set I = V , ..`.
+#[tactic(auto, unfolding(crate::specs::Language::fields))]
+fn fields<A: AllocHandle>(alloc: A, cursor: &mut Cursor<'_>) -> Result<Assignments<A>, LineFault>
+    ensures reads { Reads result cursor.new.rest.now (read fields cursor.old.rest.now) }
+{
+    cursor.keyword("set")?;
+    Ok(Assignments::new(assignments(alloc, cursor)?))
+}
+
 fn assignments<A: AllocHandle>(
     alloc: A,
     cursor: &mut Cursor<'_>,
-) -> Result<Assignments<A>, LineFault>
-    ensures next { IfOk result (λ made.
-        (Word (codes "set") ▸ SpelledFields made) cursor.old.rest.now cursor.new.rest.now) }
-    ensures within { IfOk result (λ made. AllByRecursion (λ field. ValueWithin field.1) made) }
-    ensures none { IfErr result (λ fault. NoFields A fault cursor.old.rest.now) }
-    ensures reads { Reads result cursor.new.rest.now
-        ((keyword (codes "set") ⋙ fields) cursor.old.rest.now) }
-    ensures left { length cursor.new.rest.now ≤ length cursor.old.rest.now }
+) -> Result<Vec<(usize, Value<A>), A>, LineFault>
+    ensures reads { Reads (seen_items result) cursor.new.rest.now
+        (read (separated 44 (λ _. field)) cursor.old.rest.now) }
 {
-    cursor.keyword("set")?;
     let mut fields = Vec::new(alloc);
-    fields.push(assignment(alloc, cursor)?)?;
-    while cursor.takes_sign(',') {
-        fields.push(assignment(alloc, cursor)?)?;
+    fields.push(field(alloc, cursor)?)?;
+    while cursor.takes_sign(b',') {
+        fields.push(field(alloc, cursor)?)?;
     }
-    Ok(Assignments::new(fields))
+    Ok(fields)
 }
 
 // Reads a column number, from 0, and its new value: `I = V`.
-fn assignment<A: AllocHandle>(
-    alloc: A,
-    cursor: &mut Cursor<'_>,
-) -> Result<(usize, Value<A>), LineFault>
-    ensures next { IfOk result (λ made. SpelledField made cursor.old.rest.now cursor.new.rest.now) }
-    ensures within { IfOk result (λ made. ValueWithin made.1) }
-    ensures none { IfErr result (λ fault. NoField A fault cursor.old.rest.now) }
-    ensures reads { Reads result cursor.new.rest.now (field cursor.old.rest.now) }
-    ensures left { length cursor.new.rest.now ≤ length cursor.old.rest.now }
+#[tactic(auto, unfolding(crate::specs::Language::field))]
+fn field<A: AllocHandle>(alloc: A, cursor: &mut Cursor<'_>) -> Result<(usize, Value<A>), LineFault>
+    ensures reads { Reads result cursor.new.rest.now (read field cursor.old.rest.now) }
 {
     let column = cursor.natural()? as usize;
-    cursor.sign('=')?;
+    cursor.sign(b'=')?;
     Ok((column, value(alloc, cursor)?))
 }

@@ -1,17 +1,17 @@
 //! The part of a workload's text that is left to parse.
-ghost use Rattle.std.specs.Prelude.{◌≡◌, ◌+◌, ◌≤◌, ◌<◌, ◌^◌, ◌++◌, ◌∷◌, List, [], false, length};
+ghost use Rattle.std.specs.Prelude.{◌≡◌, ◌+◌, ◌≤◌, ◌<◌, ◌^◌, ◌++◌, ◌∷◌, Bool, List, [], false, length};
 ghost use Rattle.std.specs.Prelude.{IfOk, IfErr, IfSome, MatchOption, MatchResult};
 ghost use Rattle.cap_script.specs.FirstRefused.{IsFirstRefused, FaultOfFirstRefused, SpellsWithin};
-ghost use Rattle.cap_script.specs.LineLimits.{LineWithin};
 ghost use Rattle.cap_script.specs.RefusedLines.{NoLines};
-ghost use Rattle.cap_script.specs.Script.{IsCut, IsLeft, IsRead, SpellsScript, TakesFirst};
+ghost use Rattle.cap_script.specs.Script.{IsCut, IsLeftBy, IsRead, ScriptSpelled, TakesFirstBy};
 ghost use Rattle.cap_script.specs.Script.{has_line_feed, is_ignored};
 ghost use Rattle.cap_script.specs.declared.fault.ScriptFault.{ScriptFault};
 ghost use Rattle.cap_script.specs.declared.line.Line.{Line};
 
 use crate::ScriptFault;
-use crate::laws::one_workload;
+use crate::fault::in_line;
 use crate::line::{Line, is_ignored};
+use cap_filter::one_filter;
 use cap_value::{AllocHandle, Fault};
 
 // What is left of a workload's text.
@@ -37,23 +37,23 @@ impl<'t> Rest<'t> {
         &mut self,
         alloc: A,
     ) -> Result<Option<Line<A>>, Fault<ScriptFault>>
-        ensures read { IfOk result (λ found. IsRead found self.old.text.now self.new.text.now) }
-        ensures within { IfOk result (λ found. IfSome found (λ line. LineWithin line)) }
+        ensures read { IfOk result (λ found. (limits : Bool)
+            → IsRead limits found self.old.text.now self.new.text.now) }
         ensures none { IfErr result (λ fault. NoLines A fault self.old.text.now) }
         ensures first { IfErr result (λ fault.
             FaultOfFirstRefused A self.old.number fault self.old.text.now) }
         ensures later { IfOk result (λ found. IfSome found (λ line. (fault : ScriptFault)
             → IsFirstRefused A self.new.number fault self.new.text.now
             → IsFirstRefused A self.old.number fault self.old.text.now)) }
-        ensures next { (lines : List (Line A)) → SpellsScript lines self.old.text.now
+        ensures next { (limits : Bool) (lines : List (Line A)) → ScriptSpelled limits lines self.old.text.now
             → MatchResult result
-            (λ found. TakesFirst found lines self.new.text.now)
-            (λ fault. IsLeft lines self.new.text.now) }
+            (λ found. TakesFirstBy limits found lines self.new.text.now)
+            (λ fault. IsLeftBy limits lines self.new.text.now) }
         ensures kept { SpellsWithin A self.old.text.now → SpellsWithin A self.new.text.now }
         ensures left { IfOk result (λ found. IfSome found (λ line.
             length self.new.text.now < length self.old.text.now)) }
     {
-        one_workload::<A>();
+        one_filter();
         let Some((text, behind)) = self.next_text::<A>() else {
             return Ok(None);
         };
@@ -63,7 +63,7 @@ impl<'t> Rest<'t> {
                 self.number += 1;
                 Ok(Some(line))
             }
-            Err(fault) => Err(fault.in_line(self.number, text)),
+            Err(fault) => Err(in_line(fault, self.number, text)),
         }
     }
 
@@ -71,10 +71,10 @@ impl<'t> Rest<'t> {
     pub(crate) fn next_text<A: AllocHandle>(&mut self) -> Option<(&'t str, &'t str)>
         ensures here { MatchOption result (self.new.text.now ≡ [])
             (λ parts. IsCut self.new.text.now parts.0.now parts.1.now × (is_ignored parts.0.now ≡ false)) }
-        ensures passed { (lines : List (Line A)) → SpellsScript lines self.old.text.now
-            → SpellsScript lines self.new.text.now }
-        ensures back { (lines : List (Line A)) → SpellsScript lines self.new.text.now
-            → SpellsScript lines self.old.text.now }
+        ensures passed { (limits : Bool) (lines : List (Line A))
+            → ScriptSpelled limits lines self.old.text.now → ScriptSpelled limits lines self.new.text.now }
+        ensures back { (limits : Bool) (lines : List (Line A))
+            → ScriptSpelled limits lines self.new.text.now → ScriptSpelled limits lines self.old.text.now }
         ensures first { (fault : ScriptFault) → IsFirstRefused A self.new.number fault self.new.text.now
             → IsFirstRefused A self.old.number fault self.old.text.now }
         ensures left { length self.new.text.now ≤ length self.old.text.now }

@@ -24,7 +24,7 @@ pub struct Workload<A: AllocHandle> {
 pub fn parse<A: AllocHandle>(alloc: A, text: &str) -> Result<Workload<A>, Fault<ScriptFault>>
     // The text spells the workload, which is within the limits.
     ensures spelled { IfOk result (λ workload. SpellsScript workload.lines.items text.now) }
-    ensures within { IfOk result (λ workload. AreWithinLimits workload.lines.items) }
+    ensures within { IfOk result (λ workload. AreWithinLimits workload.lines.items text.now) }
     // A text that spells lines within the limits is not refused.
     ensures none { IfErr result (λ fault. NoLines A fault text.now) }
     // A fault is that of the first line that is neither ignored nor a command within the limits.

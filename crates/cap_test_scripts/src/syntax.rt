@@ -12,7 +12,7 @@ use cap_value::AllocHandle;
 pub fn an_unknown_command<A: AllocHandle>()
     ensures lasts { KeepsSyntaxFault A (codes "frob") 4 }
     ensures place { BeginsLine A (codes "frob") 4 }
-    ensures none { (line : Line A) → SpellsLine line (codes "frob") → LineWithin line → ⊥ }
+    ensures none { (line : Line A) → LineWithin line (codes "frob") → ⊥ }
 {
     syntax_fault_lasts::<A>();
     syntax_fault_place::<A>();
@@ -30,7 +30,7 @@ pub fn a_filter_without_a_session<A: AllocHandle>()
 
 /// The line `session`, which has no fault.
 pub fn a_new_session<A: AllocHandle>()
-    ensures { (line : Line A) × SpellsLine line (codes "session") × LineWithin line }
+    ensures { (line : Line A) × SpellsLine line (codes "session") × LineWithin line (codes "session") }
 {
     a_line_without_fault::<A>();
 }

@@ -1,4 +1,4 @@
-use Rattle.cap_script.proofs.FilterLaw.{fault_kept}
+use Rattle.cap_script.proofs.PlaceLaw.{fault_kept}
 use Rattle.cap_script.proofs.laws.syntax_fault_lasts.Goals as goal
 
 pub returns : goal.returns

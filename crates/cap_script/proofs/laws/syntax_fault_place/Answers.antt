@@ -1,4 +1,4 @@
-use Rattle.cap_script.proofs.FilterLaw.{fault_begins}
+use Rattle.cap_script.proofs.OpenLaw.{fault_begins}
 use Rattle.cap_script.proofs.laws.syntax_fault_place.Goals as goal
 
 pub returns : goal.returns

@@ -8,6 +8,6 @@ pub returns-in-Err-clause-refused : goal.returns-in-Err-clause-refused
 returns-in-Err-clause-refused g c = record {
   not_ignored = search rules;
   numbered = rw c.in_line.ensures (numbered c.in-Err.fault c.args.number c.args.text.now);
-  none = λ line spells. rw c.in_line.ensures (in_line_leaves c.in-Err.fault c.args.number c.args.text.now (LineWithin line) (c.in-Err.ensures.none line spells));
+  none = λ line spells. rw c.in_line.ensures (in_line_leaves c.in-Err.fault c.args.number c.args.text.now (LineWithin line c.args.text.now) (c.in-Err.ensures.none line spells));
   why = rw c.in_line.ensures (fault_in_line g.row.A.Denot c.in-Err.fault c.args.number c.args.text.now c.in-Err.ensures.fault);
 }

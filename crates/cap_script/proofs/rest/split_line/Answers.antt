@@ -1,6 +1,6 @@
 use Rattle.std.proofs.Common.{arith}
 use Rattle.std.proofs.lemmas.Str.Pattern.{split_once_first}
-use Rattle.cap_script.proofs.TokenLemmas.{parts_at}
+use Rattle.cap_script.proofs.CutLemmas.{parts_at}
 use Rattle.cap_script.proofs.rest.split_line.Goals as goal
 
 pub returns : goal.returns

@@ -1,5 +1,6 @@
-use Rattle.std.proofs.Common.{ℕ, List, [], Option, subst}
-use Rattle.cap_script.specs.FirstRefused.{IsFirstRefused, FaultOfFirstRefused}
+use Rattle.std.proofs.Common.{ℕ, Bool, true, false, List, [], Option, subst, sym}
+use Rattle.cap_script.specs.FirstRefused.{IsFirstRefused, FaultOfFirstRefused, SpellsWithin}
+use Rattle.cap_script.specs.LineLimits.{AreWithinLimits}
 use Rattle.cap_script.specs.RefusedLines.{NoLines}
 use Rattle.cap_script.specs.Script.{IsRead, SpellsScript}
 use Rattle.cap_script.specs.declared.line.Line.{Line}
@@ -9,35 +10,47 @@ use Rattle.cap_script.proofs.lines.Lines.new.Goals as goal
 
 pub loop-line-init : goal.loop-line-init
 loop-line-init g c = (
-  λ lines spelled within. (lines, subst (λ (t : List ℕ). SpellsScript lines t) c.new-rest.ensures.text spelled, within),
-  λ lines spelled. (lines, rw c.new-rest.ensures.text spelled, λ within. within),
+  λ lines spelled within. (lines, subst (λ (t : List ℕ). SpellsScript lines t) c.new-rest.ensures.text spelled, subst (λ (t : List ℕ). AreWithinLimits lines t) c.new-rest.ensures.text within),
+  λ lines spelled. (lines, rw c.new-rest.ensures.text spelled, λ within. rw c.new-rest.ensures.text within),
   λ why so. subst (λ (t : List ℕ). IsFirstRefused g.row.A.Denot 1 why t) c.new-rest.ensures.text (subst (λ (n : ℕ). IsFirstRefused g.row.A.Denot n why c.new-rest.result.text.now) c.new-rest.ensures.number so),
 )
 
 pub loop-line-preserved : goal.loop-line-preserved
 loop-line-preserved g c =
-    one_line_more g.row.A.Denot c.in-Some._line c.in_ok-_line.field-0 c.loop-line.rest.number c.read.new.self.number c.loop-line.rest.text.now c.read.new.self.text.now c.args.text.now c.in-Some.is c.in_ok-_line.ensures.read c.in_ok-_line.ensures.within
+    one_line_more g.row.A.Denot c.in-Some._line c.in_ok-_line.field-0 c.loop-line.rest.number c.read.new.self.number c.loop-line.rest.text.now c.read.new.self.text.now c.args.text.now c.in-Some.is c.in_ok-_line.ensures.read
     c.in_ok-_line.ensures.next c.in_ok-_line.ensures.later c.loop-line.invariant
 
 pub loop-line-preserved-in-Some : goal.loop-line-preserved-in-Some
 loop-line-preserved-in-Some g c =
-    one_line_more g.row.A.Denot c.in-Some._line c.in_ok-_line.field-0 c.loop-line.rest.number c.read.new.self.number c.loop-line.rest.text.now c.read.new.self.text.now c.args.text.now c.in-Some.is c.in_ok-_line.ensures.read c.in_ok-_line.ensures.within
+    one_line_more g.row.A.Denot c.in-Some._line c.in_ok-_line.field-0 c.loop-line.rest.number c.read.new.self.number c.loop-line.rest.text.now c.read.new.self.text.now c.args.text.now c.in-Some.is c.in_ok-_line.ensures.read
     c.in_ok-_line.ensures.next c.in_ok-_line.ensures.later c.loop-line.invariant
 
 pub loop-line-preserved-in-Some-2 : goal.loop-line-preserved-in-Some-2
 loop-line-preserved-in-Some-2 g c =
-    one_line_more g.row.A.Denot c.in-Some._line c.in_ok-_line.field-0 c.loop-line.rest.number c.read.new.self.number c.loop-line.rest.text.now c.read.new.self.text.now c.args.text.now c.in-Some.is c.in_ok-_line.ensures.read c.in_ok-_line.ensures.within
+    one_line_more g.row.A.Denot c.in-Some._line c.in_ok-_line.field-0 c.loop-line.rest.number c.read.new.self.number c.loop-line.rest.text.now c.read.new.self.text.now c.args.text.now c.in-Some.is c.in_ok-_line.ensures.read
     c.in_ok-_line.ensures.next c.in_ok-_line.ensures.later c.loop-line.invariant
 
 pub loop-line-preserved-in-Some-3 : goal.loop-line-preserved-in-Some-3
 loop-line-preserved-in-Some-3 g c =
-    one_line_more g.row.A.Denot c.in-Some._line c.in_ok-_line.field-0 c.loop-line.rest.number c.read.new.self.number c.loop-line.rest.text.now c.read.new.self.text.now c.args.text.now c.in-Some.is c.in_ok-_line.ensures.read c.in_ok-_line.ensures.within
+    one_line_more g.row.A.Denot c.in-Some._line c.in_ok-_line.field-0 c.loop-line.rest.number c.read.new.self.number c.loop-line.rest.text.now c.read.new.self.text.now c.args.text.now c.in-Some.is c.in_ok-_line.ensures.read
     c.in_ok-_line.ensures.next c.in_ok-_line.ensures.later c.loop-line.invariant
 
 pub returns-clause-within : goal.returns-clause-within
 returns-clause-within g c =
-    let read = subst (λ (o : Option (Line g.row.A.Denot)). IsRead o c.loop-line.rest.text.now c.read.new.self.text.now) c.in_default.is c.in_ok-_line.ensures.read in
-    c.loop-line.invariant.0 [] read tt
+    let read = λ (limits : Bool). subst (λ (o : Option (Line g.row.A.Denot)). IsRead limits o c.loop-line.rest.text.now c.read.new.self.text.now) c.in_default.is (c.in_ok-_line.ensures.read limits) in
+    c.loop-line.invariant.0 [] (read false) (read true)
+
+pub returns-clause-spelled : goal.returns-clause-spelled
+returns-clause-spelled g c =
+    let read = λ (limits : Bool). subst (λ (o : Option (Line g.row.A.Denot)). IsRead limits o c.loop-line.rest.text.now c.read.new.self.text.now) c.in_default.is (c.in_ok-_line.ensures.read limits) in
+    let within = c.loop-line.invariant.0 [] (read false) (read true) in
+    (within.0, within.1)
+
+pub invariant_of-result : goal.invariant_of-result
+invariant_of-result g c =
+    let read = λ (limits : Bool). subst (λ (o : Option (Line g.row.A.Denot)). IsRead limits o c.loop-line.rest.text.now c.read.new.self.text.now) c.in_default.is (c.in_ok-_line.ensures.read limits) in
+    let within = c.loop-line.invariant.0 [] (read false) (read true) in
+    ∣ subst (λ (t : List ℕ). SpellsWithin g.row.A.Denot t) (sym c.new.ensures.text) within ∣₁
 
 pub returns-in_err-_line-clause-none : goal.returns-in_err-_line-clause-none
 returns-in_err-_line-clause-none g c =

@@ -11,8 +11,8 @@ use Rattle.cap_script.proofs.lines.Lines.next_line.Goals as goal
 -- what was parsed once is not refused
 pub unreachable-requires : goal.unreachable-requires
 unreachable-requires g c = ∥∥₁_elim c.self.invariant ⊥_prop (λ (lines, spelled, within).
-    never_refused c.in-Err-Refused.field-0-0 (AreWithinLimits lines) within
-    (subst (λ (fault : Fault ScriptFault). LeavesLines fault (AreWithinLimits lines)) c.in-Err-Refused.field-0-is (c.in-Err-Refused.ensures.none lines spelled)))
+    never_refused c.in-Err-Refused.field-0-0 (AreWithinLimits lines c.self.inside.rest.text.now) within
+    (subst (λ (fault : Fault ScriptFault). LeavesLines fault (AreWithinLimits lines c.self.inside.rest.text.now)) c.in-Err-Refused.field-0-is (c.in-Err-Refused.ensures.none lines spelled)))
 
 pub invariant_of-self : goal.invariant_of-self
 invariant_of-self g c = ∥∥₁_map c.self.invariant c.read.ensures.kept

@@ -16,7 +16,7 @@ loop-line-preserved g c =
     let less = cut_shorter text line behind c.first_line.ensures some in (
       omega (arith, inv.0, less),
       omega (arith, inv.1, less),
-      λ lines spelled. behind_ignored lines text line behind c.first_line.ensures ignored (inv.2 lines spelled),
-      λ lines spelled. inv.3 lines (ignored_first lines text line behind c.first_line.ensures ignored spelled),
+      λ limits lines spelled. behind_ignored limits lines text line behind c.first_line.ensures ignored (inv.2 limits lines spelled),
+      λ limits lines spelled. inv.3 limits lines (ignored_first limits lines text line behind c.first_line.ensures ignored spelled),
       λ why so. inv.4 why (behind_one_ignored {A = g.row.A.Denot} c.loop-line.self.number why text line behind c.first_line.ensures ignored so),
     )

@@ -1,0 +1,289 @@
+-- The language of lines: what is read behind which word, and what is made of it.
+use Rattle.std.specs.Prelude.{ℕ, nat_le, Bool, true, false, ◌==◌, List, [], ◌∷◌, length, Option, Some, None}
+use Rattle.std.specs.Prelude.{Result, Ok, Err, codes}
+use Rattle.std.specs.Prelude.{if◌then◌else◌}
+use Rattle.cap_value.specs.declared.refusal.Refusal.TheVariants.{TooLong, TooMany}
+use Rattle.cap_value.specs.declared.value.Value.{Value}
+use Rattle.cap_row.specs.Schema.{schema_of}
+use Rattle.cap_row.specs.Fields.{Fields}
+use Rattle.cap_row.specs.Key.{key_from}
+use Rattle.cap_table.specs.declared.row_ref.RowRef.{RowRef}
+use Rattle.cap_table.specs.declared.row_ref.RowRef.TheVariants.{Key, Loose}
+use Rattle.cap_database.specs.Assigned.{Assigned}
+use Rattle.cap_database.specs.declared.cause.Cause.{Cause}
+use Rattle.cap_database.specs.declared.cause.Cause.TheVariants.{Direct, Cascade}
+use Rattle.cap_database.specs.declared.op.Action.TheVariants.{Insert, Update, Delete}
+use Rattle.cap_database.specs.declared.op.Op.{Op}
+use Rattle.cap_codec.specs.BlobReading.{blob_at}
+use Rattle.cap_codec.specs.declared.fault.BlobFault.{BlobFault}
+use Rattle.cap_codec.specs.declared.key_flags.KeyFlags.{KeyFlags}
+use Rattle.cap_codec.specs.declared.key_flags.KeyFlags.TheVariants.{Ones, Places}
+use Rattle.cap_codec.specs.declared.read.Contents.{Contents}
+use Rattle.cap_apply.specs.declared.policy.Answer.{Answer}
+use Rattle.cap_apply.specs.declared.policy.Answer.TheVariants.{Omit, Replace, Abort}
+use Rattle.cap_apply.specs.declared.policy.Policy.{Policy}
+use Rattle.cap_txn.specs.Batch.{BatchState}
+use Rattle.cap_core.specs.declared.command.Command.{Command}
+use Rattle.cap_core.specs.declared.command.Command.TheVariants as made
+use Rattle.cap_language.specs.Forms.{a_blob, a_word, at_end, either, keyword, name, natural, one_of}
+use Rattle.cap_language.specs.Forms.{separated, sign, value}
+use Rattle.cap_language.specs.Forms.{values, within, worker, Words}
+use Rattle.cap_language.specs.Grammar.{Grammar, done, unfit, exceeds, no_blob, ◌>>=◌, next, where_end}
+use Rattle.cap_script.specs.declared.command.Spelled.{Spelled}
+use Rattle.cap_script.specs.declared.command.Spelled.TheVariants.{Filter, Whole}
+use Rattle.cap_script.specs.declared.line.Line.{Line}
+use Rattle.cap_script.specs.declared.line.Show.{Show}
+use Rattle.cap_script.specs.declared.line.Show.TheVariants as show
+
+-- ---- columns and flags
+
+abbrev pub key_letter : ℕ → Option Bool
+key_letter letter = if letter == 107 then Some true else if letter == 118 then Some false else None
+
+abbrev pub with_flag : Option Bool → Option (List Bool) → Option (List Bool)
+with_flag (Some flag) (Some flags) = Some (flag ∷ flags)
+with_flag flag flags = None
+
+-- `k` for a key column and `v` for another
+abbrev pub flags_in : List ℕ → Option (List Bool)
+flags_in [] = Some []
+flags_in (letter ∷ letters) = with_flag (key_letter letter) (flags_in letters)
+
+abbrev pub columns : Option (List Bool) → Grammar (List Bool)
+columns None = unfit
+columns (Some flags) = within (schema_of flags) flags
+
+-- the columns of a table, a letter for each
+unfoldable pub schema : Grammar (List Bool)
+schema = next a_word (λ w. columns (flags_in w))
+
+-- a flag's new value, or a query for it
+unfoldable pub flag : Grammar (Option Bool)
+flag = next a_word (one_of (
+    (codes "on", done (Some true))
+    ∷ (codes "off", done (Some false))
+    ∷ (codes "ask", done None)
+    ∷ []))
+
+-- the key flags: nothing for `01`, or a word for places
+unfoldable pub key_flags : Grammar KeyFlags
+key_flags = where_end (done Ones) (keyword (codes "places") >>= λ _. done Places)
+
+-- the answer to a conflict
+unfoldable pub answer : Grammar Answer
+answer = next a_word (one_of (
+    (codes "omit", done Omit)
+    ∷ (codes "replace", done Replace)
+    ∷ (codes "abort", done Abort)
+    ∷ []))
+
+-- the answers to DATA, NOTFOUND and CONFLICT
+unfoldable pub policy : Grammar Policy
+policy = do
+  data_answer ← answer
+  notfound_answer ← answer
+  conflict_answer ← answer
+  done (record { on_data = data_answer; on_notfound = notfound_answer; on_conflict = conflict_answer })
+
+module _ {A : Type 0} where
+  -- ---- operations
+
+  abbrev pub row_of : Option (Fields A) → RowRef A
+  row_of (Some key) = Key key
+  row_of None = Loose 0
+
+  -- A key, or an id. A key with a NULL is the id 0, which no row has.
+  unfoldable pub row : Grammar (RowRef A)
+  row = next a_word (one_of (
+      (codes "key", values >>= λ fields. done (row_of (key_from fields)))
+      ∷ (codes "loose", natural >>= λ id. done (Loose id))
+      ∷ []))
+
+  -- a column and its new value
+  unfoldable pub field : Grammar (ℕ × Value A)
+  field = do
+    column ← natural
+    _ ← sign 61
+    value ← value
+    done (column, value)
+
+  unfoldable pub fields : Grammar (Assigned A)
+  fields = do
+    _ ← keyword (codes "set")
+    separated 44 (λ _. field)
+
+  unfoldable pub insert : Cause → Grammar (Op A)
+  insert cause = do
+    table ← name
+    row ← values
+    done (record { table = table; cause = cause; action = Insert row })
+
+  unfoldable pub update : Cause → Grammar (Op A)
+  update cause = do
+    table ← name
+    row ← row
+    fields ← fields
+    done (record { table = table; cause = cause; action = Update row fields })
+
+  unfoldable pub delete : Cause → Grammar (Op A)
+  delete cause = do
+    table ← name
+    row ← row
+    done (record { table = table; cause = cause; action = Delete row })
+
+  -- where there is no room for it, an operation exceeds the limit
+  abbrev pub where_room : Bool → Grammar (Op A) → Grammar (Op A)
+  where_room is_full grammar = either is_full (exceeds TooMany grammar) grammar
+
+  -- the operation behind the word `cascade`: a change by a trigger or a foreign key action
+  unfoldable pub cascaded : Grammar (Op A)
+  cascaded = next a_word (one_of (
+      (codes "insert", insert Cascade)
+      ∷ (codes "update", update Cascade)
+      ∷ (codes "delete", delete Cascade)
+      ∷ []))
+
+  unfoldable pub operation : Bool → Grammar (Op A)
+  operation is_full = next a_word (one_of (
+      (codes "insert", where_room is_full (insert Direct))
+      ∷ (codes "update", where_room is_full (update Direct))
+      ∷ (codes "delete", where_room is_full (delete Direct))
+      ∷ (codes "cascade", where_room is_full cascaded)
+      ∷ []))
+
+  -- the operation with this number, from 0; there is no room for a 10,001st
+  abbrev pub nth_operation : ℕ → Grammar (Op A)
+  nth_operation i = operation (nat_le 10000 i)
+
+  -- one operation or more
+  unfoldable pub operations : Grammar (List (Op A))
+  operations = separated 59 nth_operation
+
+  -- ---- commands
+
+  abbrev pub contents_of : Result (Contents A) BlobFault → Grammar (Contents A)
+  contents_of (Ok contents) = done contents
+  contents_of (Err why) = no_blob why
+
+  -- the bytes of a changeset or a patchset, at most 1,000,000,000
+  unfoldable pub contents : Grammar (Contents A)
+  contents = next a_blob (λ bytes.
+      either (nat_le (length bytes) 1000000000) (contents_of (blob_at bytes)) (exceeds TooLong unfit))
+
+  -- how the outcome of an apply is printed: nothing for its counts, or a word for its conflicts or its buffer
+  -- too
+  unfoldable pub report : Grammar (Show A)
+  report = where_end (done show.Plain) (next a_word (one_of (
+      (codes "report", done show.Report)
+      ∷ (codes "buffer", done show.Buffer)
+      ∷ [])))
+
+  -- a command whose reply is printed alone
+  abbrev pub plain : Command A → Grammar (Spelled A)
+  plain command = done (Whole command show.Plain)
+
+  -- without or with a base version
+  unfoldable pub batch : Option ℕ → Grammar (BatchState A)
+  batch base = do ops ← operations; done (record { base = base; ops = ops; seen = None })
+
+  unfoldable pub create : Grammar (Spelled A)
+  create = do table ← name; schema ← schema; plain (made.CreateTable table schema)
+
+  unfoldable pub commit : Grammar (Spelled A)
+  commit = do batch ← batch None; plain (made.Commit batch)
+
+  unfoldable pub commit_at : Grammar (Spelled A)
+  commit_at = do base ← natural; batch ← batch (Some base); plain (made.Commit batch)
+
+  unfoldable pub apply : Grammar (Spelled A)
+  apply = do
+    contents ← contents
+    policy ← policy
+    report ← report
+    done (Whole (made.Apply contents policy) report)
+
+  unfoldable pub get : Grammar (Spelled A)
+  get = do table ← name; row ← row; done (Whole made.Read (show.Get table row))
+
+  unfoldable pub scan : Grammar (Spelled A)
+  scan = do table ← name; done (Whole made.Read (show.Scan table))
+
+  unfoldable pub save : Grammar (Spelled A)
+  save = do database ← name; plain (made.SaveAs database)
+
+  -- a command to a session, which needs no more than its number
+  abbrev pub on_session : (ℕ → Command A) → Grammar (Spelled A)
+  on_session of_session = natural >>= λ session. plain (of_session session)
+
+  unfoldable pub attach : Grammar (Spelled A)
+  attach = do session ← natural; table ← name; plain (made.Attach session table)
+
+  unfoldable pub enable : Grammar (Spelled A)
+  enable = do session ← natural; asked ← flag; plain (made.Enable session asked)
+
+  unfoldable pub indirect : Grammar (Spelled A)
+  indirect = do session ← natural; asked ← flag; plain (made.Indirect session asked)
+
+  unfoldable pub diff : Grammar (Spelled A)
+  diff = do session ← natural; from ← name; table ← name; plain (made.Diff session from table)
+
+  unfoldable pub changeset : Grammar (Spelled A)
+  changeset = do
+    session ← natural
+    flags ← key_flags
+    done (Whole (made.Capture session) (show.Changeset flags))
+
+  unfoldable pub patchset : Grammar (Spelled A)
+  patchset = do
+    session ← natural
+    flags ← key_flags
+    done (Whole (made.Capture session) (show.Patchset flags))
+
+  unfoldable pub restart : Grammar (Spelled A)
+  restart = do
+    session ← natural
+    flags ← key_flags
+    done (Whole (made.Restart session) (show.Changeset flags))
+
+  -- each command by its first word
+  abbrev pub commands : Words (Spelled A)
+  commands =
+      (codes "create", create)
+      ∷ (codes "commit", commit)
+      ∷ (codes "commitat", commit_at)
+      ∷ (codes "apply", apply)
+      ∷ (codes "get", get)
+      ∷ (codes "scan", scan)
+      ∷ (codes "save", save)
+      ∷ (codes "session", plain made.NewSession)
+      ∷ (codes "drop", on_session made.DropSession)
+      ∷ (codes "attach", attach)
+      ∷ (codes "attachall", on_session made.AttachAll)
+      ∷ (codes "filter", natural >>= λ session. done (Filter session))
+      ∷ (codes "enable", enable)
+      ∷ (codes "indirect", indirect)
+      ∷ (codes "isempty", on_session made.IsEmpty)
+      ∷ (codes "diff", diff)
+      ∷ (codes "changeset", changeset)
+      ∷ (codes "patchset", patchset)
+      ∷ (codes "restart", restart)
+      ∷ []
+
+  unfoldable pub command : Grammar (Spelled A)
+  command = next a_word (one_of commands)
+
+-- a line up to its end, or up to the text of a filter for this session, which goes to the line's end
+pub data Opening (A : Type 0) : Type 0 where
+  Ended : Line A → Opening A
+  Filtered : Option ℕ → ℕ → Opening A
+
+module _ {A : Type 0} where
+  -- behind a whole command spaces to the line's end
+  abbrev pub ending : Option ℕ → Spelled A → Grammar (Opening A)
+  ending worker (Whole command show) =
+      at_end >>= λ _. done (Ended (record { worker = worker; command = command; show = show }))
+  ending worker (Filter session) = done (Filtered worker session)
+
+  -- the worker and the command
+  unfoldable pub opening : Grammar (Opening A)
+  opening = worker >>= λ worker. command >>= λ spelled. ending worker spelled
