@@ -4,7 +4,6 @@ use cap_test_support::Memory;
 use cap_value::{AllocHandle, Fault, Refusal};
 use linked_list_allocator::LocalHeap;
 use std::alloc::Global;
-use std::test::Fail;
 
 /// A call that takes memory.
 #[derive(Clone, Copy, Drop)]
@@ -54,21 +53,23 @@ fn is_out_of_memory<A: AllocHandle>(
 /// How many requests the call makes, where for each that is refused it is out of memory, leaves nothing,
 /// and has its answer when it is made again; else 0. A row's list that may not shrink stays as it is, and
 /// the call is done.
-pub(crate) fn requests_refused(alloc: Global, call: Call<'_>) -> Result<u64, Fail> {
+pub(crate) fn requests_refused(alloc: Global, call: Call<'_>) -> u64 {
     let expected = make(alloc, call);
-    let heap = LocalHeap::new(alloc, 32768)?;
+    let Ok(heap) = LocalHeap::new(alloc, 32768) else {
+        return 0;
+    };
     let memory = Memory::new(&heap);
     for number in 1..1000u64 {
         let outcome = is_out_of_memory(&memory, &memory, call, number, expected);
         if heap.used() != 0 || outcome.is_none() {
-            return Ok(0);
+            return 0;
         }
         if !memory.has_refused() {
-            return Ok(number - 1);
+            return number - 1;
         }
         if outcome == Some(false) && !matches!(call, Call::MakeRows) {
-            return Ok(0);
+            return 0;
         }
     }
-    Ok(0)
+    0
 }

@@ -3,7 +3,6 @@ use crate::refused::{Call, requests_refused};
 use cap_row::{COLUMNS_MAX, Key, Row, Schema, key_of};
 use cap_value::{AllocHandle, Fault, OutOfMemory, Refusal, Value};
 use std::alloc::Global;
-use std::test::Fail;
 
 fn numbers<A: AllocHandle>(alloc: A, numbers: &[i64]) -> Result<Vec<Value<A>, A>, OutOfMemory> {
     let mut values = Vec::new(alloc);
@@ -28,30 +27,41 @@ fn is_refused(alloc: Global, flags: &[bool]) -> bool {
     }
 }
 
+// How many columns the schema of the flags has, and whether one is of the key, where its copy is the same.
+fn columns(alloc: Global, flags: &[bool]) -> Option<(usize, bool)> {
+    let schema = Schema::new(alloc, flags).ok()?;
+    let copy = schema.copy().ok()?;
+    copy.same(&schema)
+        .then_some((schema.width(), schema.has_key()))
+}
+
+// Whether the first, the second and the third column are of the key.
+fn key_columns(alloc: Global, flags: &[bool]) -> Option<(bool, bool, bool)> {
+    let schema = Schema::new(alloc, flags).ok()?;
+    Some((schema.is_key(0), schema.is_key(1), schema.is_key(2)))
+}
+
 #[test]
-fn schemas_have_1_to_2000_columns(rt: HostRuntime) -> Result<(), Fail> {
+fn schemas_have_1_to_2000_columns(rt: HostRuntime) {
     let flags = [true; COLUMNS_MAX + 1];
-    let widest = Schema::new(rt.alloc(), &flags[1..])?;
-    assert!(rt; (widest.width(), widest.has_key()) == (2_000, true));
-    assert!(rt; widest.copy()?.same(&widest));
+    assert!(rt; columns(rt.alloc(), &flags[1..]) == Some((2_000, true)));
     assert!(rt; is_refused(rt.alloc(), &flags) && is_refused(rt.alloc(), &[]));
-    let narrow = Schema::new(rt.alloc(), &[false, true])?;
-    assert!(rt; (narrow.is_key(0), narrow.is_key(1), narrow.is_key(2)) == (false, true, false));
-    Ok(())
+    assert!(rt; key_columns(rt.alloc(), &[false, true]) == Some((false, true, false)));
 }
 
 // Whether the key of the row is of these values; of none where there is no key.
 fn has_key(
     alloc: Global,
     flags: &[bool],
-    row: &Row<Global>,
+    row: Result<Row<Global>, OutOfMemory>,
     values: &[i64],
 ) -> Result<bool, Fault<Refusal>> {
+    let row = row?;
     let schema = Schema::new(alloc, flags)?;
     if row.width() != schema.width() {
         return Ok(false);
     }
-    let found = key_of(alloc, &schema, row)?;
+    let found = key_of(alloc, &schema, &row)?;
     Ok(found == key(alloc, values)?)
 }
 
@@ -73,17 +83,17 @@ fn unset(alloc: Global) -> Result<Row<Global>, OutOfMemory> {
 }
 
 #[test]
-fn keys_are_the_values_of_key_columns(rt: HostRuntime) -> Result<(), Fail> {
-    let (row, unset) = (row(rt.alloc(), &[1, 2, 3, 4])?, unset(rt.alloc())?);
-    let flags = [true, false, true, true];
-    assert!(rt; has_key(rt.alloc(), &flags, &row, &[1, 3, 4]) == Ok(true));
-    assert!(rt; has_key(rt.alloc(), &[false; 4], &row, &[]) == Ok(true));
-    assert!(rt; has_key(rt.alloc(), &[true, true], &unset, &[]) == Ok(true));
+fn keys_are_the_values_of_key_columns(rt: HostRuntime) {
+    let (flags, values) = ([true, false, true, true], [1, 2, 3, 4]);
+    let one = row(rt.alloc(), &values);
+    assert!(rt; has_key(rt.alloc(), &flags, one, &[1, 3, 4]) == Ok(true));
+    let one = row(rt.alloc(), &values);
+    assert!(rt; has_key(rt.alloc(), &[false; 4], one, &[]) == Ok(true));
+    assert!(rt; has_key(rt.alloc(), &[true, true], unset(rt.alloc()), &[]) == Ok(true));
     assert!(rt; is_less(rt.alloc(), &[1, 3], &[1, 3, 4]) == Ok(true));
     assert!(rt; is_copied(rt.alloc(), &[1, 3]) == Ok(true));
     assert!(rt; is_copied(rt.alloc(), &[1, 3, 4]) == Ok(true));
     assert!(rt; is_copied(rt.alloc(), &[]) == Ok(false));
-    Ok(())
 }
 
 // The row of 1, 2 and 3 with these fields set, whose first is the key.
@@ -108,21 +118,28 @@ fn is_bad_column(alloc: Global, columns: &[usize]) -> Result<bool, OutOfMemory> 
 }
 
 // Whether the row is printed so, is the same as its copy, and has three values.
-fn is_row(alloc: Global, row: &Row<Global>, text: &str) -> Result<bool, Fail> {
-    let printed = format!(in alloc; "{row:?}")?;
-    let is_copied = row.copy()?.same(row);
-    Ok(printed.as_str() == text && is_copied && row.width() == 3 && row.get(3).is_none())
+fn is_row(alloc: Global, row: &Row<Global>, text: &str) -> Option<bool> {
+    let printed = format!(in alloc; "{row:?}").ok()?;
+    let copy = row.copy().ok()?;
+    let is_as_printed = printed.as_str() == text && copy.same(row);
+    Some(is_as_printed && row.width() == 3 && row.get(3).is_none())
+}
+
+// Whether the row with these fields set is printed so.
+fn sets(alloc: Global, fields: &[(usize, Value<Global>)], text: &str) -> bool {
+    match set(alloc, fields) {
+        Ok(row) => is_row(alloc, &row, text) == Some(true),
+        Err(_) => false,
+    }
 }
 
 #[test]
-fn updates_set_just_their_fields(rt: HostRuntime) -> Result<(), Fail> {
-    let changed = set(rt.alloc(), &[(2, Value::Int(9)), (0, Value::Null)])?;
-    assert!(rt; is_row(rt.alloc(), &changed, "Row([Null, Int(2), Int(9)])")?);
-    let same = set(rt.alloc(), &[])?;
-    assert!(rt; is_row(rt.alloc(), &same, "Row([Int(1), Int(2), Int(3)])")?);
+fn updates_set_just_their_fields(rt: HostRuntime) {
+    let fields = [(2, Value::Int(9)), (0, Value::Null)];
+    assert!(rt; sets(rt.alloc(), &fields, "Row([Null, Int(2), Int(9)])"));
+    assert!(rt; sets(rt.alloc(), &[], "Row([Int(1), Int(2), Int(3)])"));
     assert!(rt; is_bad_column(rt.alloc(), &[3]) == Ok(true));
     assert!(rt; is_bad_column(rt.alloc(), &[1, 0, 1]) == Ok(true));
-    Ok(())
 }
 
 // The row of 1, 2, 3 and 4, whose third field is set to a text.
@@ -146,7 +163,6 @@ pub(crate) fn make<A: AllocHandle>(alloc: A) -> Result<bool, Fault<Refusal>> {
 }
 
 #[test]
-fn each_allocation_may_be_refused(rt: HostRuntime) -> Result<(), Fail> {
-    assert!(rt; requests_refused(rt.alloc(), Call::MakeRows)? >= 8);
-    Ok(())
+fn each_allocation_may_be_refused(rt: HostRuntime) {
+    assert!(rt; requests_refused(rt.alloc(), Call::MakeRows) >= 8);
 }

@@ -37,13 +37,19 @@ fn is_rising<A: AllocHandle>(tree: &Numbers<A>, count: u64) -> bool {
     tree.len() == count as usize && is_rising_but_for(tree, count, 0)
 }
 
+// The tree without the even numbers up to twice this.
+fn without_even(tree: &Numbers<Global>, half: u64) -> Result<Numbers<Global>, OutOfMemory> {
+    let mut taken = tree.snapshot()?;
+    for n in 1..=half {
+        taken = taken.take(&n.wrapping_mul(2))?;
+    }
+    Ok(taken)
+}
+
 #[test]
 fn even_numbers_taken_beside_a_snapshot(rt: HostRuntime) -> Result<(), Fail> {
-    let mut tree = rising(rt.alloc(), 1000)?;
-    let snapshot = tree.snapshot()?;
-    for n in 1..=500u64 {
-        tree = tree.take(&(n * 2))?;
-    }
+    let snapshot = rising(rt.alloc(), 1000)?;
+    let tree = without_even(&snapshot, 500)?;
     assert!(rt; tree.len() == 500 && tree.height() <= 4);
     assert!(rt; tree.seek(&500).next() == Some((&501, &5010)));
     assert!(rt; tree.seek(&500).len() == 250);
@@ -74,18 +80,37 @@ fn entries(alloc: Global, count: u64) -> Result<Vec<(u64, u64)>, AllocError> {
     Ok(entries)
 }
 
-#[test]
-fn a_tree_of_a_sorted_list(rt: HostRuntime) -> Result<(), Fail> {
-    for count in [0u64, 1, 2, 3, 100, 1000] {
-        let Some(tree) = Tree::from_sorted(rt.alloc(), entries(rt.alloc(), count)?)? else {
-            return Err(Fail::from("a rising list is refused"));
-        };
-        assert!(rt; is_rising(&tree, count));
-        assert!(rt; tree.height() <= u64::from(u64::BITS - count.leading_zeros()));
+// The tree of the entries; none where they do not rise.
+fn sorted(alloc: Global, entries: Vec<(u64, u64)>) -> Option<Numbers<Global>> {
+    match Tree::from_sorted(alloc, entries) {
+        Ok(tree) => tree,
+        Err(_) => None,
     }
-    let twice = vec![in rt.alloc(); (1, 10), (2, 20), (2, 30)]?;
-    assert!(rt; Tree::from_sorted(rt.alloc(), twice)?.is_none());
-    Ok(())
+}
+
+// The height of the tree of so many entries, where it has just these.
+fn sorted_height(alloc: Global, count: u64) -> Option<u64> {
+    let tree = sorted(alloc, entries(alloc, count).ok()?)?;
+    is_rising(&tree, count).then_some(tree.height())
+}
+
+// Whether there is no tree of two entries with one key.
+fn is_refused_twice(alloc: Global) -> Option<bool> {
+    let twice = vec![in alloc; (1, 10), (2, 20), (2, 30)].ok()?;
+    match Tree::<u64, u64, Global>::from_sorted(alloc, twice) {
+        Ok(tree) => Some(tree.is_none()),
+        Err(_) => None,
+    }
+}
+
+#[test]
+fn a_tree_of_a_sorted_list(rt: HostRuntime) {
+    for count in [0u64, 1, 2, 3, 100, 1000] {
+        let highest = u64::from(u64::BITS - count.leading_zeros());
+        let height = sorted_height(rt.alloc(), count);
+        assert!(rt; height.is_some() && height <= Some(highest));
+    }
+    assert!(rt; is_refused_twice(rt.alloc()) == Some(true));
 }
 
 // The changes that are refused their memory in turn: each of the tree of the numbers up to 100.
@@ -99,7 +124,7 @@ enum Change {
     Take,
 }
 
-const CHANGES: [Change; 6] = [
+const CHANGES: &[Change] = &[
     Change::Insert,
     Change::InsertHooked,
     Change::Put,
@@ -115,19 +140,32 @@ fn make_change<A: AllocHandle>(
     hook: &mut CountingHook,
 ) -> Result<Option<u64>, Fault<()>> {
     match change {
-        Change::Insert => Ok(tree.insert(101, 1010)?),
+        Change::Insert => in_place(tree.insert(101, 1010)),
         Change::InsertHooked => tree.insert_hooked(101, 1010, hook),
         Change::Put => {
-            *tree = tree.put(101, 1010)?;
-            Ok(None)
+            let made = tree.put(101, 1010);
+            become_made(tree, made)
         }
-        Change::Remove => Ok(tree.remove(&50)?),
+        Change::Remove => in_place(tree.remove(&50)),
         Change::RemoveHooked => tree.remove_hooked(&50, hook),
         Change::Take => {
-            *tree = tree.take(&50)?;
-            Ok(None)
+            let made = tree.take(&50);
+            become_made(tree, made)
         }
     }
+}
+
+fn in_place(answer: Result<Option<u64>, OutOfMemory>) -> Result<Option<u64>, Fault<()>> {
+    Ok(answer?)
+}
+
+// The tree becomes the one that is made, if there is memory for it.
+fn become_made<A: AllocHandle>(
+    tree: &mut Numbers<A>,
+    made: Result<Numbers<A>, OutOfMemory>,
+) -> Result<Option<u64>, Fault<()>> {
+    *tree = made?;
+    Ok(None)
 }
 
 // Whether the change was made, with this answer, and nothing else.
@@ -215,7 +253,7 @@ fn requests_refused<A: AllocHandle>(
 fn each_change_refused<A: AllocHandle>(alloc: A, memory: &Memory<&LocalHeap>) -> Option<bool> {
     let mut tree = rising(alloc, 100).ok()?;
     for change in CHANGES {
-        if requests_refused(memory, &mut tree, change)? <= 2 {
+        if requests_refused(memory, &mut tree, *change)? <= 2 {
             return Some(false);
         }
     }
@@ -288,24 +326,62 @@ fn change_both(
 }
 
 // Nothing else holds a node that was made a tree's own, so no call wants for memory that is there.
-#[test]
-fn ten_thousand_changes_beside_a_map_and_snapshots(rt: HostRuntime) -> Result<(), Fail> {
-    let mut tree: Numbers<Global> = Tree::empty(rt.alloc());
-    let mut map = BTreeMap::new(rt.alloc());
-    let mut snapshots = Vec::new(rt.alloc());
-    let mut seed = 88_172_645_463_325_252u64;
-    for n in 0..10_000u64 {
+// A snapshot of the tree, and the entries of the map beside it.
+type Kept = (Numbers<Global>, Vec<(u64, u64)>);
+
+fn kept(
+    alloc: Global,
+    tree: &Numbers<Global>,
+    map: &BTreeMap<u64, u64>,
+) -> Result<Kept, AllocError> {
+    let entries = entries_of(alloc, map)?;
+    Ok((tree.snapshot()?, entries))
+}
+
+// Changes both five hundred times, from this number and seed on: the next seed, or none where anything
+// differs.
+fn changed(
+    tree: &mut Numbers<Global>,
+    map: &mut BTreeMap<u64, u64>,
+    mut seed: u64,
+    from: u64,
+) -> Option<u64> {
+    for n in 0..500u64 {
         seed = next_random(seed);
-        assert!(rt; change_both(&mut tree, &mut map, seed, n) == Ok(true));
-        if n % 500 == 0 {
-            snapshots.push((tree.snapshot()?, entries_of(rt.alloc(), &map)?))?;
+        if change_both(tree, map, seed, from.wrapping_add(n)) != Ok(true) {
+            return None;
         }
     }
-    for (snapshot, entries) in &snapshots {
-        assert!(rt; has_just(snapshot, entries.as_slice()));
+    Some(seed)
+}
+
+// Ten thousand changes of both: a snapshot after every 500, or none where anything differs.
+fn snapshots(alloc: Global) -> Option<Vec<Kept>> {
+    let mut tree: Numbers<Global> = Tree::empty(alloc);
+    let mut map = BTreeMap::new(alloc);
+    let mut snapshots = Vec::new(alloc);
+    let mut seed = 88_172_645_463_325_252u64;
+    for n in 0..20u64 {
+        seed = changed(&mut tree, &mut map, seed, 500 * n)?;
+        snapshots.push(kept(alloc, &tree, &map).ok()?).ok()?;
     }
-    assert!(rt; snapshots.len() == 20);
-    Ok(())
+    Some(snapshots)
+}
+
+// How many snapshots there are, each with just the entries of the map beside it.
+fn snapshots_kept(alloc: Global) -> Option<usize> {
+    let snapshots = snapshots(alloc)?;
+    for (snapshot, entries) in &snapshots {
+        if !has_just(snapshot, entries.as_slice()) {
+            return None;
+        }
+    }
+    Some(snapshots.len())
+}
+
+#[test]
+fn ten_thousand_changes_beside_a_map_and_snapshots(rt: HostRuntime) {
+    assert!(rt; snapshots_kept(rt.alloc()) == Some(20));
 }
 
 #[test]
