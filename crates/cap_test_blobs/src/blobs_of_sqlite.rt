@@ -74,16 +74,15 @@ fn is_of_the_table(alloc: Global, bytes: &[u8]) -> Result<bool, Fault<BlobFault>
 #[test]
 fn a_changeset_of_sqlite(rt: HostRuntime) {
     let ones = with_ones(&CHANGESET);
-    for bytes in [CHANGESET, ones] {
-        assert!(rt; is_of_the_table(rt.alloc(), &bytes) == Ok(true));
-        assert!(rt; is_written_both_ways(rt.alloc(), &bytes, &CHANGESET, &ones) == Ok(true));
-    }
+    assert!(rt; is_of_the_table(rt.alloc(), &CHANGESET) == Ok(true));
+    assert!(rt; is_written_both_ways(rt.alloc(), &CHANGESET, &CHANGESET, &ones) == Ok(true));
+    assert!(rt; is_of_the_table(rt.alloc(), &ones) == Ok(true));
+    assert!(rt; is_written_both_ways(rt.alloc(), &ones, &CHANGESET, &ones) == Ok(true));
 }
 
 #[test]
 fn a_patchset_of_sqlite(rt: HostRuntime) {
     let ones = with_ones(&PATCHSET);
-    for bytes in [PATCHSET, ones] {
-        assert!(rt; is_written_both_ways(rt.alloc(), &bytes, &PATCHSET, &ones) == Ok(true));
-    }
+    assert!(rt; is_written_both_ways(rt.alloc(), &PATCHSET, &PATCHSET, &ones) == Ok(true));
+    assert!(rt; is_written_both_ways(rt.alloc(), &ones, &PATCHSET, &ones) == Ok(true));
 }

@@ -4,7 +4,6 @@ use cap_codec::{write_changes, write_patches};
 use cap_row::Schema;
 use cap_value::{Fault, Name, OutOfMemory, Refusal, Value};
 use std::alloc::Global;
-use std::test::*;
 
 /// A key and a text, each of which may be undefined.
 pub type Fields = (Option<i64>, Option<&'static str>);
@@ -108,14 +107,15 @@ pub(crate) fn is_list(
 }
 
 /// The bytes of a value as the second field of an insert, which stand behind the first 17 bytes.
-pub(crate) fn field(alloc: Global, value: Value<Global>) -> Result<Vec<u8>, Fail> {
-    let new = pair(alloc, Some(Value::Int(1)), Some(value))?;
+pub(crate) fn field(alloc: Global, value: Value<Global>) -> Option<Vec<u8>> {
+    let new = pair(alloc, Some(Value::Int(1)), Some(value)).ok()?;
     let insert = RowChange::Insert {
         indirect: true,
         new,
     };
-    let bytes = write_changes(alloc, &of_one(alloc, insert)?)?;
-    Ok(Vec::from_slice(alloc, bytes.get(17..).ok_or("no field")?)?)
+    let list = of_one(alloc, insert).ok()?;
+    let bytes = write_changes(alloc, &list).ok()?;
+    Vec::from_slice(alloc, bytes.get(17..)?).ok()
 }
 
 fn numbers(alloc: Global, count: usize) -> Result<FieldRecord<Global>, OutOfMemory> {
