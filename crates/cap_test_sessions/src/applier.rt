@@ -76,12 +76,10 @@ fn apply_with_a_request_refused<A: AllocHandle>(
     memory.refuse(number);
     let answer = apply(alloc, database, blob, REPLACE);
     memory.refuse(0);
+    let is_refused = memory.has_refused();
     match answer {
-        Ok(applied) => {
-            (!memory.has_refused() && applied.report().applied() == 1).then_some(true)
-        }
-        Err(Fault::OutOfMemory) => memory.has_refused().then_some(false),
-        Err(Fault::Refused(_)) => None,
+        Ok(applied) => (!is_refused && applied.report().applied() == 1).then_some(true),
+        Err(fault) => (is_refused && fault == Fault::OutOfMemory).then_some(false),
     }
 }
 

@@ -6,6 +6,7 @@ use cap_test_support::Memory;
 use cap_value::{AllocHandle, Fault};
 use linked_list_allocator::LocalHeap;
 use std::alloc::Global;
+use std::fmt::Display;
 use std::test::*;
 
 // A blob, or none where the digits spell none.
@@ -70,14 +71,18 @@ fn together(alloc: Global, first: &str, second: &str) -> Option<Contents<Global>
     concat(alloc, &blobs).ok()
 }
 
-#[test]
-fn several_tables(rt: HostRuntime) -> Result<(), Fail> {
-    let alloc = rt.alloc();
+// Whether a changegroup of the concatenation has these bytes.
+fn concatenates_to(alloc: Global, first: &str, second: &str, digits: &str) -> bool {
     let mut group = ChangeGroup::new(alloc);
-    let made = together(alloc, FIRST, SECOND).ok_or("a concatenation")?;
-    assert!(rt; group.add(&made).is_ok());
-    assert!(rt; has(alloc, &group, TOGETHER));
-    Ok(())
+    match together(alloc, first, second) {
+        Some(made) => group.add(&made).is_ok() && has(alloc, &group, digits),
+        None => false,
+    }
+}
+
+#[test]
+fn several_tables(rt: HostRuntime) {
+    assert!(rt; concatenates_to(rt.alloc(), FIRST, SECOND, TOGETHER));
 }
 
 #[test]
@@ -126,11 +131,11 @@ fn add_with_a_request_refused<A: AllocHandle>(
     memory.refuse(number);
     let answer = group.add(added);
     memory.refuse(0);
-    match (answer, memory.has_refused()) {
-        (Ok(()), false) => has(alloc, group, TOGETHER).then_some(true),
-        (Err(Fault::OutOfMemory), true) => has(alloc, group, FIRST_ALONE).then_some(false),
-        _ => None,
+    if memory.has_refused() {
+        let is_kept = answer == Err(Fault::OutOfMemory) && has(alloc, group, FIRST_ALONE);
+        return is_kept.then_some(false);
     }
+    (answer == Ok(()) && has(alloc, group, TOGETHER)).then_some(true)
 }
 
 // Adds a blob with each request refused in turn, until it is added: whether there were such requests.
@@ -161,16 +166,24 @@ fn each_growth_refused(rt: HostRuntime) -> Result<(), Fail> {
     Ok(())
 }
 
+// Whether this is printed so.
+pub(crate) fn prints<T: Display>(alloc: Global, shown: &T, text: &str) -> bool {
+    match format!(in alloc; "{shown}") {
+        Ok(printed) => printed.as_str() == text,
+        Err(_) => false,
+    }
+}
+
 #[test]
-fn the_text_of_a_refusal(rt: HostRuntime) -> Result<(), Fail> {
+fn the_text_of_a_refusal(rt: HostRuntime) {
     let alloc = rt.alloc();
     let columns = GroupRefusal::OtherColumns { group: 3 };
-    assert!(rt; format!(in alloc; "{columns}")?.as_str() == "other columns in group 3");
+    assert!(rt; prints(alloc, &columns, "other columns in group 3"));
     let kind = ConcatRefusal {
         blob: 1,
         why: BlobRefusal::Group(GroupRefusal::OtherKind),
     };
-    assert!(rt; format!(in alloc; "{kind}")?.as_str() == "blob 1: changeset and patchset");
+    assert!(rt; prints(alloc, &kind, "blob 1: changeset and patchset"));
     let malformed = ConcatRefusal {
         blob: 0,
         why: BlobRefusal::Malformed(BlobFault {
@@ -178,6 +191,5 @@ fn the_text_of_a_refusal(rt: HostRuntime) -> Result<(), Fail> {
             kind: FaultKind::Truncated,
         }),
     };
-    assert!(rt; format!(in alloc; "{malformed}")?.as_str() == "blob 0: D1 Truncated at 1");
-    Ok(())
+    assert!(rt; prints(alloc, &malformed, "blob 0: D1 Truncated at 1"));
 }

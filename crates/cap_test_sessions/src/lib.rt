@@ -1,10 +1,20 @@
-//! Tests of sessions, of blobs that are applied and of changegroups, through their public calls.
+//! Tests of sessions, of blobs that are applied, of changegroups and of rebasing, through their public calls; and
+//! an application that stops at conflicts, answered as a policy answers.
 #![tactic(auto)]
 
+mod answered;
 #[cfg(test)]
 mod applier;
 #[cfg(test)]
+mod blobs;
+#[cfg(test)]
+mod buffers;
+#[cfg(test)]
 mod captures;
+#[cfg(test)]
+mod changesets;
+#[cfg(test)]
+mod conflicts;
 #[cfg(test)]
 mod groups;
 #[cfg(test)]
@@ -13,3 +23,7 @@ mod memory;
 mod recorded;
 #[cfg(test)]
 mod sessions;
+#[cfg(test)]
+mod synchronised;
+
+pub use answered::answered_by_a_policy;

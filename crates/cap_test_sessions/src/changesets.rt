@@ -175,15 +175,21 @@ const SEVERAL: &[Case] = &[
 ];
 
 #[test]
-fn one_remote_change(rt: HostRuntime) -> Result<(), Fail> {
+fn one_remote_change(rt: HostRuntime) {
     assert!(rt; first_wrong(rt.alloc(), ONE_ROW) == 11);
-    Ok(())
 }
 
 #[test]
-fn several_changes(rt: HostRuntime) -> Result<(), Fail> {
+fn several_changes(rt: HostRuntime) {
     assert!(rt; first_wrong(rt.alloc(), SEVERAL) == 4);
-    Ok(())
+}
+
+// The group with other columns.
+fn place(fault: Fault<RebaseRefusal>) -> Option<usize> {
+    match fault {
+        Fault::Refused(RebaseRefusal::OtherColumns { group }) => Some(group),
+        Fault::OutOfMemory => None,
+    }
 }
 
 // The place at which a changeset is refused as a buffer, and at which it is refused to be rebased.
@@ -193,14 +199,8 @@ fn refused_places(alloc: Global, known: &str, digits: &str) -> Option<(usize, us
         return None;
     }
     let list = changes(alloc, digits)?;
-    let Err(Fault::Refused(RebaseRefusal::OtherColumns { group: rebased })) = rebaser.rebase(&list)
-    else {
-        return None;
-    };
-    let Err(Fault::Refused(RebaseRefusal::OtherColumns { group: added })) = rebaser.configure(list)
-    else {
-        return None;
-    };
+    let rebased = place(rebaser.rebase(&list).err()?)?;
+    let added = place(rebaser.configure(list).err()?)?;
     Some((added, rebased))
 }
 

@@ -1,4 +1,5 @@
 //! Rebasing from bytes to bytes, and what is refused.
+use crate::groups::prints;
 use cap_apply::{Answer, Conflict, ConflictKind};
 use cap_codec::{BlobFault, FaultKind, KeyFlags};
 use cap_rebase::{BlobRefusal, RebaseRefusal, Rebaser, buffer_bytes};
@@ -105,16 +106,14 @@ fn blobs_that_are_refused(rt: HostRuntime) -> Result<(), Fail> {
 }
 
 #[test]
-fn the_text_of_a_refusal(rt: HostRuntime) -> Result<(), Fail> {
+fn the_text_of_a_refusal(rt: HostRuntime) {
     let alloc = rt.alloc();
     let columns = BlobRefusal::Columns(RebaseRefusal::OtherColumns { group: 3 });
-    assert!(rt; format!(in alloc; "{columns}")?.as_str() == "other columns in group 3");
-    let patchset = BlobRefusal::Patchset;
-    assert!(rt; format!(in alloc; "{patchset}")?.as_str() == "patchset");
+    assert!(rt; prints(alloc, &columns, "other columns in group 3"));
+    assert!(rt; prints(alloc, &BlobRefusal::Patchset, "patchset"));
     let malformed = BlobRefusal::Malformed(BlobFault {
         at: 1,
         kind: FaultKind::Truncated,
     });
-    assert!(rt; format!(in alloc; "{malformed}")?.as_str() == "D1 Truncated at 1");
-    Ok(())
+    assert!(rt; prints(alloc, &malformed, "D1 Truncated at 1"));
 }

@@ -4,7 +4,7 @@ use Rattle.cap_filter.specs.Rule.{Rule}
 use Rattle.cap_apply.specs.Apply as whole
 use Rattle.cap_applier.specs.Applier.{begun}
 use Rattle.cap_applier.specs.Remaining.{AcceptsAll, remaining}
-use Rattle.cap_test_conflicts.proofs.answered.answered_by_a_policy.Goals as goal
+use Rattle.cap_test_sessions.proofs.answered.answered_by_a_policy.Goals as goal
 
 every : AcceptsAll None
 every name = refl

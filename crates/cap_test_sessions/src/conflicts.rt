@@ -137,16 +137,38 @@ fn reports(applied: &Applied<Global>) -> bool {
         && report.conflicts().len() == 4
 }
 
+// Keys of rows of t, with their times and texts.
+type Rows = &'static [(i64, i64, &'static str)];
+
+// The rows before the changes, and after them.
+const BEFORE: Rows = &[(1, 5, "a"), (2, 9, "b"), (3, 1, "c")];
+
+const AFTER: Rows = &[(1, 7, "x"), (2, 9, "b"), (3, 4, "n")];
+
+fn has_rows(alloc: Global, database: &Database<Global>, rows: Rows) -> bool {
+    for (key, time, text) in rows {
+        if has_row(alloc, database, "t", *key, *time, text) != Some(true) {
+            return false;
+        }
+    }
+    true
+}
+
+// Whether the rows after the changes are those, and the database that they are applied to is as before.
+fn is_newest(alloc: Global, database: &Database<Global>) -> bool {
+    match newest_wins(alloc, database) {
+        Some(applied) => {
+            let is_made = reports(&applied) && has_rows(alloc, applied.database(), AFTER);
+            is_made && has_rows(alloc, database, BEFORE)
+        }
+        None => false,
+    }
+}
+
 #[test]
 fn the_newest_time_wins(rt: HostRuntime) -> Result<(), Fail> {
-    let alloc = rt.alloc();
-    let database = begun(alloc).ok_or("database")?;
-    let applied = newest_wins(alloc, &database).ok_or("applied")?;
-    assert!(rt; reports(&applied));
-    assert!(rt; has_row(alloc, applied.database(), "t", 1, 7, "x") == Some(true));
-    assert!(rt; has_row(alloc, applied.database(), "t", 2, 9, "b") == Some(true));
-    assert!(rt; has_row(alloc, applied.database(), "t", 3, 4, "n") == Some(true));
-    assert!(rt; has_row(alloc, &database, "t", 1, 5, "a") == Some(true));
+    let database = begun(rt.alloc()).ok_or("database")?;
+    assert!(rt; is_newest(rt.alloc(), &database));
     Ok(())
 }
 
@@ -165,19 +187,24 @@ fn refusal(applier: &Applier<Global>, row: Option<Row<Global>>) -> Option<MergeR
     applier.merge_refusal(&row?).ok()?
 }
 
-fn merged(
-    alloc: Global,
-    applier: Applier<Global>,
-    row: Option<Row<Global>>,
-) -> Option<Database<Global>> {
+// The row in place of the change, and the rest applied.
+fn merged(applier: Applier<Global>, row: Option<Row<Global>>) -> Option<Applied<Global>> {
     let row = row?;
     match applier.merge_refusal(&row) {
-        Ok(None) => {
-            let applied = applier.merge(row).ok()?.finish().ok()?;
-            let (database, changes, report) = applied.into_parts();
-            (changes.len() == 3 && report.omitted() == [1u64].as_slice()).then_some(database)
-        }
+        Ok(None) => applier.merge(row).ok()?.finish().ok(),
         _ => None,
+    }
+}
+
+// Whether (5,3,'pq') is a change of its own, and the row that is left.
+fn is_merged(alloc: Global, applier: Applier<Global>) -> bool {
+    match merged(applier, row(alloc, 5, 3, "pq")) {
+        Some(applied) => {
+            let is_omitted = applied.report().omitted() == [1u64].as_slice();
+            let is_left = has_row(alloc, applied.database(), "t", 5, 3, "pq") == Some(true);
+            is_omitted && is_left && applied.changes().len() == 3
+        }
+        None => false,
     }
 }
 
@@ -189,16 +216,22 @@ fn a_merged_row_in_place_of_a_change(rt: HostRuntime) -> Result<(), Fail> {
     assert!(rt; shown(&applier) == Some((ConflictKind::Conflict, 1, 1, true)));
     let other = refusal(&applier, row(alloc, 6, 3, "pq"));
     assert!(rt; other == Some(MergeRefusal::OtherKey));
-    let left = merged(alloc, applier, row(alloc, 5, 3, "pq")).ok_or("merged")?;
-    assert!(rt; has_row(alloc, &left, "t", 5, 3, "pq") == Some(true));
+    assert!(rt; is_merged(alloc, applier));
     Ok(())
+}
+
+fn why(fault: Fault<Refusal>) -> Option<Refusal> {
+    match fault {
+        Fault::Refused(why) => Some(why),
+        Fault::OutOfMemory => None,
+    }
 }
 
 // The answer is refused with this.
 fn refused_answer(applier: Option<Applier<Global>>, answer: Answer) -> Option<Refusal> {
     match applier?.answer(answer) {
-        Err(Fault::Refused(why)) => Some(why),
-        _ => None,
+        Err(fault) => why(fault),
+        Ok(_applier) => None,
     }
 }
 
