@@ -50,37 +50,47 @@ fn differ_by(
     Ok(rest.next().is_none())
 }
 
+const FROM: &[(Option<i64>, &str)] = &[
+    (Some(1), "10"),
+    (Some(2), "20"),
+    (Some(3), "30"),
+    (None, "1"),
+];
+
+const TO: &[(Option<i64>, &str)] = &[
+    (Some(2), "20"),
+    (Some(3), "31"),
+    (Some(4), "40"),
+    (None, "2"),
+];
+
+// By which they differ: the key of each row, and what it was.
+const DIFFERENCES: &[(i64, Option<&str>)] = &[(1, Some("10")), (3, Some("30")), (4, None)];
+
 // One row gone, one changed, one new, and one that is the same; rows without a key are passed over.
 #[test]
 fn rows_gone_changed_and_new(rt: HostRuntime) -> Result<(), Fail> {
-    let rows = [
-        (Some(1), "10"),
-        (Some(2), "20"),
-        (Some(3), "30"),
-        (None, "1"),
-    ];
-    let from = table(rt.alloc(), &rows)?;
-    let rows = [
-        (Some(2), "20"),
-        (Some(3), "31"),
-        (Some(4), "40"),
-        (None, "2"),
-    ];
-    let to = table(rt.alloc(), &rows)?;
-    let expected = [(1, Some("10")), (3, Some("30")), (4, None)];
-    assert!(rt; differ_by(rt.alloc(), &from, &to, &expected) == Ok(true));
+    let from = table(rt.alloc(), FROM)?;
+    let to = table(rt.alloc(), TO)?;
+    assert!(rt; differ_by(rt.alloc(), &from, &to, DIFFERENCES) == Ok(true));
     assert!(rt; differ_by(rt.alloc(), &to, &to, &[]) == Ok(true));
     Ok(())
 }
 
+// Why a table of these columns is not compared with the other one.
+fn refused_of(alloc: Global, flags: &[bool], to: &Table<Global>) -> Option<Refusal> {
+    match Schema::new(alloc, flags) {
+        Ok(schema) => refusal(compare(alloc, Some(&Table::empty(alloc, schema)), to)),
+        Err(_) => None,
+    }
+}
+
 #[test]
 fn other_columns_and_no_table_are_refused(rt: HostRuntime) -> Result<(), Fail> {
-    let to = table(rt.alloc(), &[(Some(2), "20")])?;
+    let to = table(rt.alloc(), TO)?;
     let incompatible = Some(Refusal::Incompatible);
-    for flags in [[true, false, false].as_slice(), &[false, false]] {
-        let other = Table::empty(rt.alloc(), Schema::new(rt.alloc(), flags)?);
-        assert!(rt; refusal(compare(rt.alloc(), Some(&other), &to)) == incompatible);
-    }
+    assert!(rt; refused_of(rt.alloc(), &[true, false, false], &to) == incompatible);
+    assert!(rt; refused_of(rt.alloc(), &[false, false], &to) == incompatible);
     assert!(rt; refusal(compare(rt.alloc(), None, &to)) == incompatible);
     Ok(())
 }
@@ -97,10 +107,10 @@ fn with_a_request_refused<A: AllocHandle>(
     memory.refuse(number);
     let answer = compare(alloc, Some(from), to);
     memory.refuse(0);
-    match (answer, memory.has_refused()) {
-        (Ok(found), false) => (found.len() == 3).then_some(true),
-        (Err(Fault::OutOfMemory), true) => Some(false),
-        _ => None,
+    let is_refused = memory.has_refused();
+    match answer {
+        Ok(found) => (!is_refused && found.len() == 3).then_some(true),
+        Err(fault) => (is_refused && fault == Fault::OutOfMemory).then_some(false),
     }
 }
 

@@ -1,5 +1,5 @@
 //! Tables: rows that change, ids, commit hooks, and memory of which each request is refused.
-use crate::rows::{At, has_rows, key, key_value, named, refusal, row, schema};
+use crate::rows::{At, has_rows, has_text, key, key_value, named, refusal, row, schema};
 use cap_row::{Key, Row};
 use cap_table::{NotMade, ROW_IDS_END, RowName, RowRef, Table};
 use cap_test_support::{CountingHook, Memory};
@@ -15,12 +15,14 @@ fn kv<A: AllocHandle>(alloc: A) -> Result<Table<A>, Fault<Refusal>> {
     Ok(Table::empty(alloc, schema(alloc)?))
 }
 
-// The row with this name and text.
-fn row_at(alloc: Global, at: At, text: &str) -> Result<Row<Global>, Fault<Refusal>> {
-    match at {
-        At::Key(number) => row(alloc, Some(number), text),
-        At::Loose(_) => row(alloc, None, text),
-    }
+// Whether the row has the key of this name, or none, and the text.
+fn is_row(row: &Row<Global>, at: At, text: &str) -> bool {
+    let is_key = match (row.get(0), at) {
+        (Some(Value::Int(key)), At::Key(number)) => *key == number,
+        (Some(Value::Null), At::Loose(_)) => true,
+        _ => false,
+    };
+    is_key && has_text(row, text) && row.width() == 2
 }
 
 // Whether the answer is a key just where the row has one.
@@ -41,10 +43,9 @@ fn set_key(
     (at, text): (At, &str),
     key: Option<i64>,
 ) -> Result<bool, Fault<Refusal>> {
-    let before = row_at(alloc, at, text)?;
     let name = named(alloc, at)?;
     let replaced = table.update(&name, &[(0, key_value(key))])?;
-    Ok(replaced.key.is_some() == key.is_some() && replaced.row.same(&before))
+    Ok(replaced.key.is_some() == key.is_some() && is_row(&replaced.row, at, text))
 }
 
 // Whether the answer is the row with this text.
@@ -53,13 +54,13 @@ fn delete(
     table: &mut Table<Global>,
     (at, text): (At, &str),
 ) -> Result<bool, Fault<Refusal>> {
-    let before = row_at(alloc, at, text)?;
     let name = named(alloc, at)?;
-    Ok(table.delete(&name)?.same(&before))
+    let before = table.delete(&name)?;
+    Ok(is_row(&before, at, text))
 }
 
 // A row that gets another key, or none; and the rows after it.
-const MOVES: [((At, &str), Option<i64>, Rows); 3] = [
+const MOVES: &[((At, &str), Option<i64>, Rows)] = &[
     (
         (At::Loose(1), "a"),
         Some(7),
@@ -77,19 +78,23 @@ const MOVES: [((At, &str), Option<i64>, Rows); 3] = [
     ),
 ];
 
+const UNMOVED: Rows = &[(At::Loose(1), "a"), (At::Loose(2), "b")];
+
+const MOVED: Rows = &[(At::Key(5), "b"), (At::Loose(4), "c")];
+
 #[test]
 fn rows_move_between_keys_and_ids(rt: HostRuntime) -> Result<(), Fail> {
     let mut table = kv(rt.alloc())?;
     assert!(rt; insert(rt.alloc(), &mut table, None, "a") == Ok(true));
     assert!(rt; insert(rt.alloc(), &mut table, None, "b") == Ok(true));
-    assert!(rt; has_rows(&table, &[(At::Loose(1), "a"), (At::Loose(2), "b")]));
+    assert!(rt; has_rows(&table, UNMOVED));
     for (row, key, rows) in MOVES {
-        assert!(rt; set_key(rt.alloc(), &mut table, row, key) == Ok(true));
+        assert!(rt; set_key(rt.alloc(), &mut table, *row, *key) == Ok(true));
         assert!(rt; has_rows(&table, rows));
     }
     assert!(rt; insert(rt.alloc(), &mut table, None, "c") == Ok(true));
     assert!(rt; delete(rt.alloc(), &mut table, (At::Loose(3), "a")) == Ok(true));
-    assert!(rt; has_rows(&table, &[(At::Key(5), "b"), (At::Loose(4), "c")]));
+    assert!(rt; has_rows(&table, MOVED));
     assert!(rt; (table.scan().left(), table.next_id()) == (2, 5));
     Ok(())
 }
@@ -102,7 +107,7 @@ enum Step {
     Delete,
 }
 
-const OTHERS: [(Step, Rows); 3] = [
+const OTHERS: &[(Step, Rows)] = &[
     (
         Step::Insert,
         &[(At::Key(7), "a"), (At::Key(8), "y"), (At::Loose(1), "b")],
@@ -125,17 +130,34 @@ fn other(
     }
 }
 
+// Whether that table has these rows.
+fn other_has(alloc: Global, table: &Table<Global>, step: Step, rows: Rows) -> bool {
+    match other(alloc, table, step) {
+        Ok(made) => has_rows(&made, rows),
+        Err(_) => false,
+    }
+}
+
+// The rows of the table.
+const BEFORE: Rows = &[(At::Key(7), "a"), (At::Loose(1), "b")];
+
+// A table of these rows.
+fn begun(alloc: Global) -> Result<Table<Global>, Fault<Refusal>> {
+    let mut table = kv(alloc)?;
+    table.insert(row(alloc, Some(7), "a")?)?;
+    table.insert(row(alloc, None, "b")?)?;
+    Ok(table)
+}
+
 #[test]
 fn tables_made_of_a_snapshot_leave_it_as_it_was(rt: HostRuntime) -> Result<(), Fail> {
-    let mut table = kv(rt.alloc())?;
-    assert!(rt; insert(rt.alloc(), &mut table, Some(7), "a") == Ok(true));
-    assert!(rt; insert(rt.alloc(), &mut table, None, "b") == Ok(true));
+    let mut table = begun(rt.alloc())?;
     let before = table.snapshot()?;
     assert!(rt; set_key(rt.alloc(), &mut table, (At::Key(7), "a"), None) == Ok(true));
     for (step, rows) in OTHERS {
-        assert!(rt; has_rows(&other(rt.alloc(), &before, step)?, rows));
+        assert!(rt; other_has(rt.alloc(), &before, *step, rows));
     }
-    assert!(rt; has_rows(&before, &[(At::Key(7), "a"), (At::Loose(1), "b")]));
+    assert!(rt; has_rows(&before, BEFORE));
     Ok(())
 }
 
@@ -148,38 +170,38 @@ fn begins_with_the_least_key(table: &Table<Global>) -> bool {
     is_least && scan.left() == 2
 }
 
+const IN_ORDER: Rows = &[(At::Key(-9), "y"), (At::Key(9), "x"), (At::Loose(1), "n")];
+
 #[test]
 fn keyed_rows_come_first(rt: HostRuntime) -> Result<(), Fail> {
     let mut table = kv(rt.alloc())?;
-    for (key, text) in [(None, "n"), (Some(9), "x"), (Some(-9), "y")] {
-        assert!(rt; insert(rt.alloc(), &mut table, key, text) == Ok(true));
-    }
-    assert!(rt;
-        has_rows(
-            &table,
-            &[(At::Key(-9), "y"), (At::Key(9), "x"), (At::Loose(1), "n")]
-        )
-    );
+    assert!(rt; insert(rt.alloc(), &mut table, None, "n") == Ok(true));
+    assert!(rt; insert(rt.alloc(), &mut table, Some(9), "x") == Ok(true));
+    assert!(rt; insert(rt.alloc(), &mut table, Some(-9), "y") == Ok(true));
+    assert!(rt; has_rows(&table, IN_ORDER));
     assert!(rt; begins_with_the_least_key(&table));
     assert!(rt; (table.keyed().len(), table.loose().len()) == (2, 1));
     Ok(())
 }
 
+const WITH_LAST: Rows = &[(At::Key(1), "x"), (At::Loose(ROW_IDS_END - 1), "a")];
+
+// Whether the row with the last id can be set.
+fn sets_last(table: &mut Table<Global>) -> bool {
+    let last = RowRef::Loose(ROW_IDS_END - 1);
+    table.update(&last, &[(1, Value::Int(5))]).is_ok()
+}
+
 #[test]
 fn the_last_id_is_given_once(rt: HostRuntime) -> Result<(), Fail> {
-    let last = At::Loose(ROW_IDS_END - 1);
     let mut table = Table::with_next_id(rt.alloc(), schema(rt.alloc())?, ROW_IDS_END - 1);
     assert!(rt; insert(rt.alloc(), &mut table, Some(1), "x") == Ok(true));
     assert!(rt; insert(rt.alloc(), &mut table, None, "a") == Ok(true));
-    assert!(rt; has_rows(&table, &[(At::Key(1), "x"), (last, "a")]));
+    assert!(rt; has_rows(&table, WITH_LAST));
     let spent = Some(Refusal::IdsSpent);
     assert!(rt; refusal(insert(rt.alloc(), &mut table, None, "b")) == spent);
     assert!(rt; refusal(set_key(rt.alloc(), &mut table, (At::Key(1), "x"), None)) == spent);
-    assert!(rt;
-        table
-            .update(&RowRef::Loose(ROW_IDS_END - 1), &[(1, Value::Int(5))])
-            .is_ok()
-    );
+    assert!(rt; sets_last(&mut table));
     assert!(rt; table.next_id() == ROW_IDS_END);
     Ok(())
 }
@@ -200,7 +222,7 @@ enum Call {
 type Content = (Rows, u64);
 
 // The calls in turn, each with the content of the table before it and after it.
-const CALLS: [(Call, Content, Content); 4] = [
+const CALLS: &[(Call, Content, Content)] = &[
     (Call::Insert, (&[], 1), (&[(At::Key(1), TEXT)], 1)),
     (
         Call::LoseKey,
@@ -227,20 +249,23 @@ fn made_call<A: AllocHandle>(
     name: &RowRef<A>,
 ) -> Result<(), Fault<Refusal>> {
     match call {
-        Call::Insert => {
-            table.insert(row.copy()?)?;
-        }
-        Call::LoseKey => {
-            table.update(name, &[(0, Value::Null)])?;
-        }
-        Call::GainKey => {
-            table.update(&RowRef::Loose(1), &[(0, Value::Int(1))])?;
-        }
-        Call::Delete => {
-            table.delete(name)?;
-        }
+        Call::Insert => insert_copy(table, row),
+        Call::LoseKey => done(table.update(name, &[(0, Value::Null)])),
+        Call::GainKey => done(table.update(&RowRef::Loose(1), &[(0, Value::Int(1))])),
+        Call::Delete => done(table.delete(name)),
     }
-    Ok(())
+}
+
+fn insert_copy<A: AllocHandle>(table: &mut Table<A>, row: &Row<A>) -> Result<(), Fault<Refusal>> {
+    let copy = row.copy()?;
+    done(table.insert(copy))
+}
+
+fn done<T: Drop>(answer: Result<T, Fault<Refusal>>) -> Result<(), Fault<Refusal>> {
+    match answer {
+        Ok(_made) => Ok(()),
+        Err(fault) => Err(fault),
+    }
 }
 
 // Makes a call with this request for memory refused: whether it is made. Where it is not, the table is as
@@ -259,11 +284,11 @@ fn with_a_request_refused<A: AllocHandle>(
     if !has_content(&snapshot, before) {
         return None;
     }
-    match (answer, memory.has_refused()) {
-        (Ok(()), false) => has_content(table, after).then_some(true),
-        (Err(Fault::OutOfMemory), true) => has_content(table, before).then_some(false),
-        _ => None,
+    if memory.has_refused() {
+        let is_kept = answer == Err(Fault::OutOfMemory) && has_content(table, before);
+        return is_kept.then_some(false);
     }
+    (answer == Ok(()) && has_content(table, after)).then_some(true)
 }
 
 // Makes a call with each of its requests refused in turn, on one table, until it is made: the number of the
@@ -291,7 +316,7 @@ fn each_call_may_be_refused<A: AllocHandle>(
     let (row, name) = (row(alloc, Some(1), TEXT)?, named(alloc, At::Key(1))?);
     let mut table = kv(alloc)?;
     for call in CALLS {
-        if first_unused_request(memory, &mut table, call, (&row, &name)).unwrap_or(0) <= 1 {
+        if first_unused_request(memory, &mut table, *call, (&row, &name)).unwrap_or(0) <= 1 {
             return Ok(false);
         }
     }
@@ -342,6 +367,10 @@ fn update_kept(
     table.update_kept_hooked(key, &fields, hook)
 }
 
+const WITH_A: Rows = &[(At::Key(1), "a")];
+
+const WITH_B: Rows = &[(At::Key(1), "b")];
+
 // Each change is tried with a hook that refuses, and then with one that allows it.
 #[test]
 fn changes_wait_for_the_commit_hook(rt: HostRuntime) -> Result<(), Fail> {
@@ -352,10 +381,10 @@ fn changes_wait_for_the_commit_hook(rt: HostRuntime) -> Result<(), Fail> {
     assert!(rt; has_rows(&table, &[]));
     assert!(rt; insert_keyed(rt.alloc(), &mut table, "a", &mut yes) == Ok(()));
     assert!(rt; update_kept(rt.alloc(), &mut table, &one, &mut no) == vetoed);
-    assert!(rt; has_rows(&table, &[(At::Key(1), "a")]));
+    assert!(rt; has_rows(&table, WITH_A));
     assert!(rt; update_kept(rt.alloc(), &mut table, &one, &mut yes) == Ok(()));
     assert!(rt; table.delete_keyed_hooked(&one, &mut no) == vetoed);
-    assert!(rt; has_rows(&table, &[(At::Key(1), "b")]));
+    assert!(rt; has_rows(&table, WITH_B));
     assert!(rt; table.delete_keyed_hooked(&one, &mut yes) == Ok(()));
     assert!(rt; (table.scan().left(), no.asked, yes.asked) == (0, 3, 3));
     Ok(())

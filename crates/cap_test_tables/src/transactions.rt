@@ -98,28 +98,67 @@ fn has_just_one(alloc: Global, snapshot: &Snapshot<Global>) -> Option<bool> {
     Some(snapshot.get(&name, &one).ok()?.is_some() && snapshot.scan(&name).ok()?.left() == 1)
 }
 
+// A call of a transaction, with what comes of it.
+#[derive(Clone, Copy, Drop)]
+enum Call {
+    // A savepoint, whose mark has this number.
+    Savepoint(u64),
+    Make(Does),
+    // Back to the mark of this number, or refused since there is none.
+    Back(u64),
+    NoMark(u64),
+    // The row 1 has this text, or is not there.
+    One(Option<&'static str>),
+}
+
+const CALLS: &[Call] = &[
+    Call::Savepoint(0),
+    Call::Make(Does::SetText("y")),
+    Call::Savepoint(1),
+    Call::Make(Does::Delete),
+    Call::One(None),
+    Call::Back(1),
+    Call::One(Some("y")),
+    Call::Back(0),
+    Call::One(Some("x")),
+    Call::NoMark(1),
+    Call::Back(0),
+    Call::Savepoint(2),
+];
+
+fn takes(alloc: Global, txn: &mut Txn<Global>, call: Call) -> bool {
+    match call {
+        Call::Savepoint(number) => txn.savepoint() == Ok(Mark { number }),
+        Call::Make(does) => make(alloc, txn, does) == Ok(()),
+        Call::Back(number) => txn.back_to(Mark { number }) == Ok(()),
+        Call::NoMark(number) => refusal(txn.back_to(Mark { number })) == Some(Refusal::NoMark),
+        Call::One(text) => is_one(alloc, txn, text) == Ok(true),
+    }
+}
+
+// Whether a transaction on the snapshot begins and is rolled back.
+fn is_rolled_back(alloc: Global, snapshot: &Snapshot<Global>) -> bool {
+    match Txn::begin(alloc, snapshot) {
+        Ok(txn) => {
+            txn.rollback();
+            true
+        }
+        Err(_) => false,
+    }
+}
+
 #[test]
 fn going_back_keeps_the_mark(rt: HostRuntime) -> Result<(), Fail> {
     let snapshot = with_one(rt.alloc())?;
     let mut txn = Txn::begin(rt.alloc(), &snapshot)?;
-    let (first, second) = (Mark { number: 0 }, Mark { number: 1 });
-    assert!(rt; txn.savepoint() == Ok(first));
-    assert!(rt; make(rt.alloc(), &mut txn, Does::SetText("y")) == Ok(()));
-    assert!(rt; txn.savepoint() == Ok(second));
-    assert!(rt; make(rt.alloc(), &mut txn, Does::Delete) == Ok(()));
-    assert!(rt; is_one(rt.alloc(), &mut txn, None) == Ok(true));
-    assert!(rt; txn.back_to(second) == Ok(()));
-    assert!(rt; is_one(rt.alloc(), &mut txn, Some("y")) == Ok(true));
-    assert!(rt; txn.back_to(first) == Ok(()));
-    assert!(rt; is_one(rt.alloc(), &mut txn, Some("x")) == Ok(true));
-    assert!(rt; refusal(txn.back_to(second)) == Some(Refusal::NoMark));
-    assert!(rt; txn.back_to(first) == Ok(()));
-    assert!(rt; txn.savepoint() == Ok(Mark { number: 2 }));
+    for (number, call) in CALLS.iter().enumerate() {
+        assert!(rt; takes(rt.alloc(), &mut txn, *call), "{number}");
+    }
     assert!(rt; rows_seen(rt.alloc(), &mut txn) == Ok(1));
     let batch = txn.into_batch();
     assert!(rt; (batch.ops().len(), batch.base()) == (0, Some(2)));
     assert!(rt; has_just_one(rt.alloc(), &snapshot) == Some(true));
-    Txn::begin(rt.alloc(), &snapshot)?.rollback();
+    assert!(rt; is_rolled_back(rt.alloc(), &snapshot));
     Ok(())
 }
 
@@ -184,18 +223,29 @@ fn inserts(alloc: Global, keys: &[i64]) -> Result<Batch<Global>, Fault<Refusal>>
     Ok(batch)
 }
 
+// What comes of inserting a row for each of the keys.
+fn inserted(
+    alloc: Global,
+    database: &Database<Global>,
+    keys: &[i64],
+) -> Option<Result<(usize, Option<u128>), Fault<RefusedAt>>> {
+    match inserts(alloc, keys) {
+        Ok(batch) => Some(outcome(alloc, database, batch.ops())),
+        Err(_) => None,
+    }
+}
+
+const DUPLICATE: Fault<RefusedAt> = Fault::Refused(RefusedAt {
+    at: 2,
+    why: Refusal::Duplicate,
+});
+
 #[test]
 fn a_refused_list_changes_nothing(rt: HostRuntime) -> Result<(), Fail> {
     let database = with_table(rt.alloc())?;
-    let batch = inserts(rt.alloc(), &[1, 2, 1])?;
-    let refused = Err(Fault::Refused(RefusedAt {
-        at: 2,
-        why: Refusal::Duplicate,
-    }));
-    assert!(rt; outcome(rt.alloc(), &database, batch.ops()) == refused);
+    assert!(rt; inserted(rt.alloc(), &database, &[1, 2, 1]) == Some(Err(DUPLICATE)));
     assert!(rt; rows_of(rt.alloc(), &database) == Some(0));
-    let batch = inserts(rt.alloc(), &[1, 2])?;
-    assert!(rt; outcome(rt.alloc(), &database, batch.ops()) == Ok((2, Some(2))));
+    assert!(rt; inserted(rt.alloc(), &database, &[1, 2]) == Some(Ok((2, Some(2)))));
     Ok(())
 }
 
@@ -206,6 +256,14 @@ fn create(
 ) -> Result<(), Fault<Refusal>> {
     let schema = Schema::new(alloc, &[true])?;
     database.create(Name::new(alloc, name)?, schema)
+}
+
+// Whether a table with this number for a name is created.
+fn is_created(alloc: Global, database: &mut Database<Global>, number: usize) -> bool {
+    match format!(in alloc; "{number}") {
+        Ok(name) => create(alloc, database, name.as_str()) == Ok(()),
+        Err(_) => false,
+    }
 }
 
 // Why the table u, which is not there, cannot be written.
@@ -228,14 +286,25 @@ fn up_to_64_tables(rt: HostRuntime) -> Result<(), Fail> {
     let exists = Some(Refusal::TableExists);
     assert!(rt; refusal(create(rt.alloc(), &mut database, "t")) == exists);
     for number in 1..TABLES_MAX {
-        let name = format!(in rt.alloc(); "{number}")?;
-        assert!(rt; create(rt.alloc(), &mut database, name.as_str()) == Ok(()));
+        assert!(rt; is_created(rt.alloc(), &mut database, number));
     }
     assert!(rt; database.len() == TABLES_MAX);
     assert!(rt; refusal(create(rt.alloc(), &mut database, "t")) == exists);
     assert!(rt; refusal(create(rt.alloc(), &mut database, "u")) == Some(Refusal::TooMany));
     assert!(rt; refused_write(rt.alloc(), &mut database) == Some(Refusal::NoTable));
     Ok(())
+}
+
+// Makes the operation, or goes back to a savepoint.
+fn operate<A: AllocHandle>(
+    txn: &mut Txn<A>,
+    op: Op<A>,
+    mark: Option<Mark>,
+) -> Result<(), Fault<Refusal>> {
+    match mark {
+        None => txn.op(op),
+        Some(mark) => txn.back_to(mark),
+    }
 }
 
 // Inserts a row, or goes back to a savepoint, with this request for memory refused: whether it is done. Where
@@ -248,18 +317,13 @@ fn with_a_request_refused<A: AllocHandle>(
 ) -> Option<bool> {
     let before = (txn.trace().len(), txn.footprint().len());
     memory.refuse(number);
-    let answer = match mark {
-        None => txn.op(op),
-        Some(mark) => txn.back_to(mark),
-    };
+    let answer = operate(txn, op, mark);
     memory.refuse(0);
-    match (answer, memory.has_refused()) {
-        (Ok(()), false) => Some(true),
-        (Err(Fault::OutOfMemory), true) => {
-            (before == (txn.trace().len(), txn.footprint().len())).then_some(false)
-        }
-        _ => None,
+    if memory.has_refused() {
+        let is_kept = before == (txn.trace().len(), txn.footprint().len());
+        return (is_kept && answer == Err(Fault::OutOfMemory)).then_some(false);
     }
+    (answer == Ok(())).then_some(true)
 }
 
 // Does the same with each request refused in turn, on one transaction, until it is done: whether there were
@@ -316,14 +380,16 @@ fn step(
     }
 }
 
+const HOOKED: &[Does] = &[Does::Insert("a"), Does::SetText("b"), Does::Delete];
+
 // Each operation is tried with a hook that refuses, and then with one that allows it.
 #[test]
 fn operations_wait_for_the_commit_hook(rt: HostRuntime) -> Result<(), Fail> {
     let mut database = with_table(rt.alloc())?;
     let (mut no, mut yes) = (CountingHook::new(false), CountingHook::new(true));
-    for does in [Does::Insert("a"), Does::SetText("b"), Does::Delete] {
-        assert!(rt; step(rt.alloc(), &mut database, does, &mut no) == Err(NotMade::Vetoed(())));
-        assert!(rt; step(rt.alloc(), &mut database, does, &mut yes) == Ok(()));
+    for does in HOOKED {
+        assert!(rt; step(rt.alloc(), &mut database, *does, &mut no) == Err(NotMade::Vetoed(())));
+        assert!(rt; step(rt.alloc(), &mut database, *does, &mut yes) == Ok(()));
     }
     let no_row = Err(NotMade::Refused(Refusal::NoRow));
     assert!(rt; step(rt.alloc(), &mut database, Does::Delete, &mut no) == no_row);
