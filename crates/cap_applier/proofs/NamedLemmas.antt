@@ -90,7 +90,7 @@ module _ {A : Type 0} where
   concluded-stays policy number (Some kind) name table key before after state (Ok false) there other its apart = refl
   concluded-stays policy number conflict name table key before after state (Err why) there other its apart = tt
 
-  change-stays : (policy : Policy) (number : ℕ) (name : List ℕ) (flags : List Bool) (asked : Requested A) (state : AppliedState A) → is_some (target state.database name flags) ≡ true
+  pub change-stays : (policy : Policy) (number : ℕ) (name : List ℕ) (flags : List Bool) (asked : Requested A) (state : AppliedState A) → is_some (target state.database name flags) ≡ true
       → (other : List ℕ) (its : Fields A) → (name ≡ other → key_values flags (key_record_of asked.patch) ≡ its → ⊥) → IfOk (change_applied policy number name flags asked state) (Stays state.database other its)
   change-stays policy number name flags asked state there other its apart =
       let h = has_target state.database name flags there in

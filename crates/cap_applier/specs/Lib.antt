@@ -1,8 +1,10 @@
 pub mod Applier
 pub mod Counted
+pub mod Looked
 pub mod Merge
 pub mod Named
 pub mod Progress
 pub mod Reach
 pub mod Remaining
 pub mod Step
+pub mod Transaction

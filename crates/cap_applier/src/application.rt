@@ -5,10 +5,12 @@ ghost use Rattle.cap_apply.specs.declared.policy.Answer.TheVariants.{Omit};
 ghost use Rattle.cap_database.specs.Keyed.{IsOwnRow};
 ghost use Rattle.cap_database.specs.Tables.{table_of};
 ghost use Rattle.cap_applier.specs.Applier.{IsAtEnd, answered, begun, group_count, merged_at, met};
+ghost use Rattle.cap_applier.specs.Looked.{looked_at};
 ghost use Rattle.cap_applier.specs.Reach.{IsReached};
 ghost use Rattle.cap_applier.specs.Remaining.{AcceptsAll, remaining};
 
 use crate::RowConflict;
+use crate::looked::{RowOf, looked_in};
 use crate::progress::Progress;
 use cap_apply::{Answer, Policy};
 use cap_codec::Contents;
@@ -87,6 +89,18 @@ impl<A: AllocHandle> Application<A> {
             progress,
         } = self;
         progress
+    }
+
+    // The rows that it looks at.
+    pub(crate) fn looked_at(&self) -> Result<Vec<RowOf<A>, A>, OutOfMemory>
+        ensures { IfOk result (λ rows. rows.items ≡ looked_at self.now.filter self.now.blob) }
+    {
+        let alloc = self.progress.alloc();
+        let filter = self.filter.as_ref();
+        match &self.blob {
+            Contents::Changes(list) => looked_in(alloc, filter, list.groups()),
+            Contents::Patches(list) => looked_in(alloc, filter, list.groups()),
+        }
     }
 
     // Makes the change that comes next, where its conflict, if any, is answered so; or leaves a group behind.

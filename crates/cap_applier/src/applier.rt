@@ -6,15 +6,18 @@ ghost use Rattle.cap_applier.specs.Applier.{IsAtEnd, answered, begun, merged_at,
 ghost use Rattle.cap_applier.specs.Merge.{refused_merge};
 ghost use Rattle.cap_applier.specs.Reach.{GoesOn, IsReached};
 ghost use Rattle.cap_applier.specs.Remaining.{AcceptsAll, remaining};
+ghost use Rattle.cap_applier.specs.Transaction.{transaction_of};
 
 use crate::application::Application;
 use crate::merge::refused_for;
+use crate::transaction::leading_to;
 use crate::{MergeRefusal, RowConflict};
 use cap_apply::{Answer, Applied, Policy};
 use cap_codec::Contents;
-use cap_database::Database;
+use cap_database::{Database, Snapshot};
 use cap_filter::TableFilter;
 use cap_row::Row;
+use cap_txn::Txn;
 use cap_value::{AllocHandle, Fault, OutOfMemory, Refusal};
 use std::marker::Model;
 
@@ -185,6 +188,18 @@ impl<A: AllocHandle> Applier<A> {
             Ok(()) => Ok(application.into_progress().into_applied()),
             Err(fault) => Err(fault),
         }
+    }
+
+    /// A transaction on the snapshot with which the application began, which makes what is applied so far: it
+    /// looks at each row that a change names, of the tables that the filter accepts, and has one operation for
+    /// each that is not as it was. Refused with `TooMany` where there are more than `cap_txn::OPS_MAX` of those.
+    pub fn transaction(&self, snapshot: &Snapshot<A>) -> Result<Txn<A>, Fault<Refusal>>
+        ensures { AnswersUnlessMemory result (transaction_of snapshot.now self.now) }
+    {
+        let rows = self.application.looked_at()?;
+        let progress = self.application.progress();
+        let left = progress.applied().database();
+        leading_to(progress.alloc(), snapshot, left, rows.as_slice())
     }
 
     /// What the application leaves, once it is at the end. Where a conflict is to be answered, the applier is

@@ -4,9 +4,12 @@
 mod application;
 mod applier;
 mod laws;
+mod looked;
 mod merge;
 mod progress;
 mod row_conflict;
+mod transaction;
+mod transaction_laws;
 
 pub use applier::Applier;
 pub use laws::{
@@ -15,3 +18,6 @@ pub use laws::{
 };
 pub use merge::MergeRefusal;
 pub use row_conflict::RowConflict;
+pub use transaction_laws::{
+    a_transaction_leaves_what_the_application_left, applications_keep_to_the_rows_that_they_look_at,
+};

@@ -279,7 +279,7 @@ impl<A: AllocHandle> Progress<A> {
 }
 
 // Whether the filter, if any, accepts a table.
-fn is_accepted<A: AllocHandle>(filter: Option<&TableFilter<A>>, table: &Name<A>) -> bool
+pub(crate) fn is_accepted<A: AllocHandle>(filter: Option<&TableFilter<A>>, table: &Name<A>) -> bool
     ensures { result ≡ accepted (option_copied filter.entry) table.now }
 {
     match filter {
@@ -289,7 +289,7 @@ fn is_accepted<A: AllocHandle>(filter: Option<&TableFilter<A>>, table: &Name<A>)
 }
 
 // The row under a key.
-fn row_under<'a, A: AllocHandle>(
+pub(crate) fn row_under<'a, A: AllocHandle>(
     database: &'a Database<A>,
     table: &Name<A>,
     key: &Key<A>,
