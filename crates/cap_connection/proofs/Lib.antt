@@ -1,3 +1,4 @@
+mod ApplicationLemmas
 mod CallLemmas
 pub mod Crossing
 mod OneCommandLemmas

@@ -1,3 +1,4 @@
+pub mod Application
 pub mod Called
 pub mod Calls
 pub mod Clients

@@ -2,6 +2,7 @@
 //! share, an iterator over the changes of a blob, and a decoder that gets one in pieces.
 #![tactic(auto)]
 
+mod application;
 mod captured;
 mod columns;
 mod connection;
@@ -15,6 +16,7 @@ mod one_command;
 mod printer;
 mod replies;
 
+pub use application::{Application, ApplicationFault};
 pub use captured::{CaptureKind, Captured};
 pub use connection::Connection;
 pub use decoder::PieceDecoder;

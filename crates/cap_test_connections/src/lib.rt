@@ -3,6 +3,8 @@
 #![tactic(auto)]
 
 #[cfg(test)]
+mod applications;
+#[cfg(test)]
 mod blobs;
 #[cfg(test)]
 mod calls;
