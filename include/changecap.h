@@ -338,6 +338,27 @@ static inline size_t changecap_put_blob(uint8_t *to, const void *blob, size_t n)
   return changecap_put_bytes(to, CHANGECAP_BLOB, blob, n);
 }
 
+/* Sets *value to a field, from 0 on, of a record that a call has written, and answers where the bytes of a TEXT or a
+ * BLOB are; or NULL where the record has no such field, and *value is as it was. */
+static inline const uint8_t *changecap_field(const uint8_t *record, size_t n, size_t column, changecap_value *value){
+  for(const uint8_t *at = record, *end = record + n; at < end; column--){
+    changecap_value found = { *at++, 0, 0 };
+    if( found.type == CHANGECAP_INTEGER ){
+      uint64_t number = 0;
+      for(int i = 0; i < 8; i++) number = number << 8 | *at++;
+      memcpy(&found.number, &number, sizeof number);
+    }else if( found.type == CHANGECAP_TEXT || found.type == CHANGECAP_BLOB ){
+      do found.len = found.len << 7 | (*at & 0x7f); while( *at++ & 0x80 );
+    }
+    if( column == 0 ){
+      *value = found;
+      return at;
+    }
+    at += found.len;
+  }
+  return NULL;
+}
+
 /* ---- Clients ---- */
 
 /* A client of a history, which is a table server in memory that up to 64 clients share. What each call answers is the
@@ -727,6 +748,101 @@ uint32_t changecap_rollback_to(changecap_transaction *transaction, uint64_t mark
  *   OK, NOMEM (both are as they were). */
 uint32_t changecap_end(changecap_transaction *transaction, changecap_batch *batch);
 
+/* ---- Applications ---- */
+
+/* An application of a changeset or a patchset on a snapshot that stops at each conflict, where the caller sees the
+ * change and the present row, and answers. What it leaves is committed as what it looked at: accepted exactly if each
+ * row that a change names is then as it was in the snapshot, and else refused with 11: begin again on a new snapshot.
+ *
+ *     do{
+ *       changecap_snapshot_open(&client, &snapshot);
+ *       changecap_apply_open(&snapshot, blob, n, NULL, 0, &application, &fault);
+ *       changecap_snapshot_close(&snapshot);
+ *       while( changecap_apply_step(&application) == CHANGECAP_ROW ){
+ *         changecap_apply_present(&application, row, sizeof row, &len);
+ *         changecap_apply_answer(&application, row[len - 1] < 'm' ? CHANGECAP_REPLACE : CHANGECAP_OMIT, &fault);
+ *       }
+ *       status = changecap_apply_finish(&client, &application, &report, &fault);
+ *       changecap_apply_close(&application);
+ *     }while( status == CHANGECAP_REFUSED && fault.kind == 11 );
+ */
+typedef struct changecap_application { void *at; } changecap_application;
+
+/* Opens a closed application on a snapshot, which may be closed from then on, and makes the changes before the first
+ * conflict. Only the tables are looked at that a filter accepts, whose text is that of changecap_session_filter, or all
+ * where m is 0.
+ *   OK, MALFORMED (*fault), FILTER (*fault), MISUSE (the filter is not UTF-8), NOMEM.
+ * Unless the status is OK the application stays closed. */
+uint32_t changecap_apply_open(changecap_snapshot *snapshot, const void *blob, size_t n, const void *filter, size_t m,
+                              changecap_application *application, changecap_fault *fault);
+
+/* Asks whether the application stands at a conflict, the same one until it is answered. It is over where an answer was
+ * refused, or a call that goes on had no memory: then the rest answers MISUSE, and it is begun again.
+ *   ROW, DONE (it is at the end), MISUSE (it is over). */
+uint32_t changecap_apply_step(changecap_application *application);
+
+#define CHANGECAP_DATA     1 /* the row has other values than those before the change */
+#define CHANGECAP_NOTFOUND 2 /* there is no row to update or delete */
+#define CHANGECAP_CONFLICT 3 /* the key of an inserted row is in use */
+
+/* Set *kind to what the change meets, *number to the number of the change, from 0 over the whole blob, and *change to
+ * what it is; its columns are those of the blob's table.
+ *   OK, MISUSE (it stands at no conflict). */
+uint32_t changecap_apply_kind(changecap_application *application, uint32_t *kind);
+uint32_t changecap_apply_number(changecap_application *application, uint64_t *number);
+uint32_t changecap_apply_op(changecap_application *application, changecap_change *change);
+
+/* Writes the name of the change's table.
+ *   OK (*len), ROOM (*len), MISUSE. */
+uint32_t changecap_apply_table(changecap_application *application, void *out, size_t room, size_t *len);
+
+/* Write the record of the row before the change, after it, and of the row that is there, which the earlier changes of
+ * the blob have left. The first two have a field for each column, undefined where there is no value; the last has every
+ * column of the table.
+ *   OK (*len), ROOM (*len), MISUSE (it stands at no conflict; there is no row), NOMEM. */
+uint32_t changecap_apply_old(changecap_application *application, void *out, size_t room, size_t *len);
+uint32_t changecap_apply_new(changecap_application *application, void *out, size_t room, size_t *len);
+uint32_t changecap_apply_present(changecap_application *application, void *out, size_t room, size_t *len);
+
+/* Answers the conflict with CHANGECAP_OMIT, CHANGECAP_REPLACE or CHANGECAP_ABORT, as changecap_apply does, and goes on
+ * to the next one or to the end. After REFUSED and NOMEM it is over.
+ *   OK, REFUSED (*fault: 15, the answer is CHANGECAP_ABORT; 16, CHANGECAP_REPLACE where there is no row; fault->at is
+ *   the number of the change), MISUSE (no such answer; it stands at no conflict), NOMEM. */
+uint32_t changecap_apply_answer(changecap_application *application, uint32_t answer, changecap_fault *fault);
+
+/* Answers the conflict with a row of the caller's own, a record: it stands there in place of the change, which counts
+ * as omitted, and the application goes on.
+ *   OK, REFUSED (*fault: 3, it has not the table's columns), MALFORMED (*fault), NOMEM,
+ *   MISUSE (it has another key than the change; the application stands at no conflict).
+ * Unless the status is OK it stands where it stood, but that with NOMEM it may be over. */
+uint32_t changecap_apply_answer_row(changecap_application *application, const void *row, size_t n,
+                                    changecap_fault *fault);
+
+/* Commits what the application left, once it is at the end: one event and one version. It may be made again.
+ *   OK (*report), REFUSED (*fault: 11, fault->at is the number of the first item that has changed since the snapshot,
+ *   in the batch of changecap_apply_end; 10, more than 10,000 rows have changed), MISUSE (it stands at a conflict, or
+ *   is over), NOMEM, FULL. */
+uint32_t changecap_apply_finish(changecap_client *client, changecap_application *application, changecap_report *report,
+                                changecap_fault *fault);
+
+/* Opens a closed batch for changecap_commit that makes what the application left: an operation for each row that is not
+ * as it was. What it looked at is the table and the row of each change.
+ *   OK, REFUSED (*fault: 10, more than 10,000 rows have changed), MISUSE, NOMEM.
+ * Unless the status is OK the batch stays closed. */
+uint32_t changecap_apply_end(changecap_application *application, changecap_batch *batch, changecap_fault *fault);
+
+/* Sets *report to what became of the changes so far, with the version of the snapshot.
+ *   OK, MISUSE (it is over). */
+uint32_t changecap_apply_report(changecap_application *application, changecap_report *report);
+
+/* The buffer of the application so far, as of changecap_iter_buffer. A change in whose place a row stands was omitted.
+ *   OK (*len), ROOM (*len), MISUSE (no such key_flags; the blob is a patchset; it is over), NOMEM. */
+uint32_t changecap_apply_buffer(changecap_application *application, uint32_t key_flags, void *out, size_t room,
+                                size_t *len);
+
+/* Closes the application, of which nothing is left but what was committed. A closed one stays closed. */
+void changecap_apply_close(changecap_application *application);
+
 /* ---- Calls that do not wait ---- */
 
 /* Each is the call of its name without try_, but answers CHANGECAP_BUSY where another call has the state, and has
@@ -774,6 +890,7 @@ CHANGECAP_END(batch, changecap_batch_close)
 CHANGECAP_END(snapshot, changecap_snapshot_close)
 CHANGECAP_END(rows, changecap_rows_close)
 CHANGECAP_END(transaction, changecap_rollback)
+CHANGECAP_END(application, changecap_apply_close)
 #undef CHANGECAP_END
 
 #define changecap_iter_close changecap_end_iter
@@ -783,6 +900,7 @@ CHANGECAP_END(transaction, changecap_rollback)
 #define changecap_snapshot_close changecap_end_snapshot
 #define changecap_rows_close changecap_end_rows
 #define changecap_rollback changecap_end_transaction
+#define changecap_apply_close changecap_end_application
 
 #define changecap_check(blob, n, fault) changecap_check(changecap_bytes(blob), n, fault)
 #define changecap_invert(blob, n, key_flags, out, room, len, fault) \
@@ -845,6 +963,20 @@ CHANGECAP_END(transaction, changecap_rollback)
   changecap_transaction_get(transaction, changecap_bytes(table), n, changecap_bytes(key), m, id, rows, fault)
 #define changecap_transaction_scan(transaction, table, n, rows, fault) \
   changecap_transaction_scan(transaction, changecap_bytes(table), n, rows, fault)
+#define changecap_apply_open(snapshot, blob, n, filter, m, application, fault) \
+  changecap_apply_open(snapshot, changecap_bytes(blob), n, changecap_bytes(filter), m, application, fault)
+#define changecap_apply_table(application, out, room, len) \
+  changecap_apply_table(application, changecap_room(out), room, len)
+#define changecap_apply_old(application, out, room, len) \
+  changecap_apply_old(application, changecap_room(out), room, len)
+#define changecap_apply_new(application, out, room, len) \
+  changecap_apply_new(application, changecap_room(out), room, len)
+#define changecap_apply_present(application, out, room, len) \
+  changecap_apply_present(application, changecap_room(out), room, len)
+#define changecap_apply_answer_row(application, row, n, fault) \
+  changecap_apply_answer_row(application, changecap_bytes(row), n, fault)
+#define changecap_apply_buffer(application, key_flags, out, room, len) \
+  changecap_apply_buffer(application, key_flags, changecap_room(out), room, len)
 
 #ifdef __cplusplus
 }

@@ -262,6 +262,23 @@ uint32_t changecap_commit_captured(changecap_client *client, changecap_batch *ba
   return status;
 }
 
+uint32_t changecap_apply_finish(changecap_client *client, changecap_application *application, changecap_report *report,
+                                changecap_fault *fault){
+  changecap_batch batch = CHANGECAP_CLOSED;
+  changecap_report left;
+  uint64_t version;
+  uint32_t status = changecap_apply_report(application, &left);
+  if( status == CHANGECAP_OK ) status = changecap_apply_end(application, &batch, fault);
+  if( status != CHANGECAP_OK ) return status;
+  status = changecap_commit(client, &batch, &version, fault);
+  changecap_batch_close(&batch);
+  if( status == CHANGECAP_OK ){
+    *report = left;
+    report->version = version;
+  }
+  return status;
+}
+
 uint32_t changecap_snapshot_open(changecap_client *client, changecap_snapshot *snapshot){
   RETURN_LOCKED(client, changecap_try_snapshot_open(client, snapshot));
 }

@@ -765,6 +765,7 @@ int main(int words, char **word){
   test_rebases();
   test_server();
   test_batches();
+  test_applications();
   test_examples();
   read_known(word[1]);
   known_faults();

@@ -67,6 +67,7 @@ void test_records(void);
 void test_rebases(void);
 void test_server(void);
 void test_batches(void);
+void test_applications(void);
 void test_examples(void);
 
 /* A blob is applied just where it has no fault. */

@@ -16,7 +16,8 @@ use Rattle.cap_records.proofs.rows.RowCursor.TheLaws as rows
 use Rattle.cap_c.proofs.held.HeldCapture.TheLaws as capture
 use Rattle.cap_connection.proofs.iter.BlobIter.TheLaws as iter
 use Rattle.cap_connection.proofs.decoder.PieceDecoder.TheLaws as decoder
-use Rattle.cap_c.specs.Owns.{client_row, batch_row, snapshot_row, transaction_row, rows_row, capture_row, iter_row, decoder_row}
+use Rattle.cap_connection.proofs.application.Application.TheLaws as application
+use Rattle.cap_c.specs.Owns.{client_row, batch_row, snapshot_row, transaction_row, rows_row, capture_row, iter_row, decoder_row, application_row}
 use Rattle.cap_c.specs.contracts.parts.Parts as Parts
 
 module _ (R : RattleType) (laws : Laws R) where
@@ -73,3 +74,9 @@ decoder_box = boxed decoder_row decoder.the_row_laws
 
 abbrev pub decoder_parts : Slot 0
 decoder_parts = in_parts decoder_row
+
+abbrev pub application_box : Bx
+application_box = boxed application_row application.the_row_laws
+
+abbrev pub application_parts : Slot 0
+application_parts = in_parts application_row

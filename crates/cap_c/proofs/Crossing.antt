@@ -14,7 +14,9 @@ use Rattle.cap_row.proofs.row.Row.TheSendSync as row
 use Rattle.cap_tree.proofs.Crossing.{tree_send}
 use Rattle.cap_table.proofs.row_ref.RowRef.TheSendSync as ref
 use Rattle.cap_table.specs.contracts.rows.Rows as Rows
+use Rattle.cap_filter.proofs.Crossing.{filter_send}
 use Rattle.cap_database.proofs.Crossing.{database_send, snapshot_send}
+use Rattle.cap_database.proofs.change.Change.TheSendSync as change
 use Rattle.cap_database.proofs.op.Op.TheSendSync as op
 use Rattle.cap_txn.proofs.Crossing.{batch_send}
 use Rattle.cap_txn.proofs.item.Item.TheSendSync as item
@@ -25,7 +27,16 @@ use Rattle.cap_txn.specs.contracts.savepoint.Savepoint as Savepoint
 use Rattle.cap_txn.specs.contracts.txn.Txn as Txn
 use Rattle.cap_txn.specs.contracts.workspace.Workspace as Workspace
 use Rattle.cap_session.proofs.Crossing.{session_send}
+use Rattle.cap_codec.proofs.read.Contents.TheSendSync as contents
+use Rattle.cap_apply.proofs.conflict.ConflictKind.TheSendSync as kind
+use Rattle.cap_apply.proofs.report.Report.TheSendSync as report
+use Rattle.cap_apply.specs.contracts.applied.Applied as Applied
+use Rattle.cap_applier.specs.contracts.application.Application as Stepped
+use Rattle.cap_applier.specs.contracts.applier.Applier as Applier
+use Rattle.cap_applier.specs.contracts.progress.Progress as Progress
+use Rattle.cap_applier.specs.contracts.row_conflict.RowConflict as RowConflict
 use Rattle.cap_core.specs.contracts.capture.Capture as Capture
+use Rattle.cap_connection.specs.contracts.application.Application as Application
 use Rattle.cap_connection.specs.contracts.captured.Captured as Captured
 use Rattle.cap_records.specs.contracts.rows.RowCursor as RowCursor
 use Rattle.cap_c.specs.contracts.held.HeldBatch as HeldBatch
@@ -66,6 +77,24 @@ module _ (A : RattleType) (h : handle.Ghosts A.Denot) (a : allocator.Ghosts A.De
 
   capture_send : IsSend (Capture.the_row A h a c)
   capture_send = search (database_send, session_send, sendable) depth 40 fits 100000
+
+  applied_send : IsSend (Applied.the_row A h a c)
+  applied_send = search (database_send, change.the_send, report.the_send, sendable, owned) depth 40 fits 100000
+
+  progress_send : IsSend (Progress.the_row A h a c)
+  progress_send = search (applied_send, sendable, owned) depth 40 fits 100000
+
+  stepped_send : IsSend (Stepped.the_row A h a c)
+  stepped_send = search (contents.the_field_send, filter_send, progress_send, sendable, owned) depth 40 fits 100000
+
+  conflict_send : IsSend (RowConflict.the_row A a)
+  conflict_send = search (kind.the_field_send, name.the_send, key.the_send, row.the_send, sendable, owned) depth 40 fits 100000
+
+  applier_send : IsSend (Applier.the_row A h a c)
+  applier_send = search (stepped_send, conflict_send, sendable, owned) depth 40 fits 100000
+
+pub application_send : IsSend Application.the_row
+application_send = search (snapshot_send, applier_send, send, sync, frees, sendable, crosses) depth 40 fits 100000
 
 pub held_batch_send : IsSend HeldBatch.the_row
 held_batch_send = search (batch_send, send, sync, frees, sendable, crosses) depth 40 fits 100000

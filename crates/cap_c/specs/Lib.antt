@@ -1,4 +1,5 @@
 pub mod Answered
+pub mod Applications
 pub mod Batch
 pub mod Bits
 pub mod Captured

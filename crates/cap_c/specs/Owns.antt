@@ -14,6 +14,7 @@ use Rattle.cap_records.specs.contracts.rows.RowCursor as RowCursor
 use Rattle.cap_c.specs.contracts.held.HeldCapture as HeldCapture
 use Rattle.cap_connection.specs.contracts.iter.BlobIter as BlobIter
 use Rattle.cap_connection.specs.contracts.decoder.PieceDecoder as PieceDecoder
+use Rattle.cap_connection.specs.contracts.application.Application as Application
 
 module _ (R : RattleType) where
   abbrev pub owns_if : Global → Ptr → Option R.Denot → Fml
@@ -44,3 +45,6 @@ iter_row = BlobIter.the_row
 
 abbrev pub decoder_row : RattleType
 decoder_row = PieceDecoder.the_row
+
+abbrev pub application_row : RattleType
+application_row = Application.the_row

@@ -1,7 +1,7 @@
 //! What a handle owns may go from one thread to another.
 
 use crate::held::{HeldBatch, HeldCapture, HeldSnapshot, HeldTransaction};
-use cap_connection::{BlobIter, Connection, PieceDecoder};
+use cap_connection::{Application, BlobIter, Connection, PieceDecoder};
 use cap_records::RowCursor;
 
 fn assert_send<T: Send>(_owned: &T) {}
@@ -36,4 +36,8 @@ pub(crate) fn assert_iter_send(it: &BlobIter) {
 
 pub(crate) fn assert_decoder_send(decoder: &PieceDecoder) {
     assert_send(decoder);
+}
+
+pub(crate) fn assert_application_send(application: &Application) {
+    assert_send(application);
 }

@@ -4,6 +4,9 @@
 #![tactic(auto)]
 
 mod answered;
+mod application_calls;
+mod application_handle;
+mod application_outputs;
 mod apply_report;
 mod assert_send;
 mod batch_handle;

@@ -55,7 +55,8 @@ pub(crate) fn policy_of(on_data: u32, on_notfound: u32, on_conflict: u32) -> Opt
     })
 }
 
-fn answer_of(number: u32) -> Option<Answer>
+/// The answer to a conflict.
+pub(crate) fn answer_of(number: u32) -> Option<Answer>
     ensures { result ≡ answer_of number }
 {
     match number {
