@@ -94,15 +94,15 @@ static PyObject *client_save(client *self, PyObject *database){
   return answered(status, &fault, -1);
 }
 
-/* What an application is asked for and answers. */
-typedef struct application {
+/* What an application with fixed answers is asked for, and what an application answers. */
+typedef struct applied {
   uint32_t data, notfound, conflict, status;
   changecap_report report;
   changecap_fault fault;
-} application;
+} applied;
 
 /* The report, or the error of the status. */
-static PyObject *report_or_error(const application *made){
+static PyObject *report_or_error(const applied *made){
   const changecap_report *it = &made->report;
   /* 15 and 16 are the refusals of a change. */
   int is_of_change = made->fault.kind == 15 || made->fault.kind == 16;
@@ -114,15 +114,15 @@ static PyObject *report_or_error(const application *made){
 }
 
 /* Takes the three answers, behind a blob. */
-static int take_answers(PyObject *const *args, Py_ssize_t count, application *to){
-  *to = (application){ 0, 0, 0, CHANGECAP_OK, { 0, 0, 0, 0, 0 }, { 0, 0 } };
+static int take_answers(PyObject *const *args, Py_ssize_t count, applied *to){
+  *to = (applied){ 0, 0, 0, CHANGECAP_OK, { 0, 0, 0, 0, 0 }, { 0, 0 } };
   return has_arguments(count, 4) && word_of(args[1], &to->data) && word_of(args[2], &to->notfound) &&
          word_of(args[3], &to->conflict);
 }
 
 /* Takes a blob and the three answers. */
 static PyObject *client_apply(client *self, PyObject *const *args, Py_ssize_t count){
-  application made;
+  applied made;
   if( !take_answers(args, count, &made) ) return NULL;
   PyObject *blob = content_of(args[0]);
   if( blob == NULL ) return NULL;
@@ -133,7 +133,7 @@ static PyObject *client_apply(client *self, PyObject *const *args, Py_ssize_t co
 }
 
 /* Applies what changes are of, without the GIL. They are locked before the client, here alone. */
-static void apply_changes(client *self, changes *of, application *made){
+static void apply_changes(client *self, changes *of, applied *made){
   pthread_mutex_lock(&of->own.mutex);
   pthread_mutex_lock(&self->own.mutex);
   int is_open = self->handle.at && of->handle.at;
@@ -146,7 +146,7 @@ static void apply_changes(client *self, changes *of, application *made){
 
 /* Takes changes and the three answers. */
 static PyObject *client_apply_changes(client *self, PyObject *const *args, Py_ssize_t count){
-  application made;
+  applied made;
   if( !take_answers(args, count, &made) ) return NULL;
   if( Py_TYPE(args[0]) != &changes_type ){
     PyErr_SetString(PyExc_TypeError, "these are no changes");
@@ -445,6 +445,40 @@ static PyObject *client_commit_transaction(client *self, PyObject *const *args, 
   return answer;
 }
 
+/* Commits the batch of an application, and sets its report: without the GIL. */
+static void finish_application(client *self, application *of, commitment *made, item_read *item,
+                               changecap_report *report){
+  changecap_batch batch = CHANGECAP_CLOSED;
+  pthread_mutex_lock(&of->own.mutex);
+  made->status = of->handle.at ? changecap_apply_report(&of->handle, report) : CLOSED;
+  if( made->status == CHANGECAP_OK ) made->status = changecap_apply_end(&of->handle, &batch, &made->fault);
+  pthread_mutex_unlock(&of->own.mutex);
+  if( made->status == CHANGECAP_OK ) commit_batch(self, &batch, made);
+  if( made->status == CHANGECAP_REFUSED && made->fault.kind == 11 ) read_item(&batch, made->fault.at, item);
+  changecap_batch_close(&batch);
+}
+
+/* Takes an application that is at its end. */
+static PyObject *client_apply_finish(client *self, PyObject *of){
+  commitment made = { 0, 0, NULL, 0, 0, { 0, 0 } };
+  item_read item = { { 0, 0 }, CHANGECAP_MISUSE, 0, 0, { NULL, 0, 0 } };
+  applied all = { 0, 0, 0, CHANGECAP_OK, { 0, 0, 0, 0, 0 }, { 0, 0 } };
+  if( Py_TYPE(of) != &application_type ){
+    PyErr_SetString(PyExc_TypeError, "this is no application");
+    return NULL;
+  }
+  PyThreadState *saved = PyEval_SaveThread();
+  finish_application(self, (application *)of, &made, &item, &all.report);
+  PyEval_RestoreThread(saved);
+  PyObject *detail = detail_of(&item);
+  arena_free(&item.bytes);
+  if( detail == NULL ) PyErr_Clear();
+  all.report.version = made.version;
+  PyObject *answer = made.status == CHANGECAP_OK ? report_or_error(&all) : failed(made.status, &made.fault, -1, detail);
+  Py_XDECREF(detail);
+  return answer;
+}
+
 #define FAST(name) (PyCFunction)(void (*)(void))client_##name, METH_FASTCALL, NULL
 static PyMethodDef client_methods[] = {
   { "join", (PyCFunction)client_join, METH_NOARGS, NULL },
@@ -454,6 +488,7 @@ static PyMethodDef client_methods[] = {
   { "save", (PyCFunction)client_save, METH_O, NULL },
   { "apply", FAST(apply) },
   { "apply_changes", FAST(apply_changes) },
+  { "apply_finish", (PyCFunction)client_apply_finish, METH_O, NULL },
   { "session_new", (PyCFunction)client_session_new, METH_NOARGS, NULL },
   { "session_drop", (PyCFunction)client_session_drop, METH_O, NULL },
   { "session_attach", FAST(session_attach) },

@@ -69,8 +69,13 @@ typedef struct changes { owner own; changecap_iter handle; } changes;
 typedef struct capture { owner own; changecap_capture handle; } capture;
 typedef struct snapshot { owner own; changecap_snapshot handle; } snapshot;
 typedef struct transaction { owner own; changecap_transaction handle; } transaction;
+typedef struct application { owner own; changecap_application handle; } application;
 
-extern PyTypeObject client_type, capture_type, snapshot_type, transaction_type, changes_type, decoder_type;
+extern PyTypeObject client_type, capture_type, snapshot_type, transaction_type, application_type, changes_type,
+                    decoder_type;
+
+/* Begins an application of a blob on a snapshot, to the tables that a filter's text accepts, or with "" to all. */
+PyObject *snapshot_apply(snapshot *self, PyObject *const *args, Py_ssize_t count);
 
 /* ---- Bytes ---- */
 

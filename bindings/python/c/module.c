@@ -83,8 +83,8 @@ static PyModuleDef definition = {
 
 /* Adds the types and what else the module has. */
 static int fill(PyObject *module){
-  PyTypeObject *types[] = { &client_type, &capture_type, &snapshot_type, &transaction_type, &changes_type,
-                            &decoder_type };
+  PyTypeObject *types[] = { &client_type, &capture_type, &snapshot_type, &transaction_type, &application_type,
+                            &changes_type, &decoder_type };
   for(size_t i = 0; i < sizeof types / sizeof *types; i++)
     if( PyModule_AddType(module, types[i]) < 0 ) return -1;
   return PyModule_AddStringConstant(module, "VERSION", changecap_version());

@@ -107,6 +107,7 @@ static PyMethodDef snapshot_methods[] = {
   { "scan_from", (PyCFunction)(void (*)(void))snapshot_scan_from, METH_FASTCALL, NULL },
   { "version", (PyCFunction)snapshot_version, METH_NOARGS, NULL },
   { "begin", (PyCFunction)snapshot_begin, METH_NOARGS, NULL },
+  { "apply", (PyCFunction)(void (*)(void))snapshot_apply, METH_FASTCALL, NULL },
   { "close", (PyCFunction)snapshot_close, METH_NOARGS, NULL },
   { NULL, NULL, 0, NULL },
 };

@@ -63,22 +63,22 @@ pub struct Batch {
 
 impl Batch {
     /// The batch that a call opens.
-    pub(crate) fn open(call: impl FnOnce(*mut ffi::Handle) -> u32) -> Result<Batch> {
-        let handle = Owned::open(ffi::changecap_batch_close, |batch| done(|_| call(batch)))?;
+    pub(crate) fn open(call: impl FnOnce(*mut ffi::Handle, &mut ffi::Fault) -> u32) -> Result<Batch> {
+        let handle = Owned::open(ffi::changecap_batch_close, |batch| done(|fault| call(batch, fault)))?;
         Ok(Batch { handle, has_failed: false })
     }
 
     /// A batch without operations.
     pub fn new() -> Result<Batch> {
         // SAFETY: the handle is closed.
-        Batch::open(|batch| unsafe { ffi::changecap_batch_open(batch) })
+        Batch::open(|batch, _| unsafe { ffi::changecap_batch_open(batch) })
     }
 
     /// The same of one that may be committed on this version alone. On any other it is refused with
     /// [`Refusal::Stale`](crate::Refusal::Stale).
     pub fn new_at(version: u64) -> Result<Batch> {
         // SAFETY: the handle is closed.
-        Batch::open(|batch| unsafe { ffi::changecap_batch_open_at(batch, version) })
+        Batch::open(|batch, _| unsafe { ffi::changecap_batch_open_at(batch, version) })
     }
 
     /// Takes all operations out. The batch may be committed on any version then.

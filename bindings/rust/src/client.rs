@@ -1,8 +1,12 @@
 //! Clients of a server.
+use crate::application::Application;
 use crate::call::{done, done_at, taken, text_of};
 use crate::pool::{snapshot, Pool};
 use crate::refused::{Refused, RefusedChange};
-use crate::{ffi, Batch, ChangesetIter, Error, Result, Snapshot};
+use crate::{
+    ffi, Batch, ChangesetItem, ChangesetIter, ConflictAnswer, ConflictType, Error, Result, Snapshot,
+};
+use crate::{Changeset, RebaseBuffer, Refusal, TRIES};
 use std::cell::RefCell;
 use std::sync::Arc;
 
@@ -213,6 +217,77 @@ impl Client {
         self.applied(|client, report, fault| unsafe {
             ffi::changecap_apply_iter(client, changes.handle.at(), data, not_found, conflict, report, fault)
         })
+    }
+
+    /// Applies a changeset or a patchset to the tables that a filter accepts, a text as of
+    /// [`Session::table_filter`](crate::Session::table_filter), or to all, and calls a function at each conflict: with
+    /// what the change meets, and the change with the row that is there. It answers a [`ConflictAction`], or the
+    /// values of a row that shall stand there instead ([`ConflictAnswer`]). The names and the order of the
+    /// arguments are those of rusqlite's `apply`.
+    ///
+    /// The blob is applied to a snapshot and committed as a transaction that looked at each row that a change
+    /// names, so that no call of another thread comes between. Where one of those has changed it is applied
+    /// again, up to [`TRIES`] times. At most 10,000 rows change: more are refused with
+    /// [`Refusal::TooMany`](crate::Refusal::TooMany).
+    ///
+    /// ```
+    /// use changecap::{ConflictAction::{Abort, Omit, Replace}, ConflictAnswer, Server, ValueRef};
+    /// let client = Server::open_in_memory()?.client()?;
+    /// let insert = [0x54, 2, 1, 0, b't', 0, 0x12, 0, 1, 0, 0, 0, 0, 0, 0, 0, 1, 3, 1, b'x'];
+    /// client.create_table("t", &[true, false])?;
+    /// client.apply(insert, Abort, Abort, Abort)?;
+    /// // Both texts, one behind the other.
+    /// let report = client.apply_with(insert, None, |_, item| {
+    ///     let text = |value: Option<ValueRef>| value.map_or(String::new(), |it| it.to_string());
+    ///     let both = text(item.conflict(1)) + &text(item.new_value(1));
+    ///     ConflictAnswer::Row(vec![1.into(), both.as_str().into()])
+    /// })?;
+    /// assert_eq!((report.version, report.omitted), (3, 1));
+    /// assert_eq!(client.snapshot()?.get("t", (1,))?.unwrap().get::<String>(1)?, "'x''x'");
+    /// assert_eq!(client.apply_with(insert, Some("not is t"), |_, _| Replace)?.conflicts, 0);
+    /// # let _ = Omit;
+    /// # Ok::<(), changecap::Error>(())
+    /// ```
+    pub fn apply_with<A: Into<ConflictAnswer>>(
+        &self,
+        blob: impl AsRef<[u8]>,
+        filter: Option<&str>,
+        conflict: impl FnMut(ConflictType, &ChangesetItem) -> A,
+    ) -> Result<Report> {
+        Ok(self.decided(blob.as_ref(), filter, conflict)?.1)
+    }
+
+    /// The same, with the rebase buffer of the application, for a [`Rebaser`](crate::Rebaser). A change in whose
+    /// place a row stands is omitted. [`Error::Patchset`] of a patchset, which is not applied.
+    pub fn apply_with_buffer<A: Into<ConflictAnswer>>(
+        &self,
+        changeset: &Changeset,
+        filter: Option<&str>,
+        conflict: impl FnMut(ConflictType, &ChangesetItem) -> A,
+    ) -> Result<(Report, RebaseBuffer)> {
+        let (application, report) = self.decided(changeset.as_bytes(), filter, conflict)?;
+        Ok((report, application.buffer()?))
+    }
+
+    /// An application that a function decides, begun again where a row that it looked at has changed.
+    fn decided<A: Into<ConflictAnswer>>(
+        &self,
+        blob: &[u8],
+        filter: Option<&str>,
+        mut conflict: impl FnMut(ConflictType, &ChangesetItem) -> A,
+    ) -> Result<(Application, Report)> {
+        let mut tries = 1;
+        loop {
+            let mut application = Application::begin(&self.snapshot()?, blob, filter)?;
+            application.decide(&mut conflict)?;
+            let (mut batch, report) = application.end()?;
+            match self.commit(&mut batch) {
+                Ok(version) => return Ok((application, Report { version, ..report })),
+                Err(Error::Refused(why)) if why.code == Refusal::Stale && tries < TRIES => tries += 1,
+                Err(error) => return Err(error),
+            }
+            std::thread::yield_now();
+        }
     }
 
     /// What became of the changes of a blob that a call applies.

@@ -17,6 +17,7 @@ pub const BUSY: u32 = 12;
 pub const OVERTAKEN: u32 = 13;
 pub const CLIENTS: u32 = 14;
 pub const ROW: u32 = 100;
+pub const DONE: u32 = 101;
 
 pub const KEYS_ONES: u32 = 0;
 pub const KEYS_PLACES: u32 = 1;
@@ -34,6 +35,10 @@ pub const NULL: u32 = 5;
 pub const OMIT: u32 = 0;
 pub const REPLACE: u32 = 1;
 pub const ABORT: u32 = 2;
+
+pub const DATA: u32 = 1;
+pub const NOTFOUND: u32 = 2;
+pub const CONFLICT: u32 = 3;
 
 pub const ASK: u32 = 2;
 
@@ -486,4 +491,40 @@ unsafe extern "C" {
     pub fn changecap_savepoint(transaction: *mut Handle, mark: *mut u64, fault: *mut Fault) -> u32;
     pub fn changecap_rollback_to(transaction: *mut Handle, mark: u64, fault: *mut Fault) -> u32;
     pub fn changecap_end(transaction: *mut Handle, batch: *mut Handle) -> u32;
+
+    pub fn changecap_apply_open(
+        snapshot: *mut Handle,
+        blob: *const u8,
+        n: usize,
+        filter: *const u8,
+        m: usize,
+        application: *mut Handle,
+        fault: *mut Fault,
+    ) -> u32;
+    pub fn changecap_apply_step(application: *mut Handle) -> u32;
+    pub fn changecap_apply_kind(application: *mut Handle, kind: *mut u32) -> u32;
+    pub fn changecap_apply_number(application: *mut Handle, number: *mut u64) -> u32;
+    pub fn changecap_apply_present(
+        application: *mut Handle,
+        out: *mut u8,
+        room: usize,
+        len: *mut usize,
+    ) -> u32;
+    pub fn changecap_apply_answer(application: *mut Handle, answer: u32, fault: *mut Fault) -> u32;
+    pub fn changecap_apply_answer_row(
+        application: *mut Handle,
+        row: *const u8,
+        n: usize,
+        fault: *mut Fault,
+    ) -> u32;
+    pub fn changecap_apply_end(application: *mut Handle, batch: *mut Handle, fault: *mut Fault) -> u32;
+    pub fn changecap_apply_report(application: *mut Handle, report: *mut Report) -> u32;
+    pub fn changecap_apply_buffer(
+        application: *mut Handle,
+        key_flags: u32,
+        out: *mut u8,
+        room: usize,
+        len: *mut usize,
+    ) -> u32;
+    pub fn changecap_apply_close(application: *mut Handle);
 }

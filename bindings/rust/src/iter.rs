@@ -148,6 +148,17 @@ impl ChangesetIter {
         }
     }
 
+    /// The change behind so many further ones, which are passed over.
+    pub(crate) fn skip_to(&mut self, passed: u64) -> Result<Change> {
+        for _ in 0..=passed {
+            // SAFETY: the handle is open as long as the iterator is there.
+            if unsafe { ffi::changecap_iter_next(self.handle.at()) } != ffi::ROW {
+                return Err(Error::Misuse);
+            }
+        }
+        self.change()
+    }
+
     /// The change at which the iterator is.
     fn change(&mut self) -> Result<Change> {
         let (iter, mut change) = (self.handle.at(), ffi::Change::default());

@@ -19,6 +19,7 @@
 //! ```
 #![warn(missing_docs, missing_debug_implementations, clippy::undocumented_unsafe_blocks)]
 
+mod application;
 mod batch;
 mod blob;
 mod call;
@@ -40,6 +41,7 @@ mod snapshot;
 mod transaction;
 mod value;
 
+pub use application::{ChangesetItem, ConflictAnswer, ConflictType};
 pub use batch::{Batch, Cause};
 pub use blob::{check, invert_strm, Changeset, KeyFlags, Patchset};
 pub use capture::Capture;

@@ -119,7 +119,7 @@ impl Transaction {
     /// Once an operation is put into that batch, it may be committed on the version of the snapshot alone.
     pub fn into_batch(self) -> Result<Batch> {
         // SAFETY: the transaction is open, and the batch closed.
-        Batch::open(|batch| unsafe { ffi::changecap_end(self.handle.at(), batch) })
+        Batch::open(|batch, _| unsafe { ffi::changecap_end(self.handle.at(), batch) })
     }
 
     /// Commits the transaction by a client, and answers the new version.

@@ -26,16 +26,17 @@ except ImportError as _error:
 from ._blobs import (EXAMPLE, Blob, Change, Given, Rebaser, Row, RowId, Value, check, concat, invert, iterate,
                      iterate_pieces, json, patchset, rebase_buffer)
 from ._errors import Conflict, Error, Malformed, NoFilter, NotOneCommand, Refused, Uncaptured
-from ._numbers import (ABORT, BUSY, CASCADE, CLIENTS, COLUMNS, COMMAND, DIRECT, DONE, FILTER, FULL, KEYS_ONES,
-                       KEYS_PLACES, KIND, MALFORMED, MISUSE, NOMEM, OK, OMIT, OVERTAKEN, PATCHSET, REFUSED, REPLACE,
-                       ROOM, ROW)
-from ._server import Capture, Key, Operation, Report, Server, Session, Snapshot, Transaction
+from ._numbers import (ABORT, BUSY, CASCADE, CLIENTS, COLUMNS, COMMAND, CONFLICT, DATA, DIRECT, DONE, FILTER, FULL,
+                       KEYS_ONES, KEYS_PLACES, KIND, MALFORMED, MISUSE, NOMEM, NOTFOUND, OK, OMIT, OVERTAKEN, PATCHSET,
+                       REFUSED, REPLACE, ROOM, ROW)
+from ._server import Capture, Decide, Key, Operation, Report, Server, Session, Snapshot, Transaction
 
 __version__ = _changecap.VERSION
 __all__ = [
-    "ABORT", "BUSY", "CASCADE", "CLIENTS", "COLUMNS", "COMMAND", "DIRECT", "DONE", "EXAMPLE", "FILTER", "FULL",
-    "KEYS_ONES", "KEYS_PLACES", "KIND", "MALFORMED", "MISUSE", "NOMEM", "OK", "OMIT", "OVERTAKEN", "PATCHSET",
-    "REFUSED", "REPLACE", "ROOM", "ROW", "Blob", "Capture", "Change", "Conflict", "Error", "Given", "Key", "Malformed",
+    "ABORT", "BUSY", "CASCADE", "CLIENTS", "COLUMNS", "COMMAND", "CONFLICT", "DATA", "DIRECT", "DONE", "EXAMPLE",
+    "FILTER", "FULL", "KEYS_ONES", "KEYS_PLACES", "KIND", "MALFORMED", "MISUSE", "NOMEM", "NOTFOUND", "OK", "OMIT",
+    "OVERTAKEN", "PATCHSET", "REFUSED", "REPLACE", "ROOM", "ROW", "Blob", "Capture", "Change", "Conflict", "Decide",
+    "Error", "Given", "Key", "Malformed",
     "NoFilter", "NotOneCommand", "Operation", "Rebaser", "Refused", "Report", "Row", "RowId", "Server", "Session",
     "Snapshot", "Transaction", "Uncaptured", "Value", "check", "concat", "invert", "iterate", "iterate_pieces", "json",
     "patchset", "rebase_buffer",

@@ -11,9 +11,9 @@ from types import TracebackType
 from typing import Literal, TypeVar, Union
 
 from . import _changecap
-from ._blobs import Blob, Given, Row, RowId, iterate
-from ._errors import Conflict, Error, Refused, refused_reply
-from ._numbers import ABORT, CLIENTS, DIRECT, KEYS_ONES, KEYS_PLACES, MISUSE
+from ._blobs import Blob, Change, Given, Row, RowId, Value, iterate
+from ._errors import Conflict, Error, NoFilter, Refused, refused_reply
+from ._numbers import (ABORT, CLIENTS, CONFLICT, DATA, DIRECT, KEYS_ONES, KEYS_PLACES, MISUSE, NOTFOUND, PATCHSET)
 
 Key = Union[Sequence[Given], RowId]
 """How a row is named: by its key, or by its id where it has none."""
@@ -24,6 +24,9 @@ Operation = Union[
     tuple[Literal["delete"], str, Key], tuple[Literal["delete"], str, Key, int],
 ]
 """An operation of `Server.commit`."""
+Decide = Callable[[int, Change, Union[tuple[Value, ...], None]], Union[int, Sequence[Given]]]
+"""What decides a conflict: of its kind (DATA, NOTFOUND or CONFLICT), the change, and the values of the row that is there,
+or None. It answers OMIT, REPLACE or ABORT, or the values of the row that shall stand there instead."""
 _Result = TypeVar("_Result")
 _ALL = 2**64 - 1
 
@@ -48,6 +51,37 @@ def _key_flags(number: int) -> int:
     return number
 
 
+def _filter_text(blob: bytes, accepts: str | Callable[[str], bool] | None) -> str:
+    """The text of a filter; of a function one that accepts the tables of the blob for which it answers True."""
+    if accepts is None:
+        return "all"
+    if isinstance(accepts, str):
+        if not accepts:
+            raise NoFilter(12, 0)
+        return accepts
+    tables = dict.fromkeys(change.table for change in iterate(blob))
+    names = (name.replace("'", "''") for name in tables if accepts(name))
+    return "or(" + ",".join(f"is '{name}'" for name in names) + ")"
+
+
+def _answer_each(application: _changecap.Application, blob: bytes, decide: Decide) -> None:
+    """Answers each conflict of an application as a function decides."""
+    changes, passed = iterate(blob), 0
+    while (met := application.step()) is not None:
+        kind, number, row = met
+        change = next(islice(changes, number - passed, None))
+        passed = number + 1
+        answer = decide(kind, change, row)
+        try:
+            if isinstance(answer, int):
+                application.answer(answer)
+            else:
+                application.answer_row(answer)
+        except Refused as refused:
+            at = number if refused.at is None else refused.at
+            raise Refused(refused.kind, at, change=change) from None
+
+
 @dataclass
 class Report:
     """What became of an applied blob: the new version, the changes that were applied, those that replaced a row among
@@ -64,7 +98,7 @@ class Report:
     conflicts: int
     omitted: int
     skipped: int
-    _changes: _changecap.Changes | None = field(default=None, repr=False, compare=False)
+    _changes: _changecap.Changes | _changecap.Application | None = field(default=None, repr=False, compare=False)
 
     def buffer(self) -> bytes:
         """The rebase buffer of an application with `rebase`, for `Rebaser.configure`: the changes that met a conflict,
@@ -240,11 +274,17 @@ class Server:
         """Saves the tables under a name, for `Session.diff`."""
         self._client().save(database)
 
-    def apply(self, blob: Blob, data: int = ABORT, notfound: int = ABORT, conflict: int = ABORT,
-              rebase: bool = False) -> Report:
+    def apply(self, blob: Blob, data: int = ABORT, notfound: int = ABORT, conflict: int | Decide = ABORT,
+              rebase: bool = False, filter: str | Callable[[str], bool] | None = None, tries: int = 100) -> Report:
         """Applies a changeset or a patchset, with an answer where a row differs, where it is missing, and where its
         key is in use. With `rebase` it is a changeset, and the report has its rebase buffer. Of a `Refused`, `change`
         is the change that is refused and `at` its number, from 0.
+
+        Where `conflict` is a function (`Decide`) it answers each conflict: of its kind, the change and the values of
+        the row that is there. With it, or with a filter, which is a text or a function of the name of a table, the
+        blob is applied to a snapshot and committed as a transaction that looked at each row that a change names: no
+        call of another thread comes between. It is applied again where one of those has changed, as often as `tries`
+        says in all, and at most 10,000 rows change.
 
         >>> import changecap
         >>> with Server() as server:
@@ -257,7 +297,26 @@ class Server:
         1
         1
         refused at 0: E15 Aborted: insert of t (1,)
+
+        >>> def longest(kind, change, row):
+        ...     return changecap.REPLACE if len(change.new[1]) > len(row[1]) else (row[0], row[1] + "!")
+        >>> with Server() as server:
+        ...     server.create_table("t", [True, False])
+        ...     server.commit(("insert", "t", (1, "longer")))
+        ...     server.apply(changecap.EXAMPLE, conflict=longest).omitted
+        ...     server.apply(changecap.EXAMPLE, filter=lambda table: table != "t").applied
+        ...     server.get("t", (1,)).values
+        1
+        2
+        1
+        0
+        (1, 'longer!')
         """
+        if callable(conflict):
+            return self._decided(blob, conflict, rebase, filter, tries)
+        if filter is not None:
+            answers = {DATA: data, NOTFOUND: notfound, CONFLICT: conflict}
+            return self._decided(blob, lambda kind, change, row: answers[kind], rebase, filter, tries)
         changes = _changecap.Changes(blob) if rebase else None
         try:
             if changes is None:
@@ -269,6 +328,23 @@ class Server:
                 raise
             change = next(islice(iterate(blob), refused.at, None), None)
             raise Refused(refused.kind, refused.at, change=change) from None
+
+    def _decided(self, blob: Blob, decide: Decide, rebase: bool, accepts: str | Callable[[str], bool] | None,
+                 tries: int) -> Report:
+        """An application whose conflicts a function decides."""
+        content = bytes(blob)
+        if rebase and content[:1] == b"P":
+            raise Error(PATCHSET, _changecap.errstr(PATCHSET))
+        text = _filter_text(content, accepts)
+        while True:
+            application = self._client().snapshot().apply(content, text)
+            _answer_each(application, content, decide)
+            try:
+                return Report(*self._client().apply_finish(application), application if rebase else None)
+            except Conflict:
+                tries -= 1
+                if tries <= 0:
+                    raise
 
     def session(self) -> Session:
         """Makes a session, which ends when nobody refers to it any more."""
