@@ -192,11 +192,13 @@ class Connection:
             raise applied.error
         return applied
 
-    def apply_with_buffer(self, blob, answer):
-        """Applies a changeset by `sqlite3changeset_apply_v2`. What it answers to a conflict is the answer of a function
-        from the kind of the conflict and the change. Returns the result code, the changes that met a conflict, each
-        with its kind and its answer, and the rebase buffer."""
+    def apply_with_buffer(self, blob, answer, accepts=None):
+        """Applies a changeset by `sqlite3changeset_apply_v2`, to the tables whose names a function accepts, or to all.
+        What it answers to a conflict is the answer of a function from the kind of the conflict and the change. Returns
+        the result code, the changes that met a conflict, each with its kind and its answer, and the rebase buffer,
+        which is empty of a patchset."""
         conflicts, length, content = [], c_int(), c_void_p()
+        chosen = XFilter(lambda _, name: bool(accepts(name.decode()))) if accepts else XFilter(0)
 
         def note(_, kind, iterator):
             """SQLite calls this, so that no exception may leave it."""
@@ -210,8 +212,8 @@ class Connection:
                 conflicts.append((None, "error", error))
                 return ANSWERS["abort"]
 
-        code = self.calls.sqlite3changeset_apply_v2(self.at, len(blob), blob, None, XConflict(note), None,
-                                                    byref(content), byref(length), 0)
+        buffer = (None, None) if blob[:1] == b"P" else (byref(content), byref(length))
+        code = self.calls.sqlite3changeset_apply_v2(self.at, len(blob), blob, chosen, XConflict(note), None, *buffer, 0)
         for change, _, error in conflicts:
             if change is None:
                 raise error
