@@ -152,8 +152,8 @@ uint32_t changecap_concat(const void *first, size_t n, const void *second, size_
 
 /* A changeset of a client's own over the buffers of its applications (changecap_iter_buffer), one behind the other in
  * the order of the applications, as sqlite3rebaser_rebase: what it has to be, so that where the applied changesets
- * come from it meets no conflict and leaves the rows that the client has (docs/manual/applying.md). *blob is the number
- * of what is refused: 0 of the changeset, 1 of the buffers.
+ * come from it meets no conflict and leaves the rows that the client has (docs/manual/applying.md). The changes keep
+ * their order. *blob is the number of what is refused: 0 of the changeset, 1 of the buffers.
  *   OK (*len), MALFORMED (*fault, *blob), ROOM (*len), NOMEM, PATCHSET (*blob), MISUSE (no such key_flags),
  *   COLUMNS (*blob).
  * Unless the status is OK, out is as it was. */
@@ -233,13 +233,14 @@ uint32_t changecap_iter_table(changecap_iter *it, void *out, size_t room, size_t
 uint32_t changecap_iter_key(changecap_iter *it, size_t column, uint32_t *is_key);
 
 /* Set *value to that of a column before or after the change, as sqlite3changeset_old and sqlite3changeset_new. In a
- * patchset an UPDATE has its key columns before, and its modified columns after.
- *   OK, MISUSE. */
+ * patchset an UPDATE has its key columns before, and its modified columns after. An INSERT has no value before, and a
+ * DELETE none after: each is undefined.
+ *   OK, MISUSE (there is no change, or no such column). */
 uint32_t changecap_iter_old(changecap_iter *it, size_t column, changecap_value *value);
 uint32_t changecap_iter_new(changecap_iter *it, size_t column, changecap_value *value);
 
-/* Write the bytes of a TEXT or a BLOB; any other value has none.
- *   OK (*len), ROOM (*len), MISUSE. */
+/* Write the bytes of a TEXT or a BLOB; any other value, or an undefined one, has none.
+ *   OK (*len), ROOM (*len), MISUSE (as above). */
 uint32_t changecap_iter_old_bytes(changecap_iter *it, size_t column, void *out, size_t room, size_t *len);
 uint32_t changecap_iter_new_bytes(changecap_iter *it, size_t column, void *out, size_t room, size_t *len);
 
@@ -409,12 +410,14 @@ uint32_t changecap_meet(changecap_client *client, changecap_client *other);
  * All other calls touch the caller's handles alone, and wait for nothing.
  *
  * Where the status is REFUSED, fault->kind is the number of the refusal, 1 to 20 as in E1 to E20 of
- * docs/manual/rules.md, and fault->at is 0 unless said otherwise. Unless the status is OK or REFUSED the history is as
- * it was. A name is 1 to 255 bytes of UTF-8 without a zero byte. */
+ * docs/manual/rules.md, and fault->at is 0 unless said otherwise; changecap_call alone leaves it as
+ * it was. Unless the status is OK or REFUSED the history is as it was. A name is 1 to 255 bytes of UTF-8 without a zero
+ * byte. */
 
 /* Carries out the one command that the n bytes are, in the language of docs/manual/formats.md ("Workload text"), and
- * keeps the text of its reply until the client's next changecap_call.
- *   OK, REFUSED (the reply says why), COMMAND (*fault), NOMEM, FULL.
+ * keeps the text of its reply until the client's next changecap_call that has one.
+ *   OK, REFUSED (the reply says why, and *fault stays as it is), COMMAND (*fault), NOMEM, FULL.
+ * A get or a scan of a table that is not there is OK, and its reply says that it is refused.
  * Of a fault, kind is 1 where a token does not fit, 2 where a limit is passed, 3 where the bytes to apply are no
  * blob, and 0 where the text is not UTF-8 or not just one command; at is the offset in the line, or in the bytes to
  * apply. */
