@@ -1,7 +1,7 @@
 """Runs: the calls of a run in the order of its one history.
 
-A run is read from a workload and the replies that `changecap run` has printed, or from a file of JSON lines, as
-record.py writes them. Whatever it is read from, it is a list of `Call`: who wants another form of runs writes another
+A run is read from a workload and the replies that `changecap run` has printed, as text or with --json, or from a file of
+JSON lines, as record.py writes them. Whatever it is read from, it is a list of `Call`: who wants another form of runs writes another
 function that answers one.
 """
 import copy
@@ -9,6 +9,7 @@ import json
 import re
 from dataclasses import dataclass
 
+import json_replies
 import workload
 from server import Server
 
@@ -63,11 +64,23 @@ def read_json(text):
 def read_workload(text, printed, threads=1):
     """The calls of a workload with these replies, in an order in which a server without threads gives them."""
     blocks = blocks_of(text, threads)
-    replies = iter([*replies_of(printed, [call.command for block in blocks for _, call in block])])
-    for block in blocks:
-        for _, call in block:
-            call.reply = next(replies)
+    calls = [call for block in blocks for _, call in block]
+    for call, reply in zip(calls, texts_of(text, printed, [call.command for call in calls])):
+        call.reply = reply
     return in_order(blocks)
+
+
+def texts_of(text, printed, commands):
+    """The texts of the replies to a workload, which are printed as text or as JSON lines, as many as its commands."""
+    if not printed.startswith("{"):
+        return [*replies_of(printed, commands)]
+    try:
+        texts = json_replies.replies(text, printed)
+    except (KeyError, TypeError, ValueError) as fault:
+        raise NoRun(f"the replies are not of this workload: {fault}") from None
+    if len(texts) < len(commands):
+        raise NoRun(f"there are {len(texts)} replies, and no reply to: {commands[len(texts)].line}")
+    return texts
 
 
 def blocks_of(text, threads):

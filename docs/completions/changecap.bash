@@ -9,7 +9,7 @@ _changecap() {
     done
     case $command in
         '') words='run shell show invert patchset concat rebase --version' ;;
-        run) words='--threads --in-turn' ;;
+        run) words='--threads --in-turn --json' ;;
         shell) words='' ;;
         show) words='--sql --json --binary' ;;
         invert | patchset | concat | rebase) words='--binary --key-flags' ;;

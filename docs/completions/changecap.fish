@@ -12,6 +12,7 @@ complete -c changecap -s v -l verbose -d 'Say what failed where the status is 3'
 complete -c changecap -s h -l help -d 'Print help'
 complete -c changecap -n '__fish_seen_subcommand_from run' -l threads -x -d 'How many workers, 1 to 63'
 complete -c changecap -n '__fish_seen_subcommand_from run' -l in-turn -d 'Workers call in the order of the lines'
+complete -c changecap -n '__fish_seen_subcommand_from run' -l json -d 'Print each reply as a JSON object'
 complete -c changecap -n '__fish_seen_subcommand_from show' -l sql -d 'Print SQL'
 complete -c changecap -n '__fish_seen_subcommand_from show' -l json -d 'Print JSON'
 set -l converting show invert patchset concat rebase

@@ -1,55 +1,10 @@
 -- The first blob of an input that has several.
-use Rattle.std.proofs.Common.{◌≡◌, ◌∙◌, ℕ, zero, suc, ◌+◌, ◌-◌, ◌<◌, ◌≤◌, Bool, true, false, cond, ◌||◌, ◌==◌, List, [], ◌∷◌, ◌++◌, Option, Some, None, length, get_or, take, drop, drop-cons, take-append-drop, ap, ap₂, sym, refl, subst, arith}
+use Rattle.std.proofs.Common.{◌≡◌, ◌∙◌, ℕ, zero, suc, ◌+◌, ◌-◌, ◌<◌, ◌≤◌, Bool, true, false, cond, List, [], ◌∷◌, Option, Some, None, length, take, drop, ap, sym, refl, arith}
 use Rattle.std.specs.Prelude.{nat_le}
-use Rattle.std.specs.List.{list_any, onto_first}
 use Rattle.std.proofs.lemmas.Bool.{leb-true}
 use Rattle.std.proofs.lemmas.List.{length-drop}
-use Rattle.std.proofs.lemmas.List.Folds.{list_any_more}
 use Rattle.std.specs.Option.{option_map_or}
-use Rattle.cap_run.specs.BlobList.{frame_at, frame_len, frames, split_lines}
-
--- ---- lines
-
-abbrev pub has_line_feed : List ℕ → Bool
-has_line_feed = list_any (λ byte. byte == 10)
-
-pub line_cut : (line rest : List ℕ) → has_line_feed line ≡ false → split_lines (line ++ 10 ∷ rest) ≡ line ∷ split_lines rest
-line_cut [] rest clear = refl
-line_cut (b ∷ line) rest clear =
-    elim (b == 10) as (λ is. (is || has_line_feed line) ≡ false → cond is ([] ∷ split_lines (line ++ 10 ∷ rest)) (onto_first b (split_lines (line ++ 10 ∷ rest))) ≡ (b ∷ line) ∷ split_lines rest) [
-      | true ↦ λ e. absurd (cc e)
-      | false ↦ λ e. ap (onto_first b) (line_cut line rest e)
-    ] clear
-
-pub line_last : (b : ℕ) (bytes : List ℕ) → has_line_feed (b ∷ bytes) ≡ false → split_lines (b ∷ bytes) ≡ (b ∷ bytes) ∷ []
-line_last b [] clear =
-    elim (b == 10) as (λ is. (is || false) ≡ false → cond is ([] ∷ []) ((b ∷ []) ∷ []) ≡ (b ∷ []) ∷ []) [
-      | true ↦ λ e. absurd (cc e)
-      | false ↦ λ e. refl
-    ] clear
-line_last b (c ∷ bytes) clear =
-    elim (b == 10) as (λ is. (is || has_line_feed (c ∷ bytes)) ≡ false → cond is ([] ∷ split_lines (c ∷ bytes)) (onto_first b (split_lines (c ∷ bytes))) ≡ (b ∷ c ∷ bytes) ∷ []) [
-      | true ↦ λ e. absurd (cc e)
-      | false ↦ λ e. ap (onto_first b) (line_last c bytes e)
-    ] clear
-
-pub line_alone : (bytes : List ℕ) → 0 < length bytes → has_line_feed bytes ≡ false → split_lines bytes ≡ bytes ∷ []
-line_alone [] some clear = absurd (omega (arith, some))
-line_alone (b ∷ bytes) some clear = line_last b bytes clear
-
--- the line ends at this byte
-pub line_at : (text : List ℕ) (i d : ℕ) → i < length text → get_or text i d ≡ 10 → has_line_feed (take i text) ≡ false → split_lines text ≡ take i text ∷ split_lines (drop (i + 1) text)
-line_at text i d within feed clear =
-    let n : suc i ≡ i + 1 = omega arith in
-    let behind : drop i text ≡ get_or text i d ∷ drop (i + 1) text = drop-cons text i d within ∙ (λ k. get_or text i d ∷ drop (n k) text) in
-    let parts : text ≡ take i text ++ 10 ∷ drop (i + 1) text = sym (take-append-drop i text) ∙ ap (λ (l : List ℕ). take i text ++ l) (behind ∙ ap (λ (b : ℕ). b ∷ drop (i + 1) text) feed) in
-    ap split_lines parts ∙ line_cut (take i text) (drop (i + 1) text) clear
-
--- it does not
-pub line_more : (text : List ℕ) (i byte : ℕ) → i < length text → byte ≡ get_or text i byte → (byte == 10) ≡ false → has_line_feed (take i text) ≡ false → has_line_feed (take (i + 1) text) ≡ false
-line_more text i byte within is other clear = list_any_more (λ b. b == 10) text i byte within ∙ ap₂ (λ (x y : Bool). x || y) clear (ap (λ (b : ℕ). b == 10) (sym is) ∙ other)
-
--- ---- frames
+use Rattle.cap_run.specs.BlobList.{frame_at, frame_len, frames}
 
 abbrev behind_of : Option (List ℕ × List ℕ) → List ℕ
 behind_of None = []

@@ -19,8 +19,8 @@ use Rattle.cap_run.proofs.WorkerLemmas.{seat_lines-parts, seat_lines-some}
 use Rattle.cap_run.specs.Run.{Ended, on_a_line, reply_lines}
 use Rattle.cap_run.specs.Code.Calls.{AreNumbered, AreSeats, EachAt, EachSawIn, Gathers, GoesOn, HasMet, first_seen, HasCalledLines, HasCalledOwn, HasSeen, HasWorked, HaveCalled, IsFaultOf, OneHasSeen, Work, reply_texts, seat_lines, texts_of, work}
 use Rattle.cap_run.specs.Workload.{HasCount, calls_of, seat_of}
-use Rattle.cap_script.specs.ReplyText.{reply_text}
-use Rattle.cap_script.specs.declared.line.Line.{Line}
+use Rattle.cap_replies.specs.Printed.{reply_text}
+use Rattle.cap_replies.specs.declared.run_line.RunLine.{RunLine}
 use Rattle.cap_locked.specs.declared.fault.CallFault.{CallFault}
 
 pub take-begins : {X : Type 0} (n : ℕ) (xs : List X) → IsPrefix (take n xs) xs
@@ -34,7 +34,7 @@ get_or-any (x ∷ xs) (suc place) d e within = get_or-any xs place d e (omega (a
 module _ {A : Type 0} where
   -- ---- the texts of all workers, in the order of the lines
 
-  pub replies_of : (threads : ℕ) (lines : List (Line A)) (old : List (SeatState A)) (new : List (Work A)) → AllZip (HasWorked threads lines) old new → ℕ → List (Reply A)
+  pub replies_of : (threads : ℕ) (lines : List (RunLine A)) (old : List (SeatState A)) (new : List (Work A)) → AllZip (HasWorked threads lines) old new → ℕ → List (Reply A)
   replies_of threads lines [] [] each place = []
   replies_of threads lines [] (y ∷ new) each place = []
   replies_of threads lines (x ∷ old) [] each place = []
@@ -47,7 +47,7 @@ module _ {A : Type 0} where
   abbrev pub all_texts : List (Work A) → List (List (List ℕ))
   all_texts works = map (λ work. work.texts) works
 
-  pub texts_at : (threads : ℕ) (lines : List (Line A)) (number : ℕ → ℕ) (old : List (SeatState A)) (new : List (Work A)) (each : AllZip (HasWorked threads lines) old new) → AreNumbered number old → (place : ℕ)
+  pub texts_at : (threads : ℕ) (lines : List (RunLine A)) (number : ℕ → ℕ) (old : List (SeatState A)) (new : List (Work A)) (each : AllZip (HasWorked threads lines) old new) → AreNumbered number old → (place : ℕ)
       → get_or (all_texts new) place [] ≡ reply_texts (seat_lines threads (number place) lines) (replies_of threads lines old new each place)
   unfolding replies_of
   texts_at threads lines number [] [] each so place = sym (reply_texts-none (seat_lines threads (number place) lines))
@@ -57,7 +57,7 @@ module _ {A : Type 0} where
       each.0.texts_are ∙ ap (λ (n : ℕ). reply_texts (seat_lines threads n lines) each.0.replies) so.0
   texts_at threads lines number (x ∷ old) (y ∷ new) each so (suc place) = texts_at threads lines (λ p. number (suc p)) old new each.1 so.1 place
 
-  worked-numbers : (threads : ℕ) (lines : List (Line A)) (number : ℕ → ℕ) (old : List (SeatState A)) (new : List (Work A)) → AllZip (HasWorked threads lines) old new → AreNumbered number old
+  worked-numbers : (threads : ℕ) (lines : List (RunLine A)) (number : ℕ → ℕ) (old : List (SeatState A)) (new : List (Work A)) → AllZip (HasWorked threads lines) old new → AreNumbered number old
       → AreNumbered number (seats_of new)
   worked-numbers threads lines number [] [] each so = tt
   worked-numbers threads lines number [] (y ∷ new) each so = absurd each
@@ -65,12 +65,12 @@ module _ {A : Type 0} where
   worked-numbers threads lines number (x ∷ old) (y ∷ new) each so = (each.0.number ∙ so.0, worked-numbers threads lines (λ place. number (suc place)) old new each.1 so.1)
 
   -- after a block the seats are still numbered by their places
-  pub worked_seats : (threads : ℕ) (lines : List (Line A)) (old : List (SeatState A)) (new : List (Work A)) → AllZip (HasWorked threads lines) old new → AreSeats threads old → AreSeats threads (seats_of new)
+  pub worked_seats : (threads : ℕ) (lines : List (RunLine A)) (old : List (SeatState A)) (new : List (Work A)) → AllZip (HasWorked threads lines) old new → AreSeats threads old → AreSeats threads (seats_of new)
   worked_seats threads lines old new each so =
       (length-map new (λ work. work.seat) ∙ same_length (HasWorked threads lines) old new each ∙ so.0, worked-numbers threads lines (λ place. place) old new each so.1)
 
   -- one worker more
-  pub worked_push : (threads : ℕ) (lines : List (Line A)) (old : List (SeatState A)) (new : List (Work A)) (seat : SeatState A) (done : Work A) → AllZip (HasWorked threads lines) old new
+  pub worked_push : (threads : ℕ) (lines : List (RunLine A)) (old : List (SeatState A)) (new : List (Work A)) (seat : SeatState A) (done : Work A) → AllZip (HasWorked threads lines) old new
       → HasWorked threads lines seat done → AllZip (HasWorked threads lines) (old ++ seat ∷ []) (new ++ done ∷ [])
   worked_push threads lines [] [] seat done each so = (so, tt)
   worked_push threads lines [] (y ∷ new) seat done each so = absurd each
@@ -78,7 +78,7 @@ module _ {A : Type 0} where
   worked_push threads lines (x ∷ old) (y ∷ new) seat done each so = (each.0, worked_push threads lines old new seat done each.1 so)
 
   -- a worker is put back behind those that have ended
-  pub worked_back : {W : Type 0} (seat : W → SeatState A) (made : W → Work A) (threads : ℕ) (block : List (Line A)) (before rest done all : List W) (worker back : W) → before ≡ rest ++ worker ∷ []
+  pub worked_back : {W : Type 0} (seat : W → SeatState A) (made : W → Work A) (threads : ℕ) (block : List (RunLine A)) (before rest done all : List W) (worker back : W) → before ≡ rest ++ worker ∷ []
       → all ≡ done ++ back ∷ [] → AllZip (HasWorked threads block) (map seat rest) (map made done) → HasWorked threads block (seat worker) (made back)
       → AllZip (HasWorked threads block) (map seat before) (map made all)
   worked_back {W} seat made threads block before rest done all worker back before_is all_is each so =
@@ -89,7 +89,7 @@ module _ {A : Type 0} where
       (worked_push threads block (map seat rest) (map made done) (seat worker) (made back) each so))))
 
   -- The replies to the lines that have texts, put together of those of each seat.
-  pub record Merged (threads : ℕ) (lines : List (Line A)) (parts : List (List ℕ)) (replies_by : ℕ → List (Reply A)) : Type 0 where
+  pub record Merged (threads : ℕ) (lines : List (RunLine A)) (parts : List (List ℕ)) (replies_by : ℕ → List (Reply A)) : Type 0 where
     pub replies : List (Reply A)
     pub counted : length replies ≡ length parts
     pub parts_are : parts ≡ reply_texts lines replies
@@ -107,19 +107,19 @@ module _ {A : Type 0} where
   without-other seat number rest replies_by is = rw is
 
   -- what the texts of each seat have to be
-  abbrev pub Has : ℕ → List (Line A) → List (List ℕ) → (ℕ → List (Reply A)) → Type 0
+  abbrev pub Has : ℕ → List (RunLine A) → List (List ℕ) → (ℕ → List (Reply A)) → Type 0
   Has threads lines parts replies_by = (number : ℕ) → IsPrefix (texts_of threads number lines parts) (reply_texts (seat_lines threads number lines) (replies_by number))
 
   -- a first text, and the reply of which it is
-  pub record First (threads : ℕ) (line : Line A) (lines : List (Line A)) (text : List ℕ) (parts : List (List ℕ)) (replies : List (Reply A)) : Type 0 where
+  pub record First (threads : ℕ) (line : RunLine A) (lines : List (RunLine A)) (text : List ℕ) (parts : List (List ℕ)) (replies : List (Reply A)) : Type 0 where
     pub reply : Reply A
     pub rest : List (Reply A)
     pub is : replies ≡ reply ∷ rest
     pub text_is : text ≡ on_a_line (reply_text line reply)
-    pub others : IsPrefix (texts_of threads (seat_of threads line.worker) lines parts) (reply_texts (seat_lines threads (seat_of threads line.worker) lines) rest)
+    pub others : IsPrefix (texts_of threads (seat_of threads line.line.worker) lines parts) (reply_texts (seat_lines threads (seat_of threads line.line.worker) lines) rest)
 
-  pub first_of : (threads : ℕ) (line : Line A) (lines : List (Line A)) (text : List ℕ) (parts : List (List ℕ)) (replies : List (Reply A))
-      → IsPrefix (text ∷ texts_of threads (seat_of threads line.worker) lines parts) (reply_texts (line ∷ seat_lines threads (seat_of threads line.worker) lines) replies)
+  pub first_of : (threads : ℕ) (line : RunLine A) (lines : List (RunLine A)) (text : List ℕ) (parts : List (List ℕ)) (replies : List (Reply A))
+      → IsPrefix (text ∷ texts_of threads (seat_of threads line.line.worker) lines parts) (reply_texts (line ∷ seat_lines threads (seat_of threads line.line.worker) lines) replies)
       → First threads line lines text parts replies
   first_of threads line lines text parts [] begins = absurd (cc (begins.1))
   first_of threads line lines text parts (reply ∷ rest) begins = record {
@@ -130,19 +130,19 @@ module _ {A : Type 0} where
     others = (begins.0, cc (begins.1));
   }
 
-  pub first-has : (threads : ℕ) (line : Line A) (lines : List (Line A)) (text : List ℕ) (parts : List (List ℕ)) (replies_by : ℕ → List (Reply A)) → Has threads (line ∷ lines) (text ∷ parts) replies_by
-      → First threads line lines text parts (replies_by (seat_of threads line.worker))
+  pub first-has : (threads : ℕ) (line : RunLine A) (lines : List (RunLine A)) (text : List ℕ) (parts : List (List ℕ)) (replies_by : ℕ → List (Reply A)) → Has threads (line ∷ lines) (text ∷ parts) replies_by
+      → First threads line lines text parts (replies_by (seat_of threads line.line.worker))
   first-has threads line lines text parts replies_by has =
-      let seat = seat_of threads line.worker in
+      let seat = seat_of threads line.line.worker in
       let same = nat_eq-same seat in
       first_of threads line lines text parts (replies_by seat)
-      (subst (λ (l : List (Line A)). IsPrefix (text ∷ texts_of threads seat lines parts) (reply_texts l (replies_by seat))) (lines-own threads seat line lines same)
+      (subst (λ (l : List (RunLine A)). IsPrefix (text ∷ texts_of threads seat lines parts) (reply_texts l (replies_by seat))) (lines-own threads seat line lines same)
       (subst (λ (l : List (List ℕ)). IsPrefix l (reply_texts (seat_lines threads seat (line ∷ lines)) (replies_by seat))) (texts-own threads seat line lines text parts same) (has seat)))
 
-  pub rest-has : (threads : ℕ) (line : Line A) (lines : List (Line A)) (text : List ℕ) (parts : List (List ℕ)) (replies_by : ℕ → List (Reply A)) (has : Has threads (line ∷ lines) (text ∷ parts) replies_by)
-      (first : First threads line lines text parts (replies_by (seat_of threads line.worker))) → Has threads lines parts (without (seat_of threads line.worker) first.rest replies_by)
+  pub rest-has : (threads : ℕ) (line : RunLine A) (lines : List (RunLine A)) (text : List ℕ) (parts : List (List ℕ)) (replies_by : ℕ → List (Reply A)) (has : Has threads (line ∷ lines) (text ∷ parts) replies_by)
+      (first : First threads line lines text parts (replies_by (seat_of threads line.line.worker))) → Has threads lines parts (without (seat_of threads line.line.worker) first.rest replies_by)
   rest-has threads line lines text parts replies_by has first number =
-      let seat = seat_of threads line.worker in
+      let seat = seat_of threads line.line.worker in
       elim (cases_Bool (nat_eq seat number)) [
         | inl same ↦
             let at : seat ≡ number = same-nat_eq seat number same in
@@ -150,21 +150,21 @@ module _ {A : Type 0} where
             (subst (λ (n : ℕ). IsPrefix (texts_of threads n lines parts) (reply_texts (seat_lines threads n lines) first.rest)) at first.others)
         | inr other ↦
             subst (λ (l : List (Reply A)). IsPrefix (texts_of threads number lines parts) (reply_texts (seat_lines threads number lines) l)) (sym (without-other seat number first.rest replies_by other))
-            (subst (λ (l : List (Line A)). IsPrefix (texts_of threads number lines parts) (reply_texts l (replies_by number))) (lines-other threads number line lines other)
+            (subst (λ (l : List (RunLine A)). IsPrefix (texts_of threads number lines parts) (reply_texts l (replies_by number))) (lines-other threads number line lines other)
             (subst (λ (l : List (List ℕ)). IsPrefix l (reply_texts (seat_lines threads number (line ∷ lines)) (replies_by number))) (texts-other threads number line lines text parts other) (has number)))
       ]
 
   -- the first call among those of a seat
-  abbrev pub IsCallsOf : (List (Event A) → List (Event A) → Type 0) → ℕ → ℕ → List (Line A) → List (Reply A) → List (Reply A) → Type 0
+  abbrev pub IsCallsOf : (List (Event A) → List (Event A) → Type 0) → ℕ → ℕ → List (RunLine A) → List (Reply A) → List (Reply A) → Type 0
   IsCallsOf R threads number lines all replies = R (own number (calls_of threads lines all)) (calls_of threads (seat_lines threads number lines) replies)
 
-  pub calls-first : (R : List (Event A) → List (Event A) → Type 0) → ((e : Event A) (xs ys : List (Event A)) → R xs ys → R (e ∷ xs) (e ∷ ys)) → (threads number : ℕ) (line : Line A) (lines : List (Line A))
-      (text : List ℕ) (parts : List (List ℕ)) (replies_by : ℕ → List (Reply A)) (first : First threads line lines text parts (replies_by (seat_of threads line.worker))) (all : List (Reply A))
-      → IsCallsOf R threads number lines all (without (seat_of threads line.worker) first.rest replies_by number)
+  pub calls-first : (R : List (Event A) → List (Event A) → Type 0) → ((e : Event A) (xs ys : List (Event A)) → R xs ys → R (e ∷ xs) (e ∷ ys)) → (threads number : ℕ) (line : RunLine A) (lines : List (RunLine A))
+      (text : List ℕ) (parts : List (List ℕ)) (replies_by : ℕ → List (Reply A)) (first : First threads line lines text parts (replies_by (seat_of threads line.line.worker))) (all : List (Reply A))
+      → IsCallsOf R threads number lines all (without (seat_of threads line.line.worker) first.rest replies_by number)
       → IsCallsOf R threads number (line ∷ lines) (first.reply ∷ all) (replies_by number)
   calls-first R push threads number line lines text parts replies_by first all so =
-      let seat = seat_of threads line.worker in
-      let event = event_by seat line.command first.reply in
+      let seat = seat_of threads line.line.worker in
+      let event = event_by seat line.line.command first.reply in
       elim (cases_Bool (nat_eq seat number)) [
         | inl same ↦
             let at : seat ≡ number = same-nat_eq seat number same in
@@ -172,18 +172,18 @@ module _ {A : Type 0} where
             let rest : IsCallsOf R threads number lines all first.rest = subst (λ (l : List (Reply A)). IsCallsOf R threads number lines all l) (without-own seat number first.rest replies_by same) so in
             let pushed = push event (own number (calls_of threads lines all)) (calls_of threads (seat_lines threads number lines) first.rest) rest in
             subst (λ (l : List (Reply A)). IsCallsOf R threads number (line ∷ lines) (first.reply ∷ all) l) (sym replies_are)
-            (subst (λ (l : List (Line A)). R (own number (calls_of threads (line ∷ lines) (first.reply ∷ all))) (calls_of threads l (first.reply ∷ first.rest))) (sym (lines-own threads number line lines same))
+            (subst (λ (l : List (RunLine A)). R (own number (calls_of threads (line ∷ lines) (first.reply ∷ all))) (calls_of threads l (first.reply ∷ first.rest))) (sym (lines-own threads number line lines same))
             (subst (λ (l : List (Event A)). R l (calls_of threads (line ∷ seat_lines threads number lines) (first.reply ∷ first.rest))) (sym (own-one number seat event (calls_of threads lines all) refl same)) pushed))
         | inr other ↦
             let rest : IsCallsOf R threads number lines all (replies_by number) = subst (λ (l : List (Reply A)). IsCallsOf R threads number lines all l) (without-other seat number first.rest replies_by other) so in
-            subst (λ (l : List (Line A)). R (own number (calls_of threads (line ∷ lines) (first.reply ∷ all))) (calls_of threads l (replies_by number))) (sym (lines-other threads number line lines other))
+            subst (λ (l : List (RunLine A)). R (own number (calls_of threads (line ∷ lines) (first.reply ∷ all))) (calls_of threads l (replies_by number))) (sym (lines-other threads number line lines other))
             (subst (λ (l : List (Event A)). R l (calls_of threads (seat_lines threads number lines) (replies_by number))) (sym (own-other number seat event (calls_of threads lines all) refl other)) rest)
       ]
 
   pub push-prefix : (e : Event A) (xs ys : List (Event A)) → IsPrefix xs ys → IsPrefix (e ∷ xs) (e ∷ ys)
   push-prefix e xs ys so = (so.0, ap (λ (l : List (Event A)). e ∷ l) so.1)
 
-  pub merged : (threads : ℕ) (lines : List (Line A)) (parts : List (List ℕ)) (replies_by : ℕ → List (Reply A)) → length parts ≤ length lines → Has threads lines parts replies_by → Merged threads lines parts replies_by
+  pub merged : (threads : ℕ) (lines : List (RunLine A)) (parts : List (List ℕ)) (replies_by : ℕ → List (Reply A)) → length parts ≤ length lines → Has threads lines parts replies_by → Merged threads lines parts replies_by
   merged threads [] [] replies_by few has = record { replies = []; counted = refl; parts_are = refl; begins = λ number. prefix-of-none []; whole = λ all number. refl }
   merged threads [] (text ∷ parts) replies_by few has = absurd (omega (arith, few))
   merged threads (line ∷ lines) [] replies_by few has = record {
@@ -194,7 +194,7 @@ module _ {A : Type 0} where
     whole = λ all number. absurd (omega (arith, all));
   }
   merged threads (line ∷ lines) (text ∷ parts) replies_by few has =
-      let seat = seat_of threads line.worker in
+      let seat = seat_of threads line.line.worker in
       let first = first-has threads line lines text parts replies_by has in
       let rest = merged threads lines parts (without seat first.rest replies_by) (omega (arith, few)) (rest-has threads line lines text parts replies_by has first) in
       record {
@@ -206,19 +206,19 @@ module _ {A : Type 0} where
             (rest.whole (omega (arith, all)) number);
       }
 
-  pub concat-texts : (lines : List (Line A)) (replies : List (Reply A)) → concat (reply_texts lines replies) ≡ reply_lines lines replies
+  pub concat-texts : (lines : List (RunLine A)) (replies : List (Reply A)) → concat (reply_texts lines replies) ≡ reply_lines lines replies
   concat-texts [] replies = refl
   concat-texts (line ∷ lines) [] = refl
   concat-texts (line ∷ lines) (reply ∷ replies) = ap (λ (text : List ℕ). on_a_line (reply_text line reply) ++ text) (concat-texts lines replies)
 
-  pub length-texts : (lines : List (Line A)) (replies : List (Reply A)) → length replies ≤ length lines → length (reply_texts lines replies) ≡ length replies
+  pub length-texts : (lines : List (RunLine A)) (replies : List (Reply A)) → length replies ≤ length lines → length (reply_texts lines replies) ≡ length replies
   length-texts [] [] few = refl
   length-texts [] (reply ∷ replies) few = absurd (omega (arith, few))
   length-texts (line ∷ lines) [] few = refl
   length-texts (line ∷ lines) (reply ∷ replies) few = ap suc (length-texts lines replies (omega (arith, few)))
 
   -- where each line has a text each line of a seat has one
-  pub length-texts_of : (threads number : ℕ) (lines : List (Line A)) (parts : List (List ℕ)) → length parts ≡ length lines → length (texts_of threads number lines parts) ≡ length (seat_lines threads number lines)
+  pub length-texts_of : (threads number : ℕ) (lines : List (RunLine A)) (parts : List (List ℕ)) → length parts ≡ length lines → length (texts_of threads number lines parts) ≡ length (seat_lines threads number lines)
   length-texts_of threads number [] parts all = refl
   length-texts_of threads number (line ∷ lines) [] all = absurd (omega (arith, all))
   length-texts_of threads number (line ∷ lines) (text ∷ parts) all =
@@ -229,14 +229,14 @@ module _ {A : Type 0} where
       ]
 
   -- a worker whose lines all have texts has ended without a fault
-  pub calls-all : (threads : ℕ) (lines : List (Line A)) (ended : Ended) (texts : List (List ℕ)) (old new : SeatState A) (so : HasCalledLines threads lines ended texts old new) → length lines ≤ length texts
+  pub calls-all : (threads : ℕ) (lines : List (RunLine A)) (ended : Ended) (texts : List (List ℕ)) (old new : SeatState A) (so : HasCalledLines threads lines ended texts old new) → length lines ≤ length texts
       → calls new ≡ calls old ++ calls_of threads lines so.replies
   calls-all threads lines (Ok done) texts old new so all = so.calls_are
   calls-all threads lines (Err fault) texts old new so all =
       absurd (omega (arith, so.count, all, ap length so.texts_are, length-texts lines so.replies (omega (arith, so.count))))
 
   -- and one whose lines have not has ended at a fault
-  pub ended-fault : (threads : ℕ) (lines : List (Line A)) (ended : Ended) (texts : List (List ℕ)) (old new : SeatState A) → HasCalledLines threads lines ended texts old new → length texts < length lines
+  pub ended-fault : (threads : ℕ) (lines : List (RunLine A)) (ended : Ended) (texts : List (List ℕ)) (old new : SeatState A) → HasCalledLines threads lines ended texts old new → length texts < length lines
       → (fault : CallFault) × (ended ≡ Err fault)
   ended-fault threads lines (Ok done) texts old new so few =
       absurd (omega (arith, so.count, few, ap length so.texts_are, length-texts lines so.replies (omega (arith, so.count))))
@@ -249,7 +249,7 @@ module _ {A : Type 0} where
   pub prefix-behind : (xs ys zs : List (Event A)) → IsPrefix ys zs → IsPrefix (xs ++ ys) (xs ++ zs)
   prefix-behind xs ys zs so = (so.0, append_assoc xs ys so.0 ∙ ap (λ (l : List (Event A)). xs ++ l) so.1)
 
-  pub worker-all : (threads : ℕ) (lines : List (Line A)) (made : List (Event A)) (number : ℕ) (old : SeatState A) (new : Work A) (so : HasWorked threads lines old new) → old.number ≡ number
+  pub worker-all : (threads : ℕ) (lines : List (RunLine A)) (made : List (Event A)) (number : ℕ) (old : SeatState A) (new : Work A) (so : HasWorked threads lines old new) → old.number ≡ number
       → length (seat_lines threads number lines) ≤ length new.texts → own number made ≡ calls_of threads (seat_lines threads number lines) so.replies → HasCalledOwn (Ok tt) made old new.seat
   worker-all threads lines made number old new so is all whole =
       let mine = seat_lines threads old.number lines in
@@ -262,7 +262,7 @@ module _ {A : Type 0} where
         seen = so.seen;
       }
 
-  pub worker-some : (threads : ℕ) (fault : CallFault) (lines : List (Line A)) (made : List (Event A)) (number : ℕ) (old : SeatState A) (new : Work A) (so : HasWorked threads lines old new) → old.number ≡ number
+  pub worker-some : (threads : ℕ) (fault : CallFault) (lines : List (RunLine A)) (made : List (Event A)) (number : ℕ) (old : SeatState A) (new : Work A) (so : HasWorked threads lines old new) → old.number ≡ number
       → IsPrefix (own number made) (calls_of threads (seat_lines threads number lines) so.replies) → HasCalledOwn (Err fault) made old new.seat
   worker-some threads fault lines made number old new so is begins =
       let mine = seat_lines threads old.number lines in
@@ -276,7 +276,7 @@ module _ {A : Type 0} where
         seen = so.seen;
       }
 
-  pub each-all : (threads : ℕ) (lines : List (Line A)) (made : List (Event A)) (number : ℕ → ℕ) (old : List (SeatState A)) (new : List (Work A)) (each : AllZip (HasWorked threads lines) old new) → AreNumbered number old
+  pub each-all : (threads : ℕ) (lines : List (RunLine A)) (made : List (Event A)) (number : ℕ → ℕ) (old : List (SeatState A)) (new : List (Work A)) (each : AllZip (HasWorked threads lines) old new) → AreNumbered number old
       → ((place : ℕ) → length (seat_lines threads (number place) lines) ≤ length (get_or (all_texts new) place []))
       → ((place : ℕ) → own (number place) made ≡ calls_of threads (seat_lines threads (number place) lines) (replies_of threads lines old new each place))
       → AllZip (HasCalledOwn (Ok tt) made) old (seats_of new)
@@ -289,7 +289,7 @@ module _ {A : Type 0} where
     each-all threads lines made (λ place. number (suc place)) old new each.1 so.1 (λ place. all (suc place)) (λ place. whole (suc place)),
   )
 
-  pub each-some : (threads : ℕ) (fault : CallFault) (lines : List (Line A)) (made : List (Event A)) (number : ℕ → ℕ) (old : List (SeatState A)) (new : List (Work A)) (each : AllZip (HasWorked threads lines) old new)
+  pub each-some : (threads : ℕ) (fault : CallFault) (lines : List (RunLine A)) (made : List (Event A)) (number : ℕ → ℕ) (old : List (SeatState A)) (new : List (Work A)) (each : AllZip (HasWorked threads lines) old new)
       → AreNumbered number old
       → ((place : ℕ) → IsPrefix (own (number place) made) (calls_of threads (seat_lines threads (number place) lines) (replies_of threads lines old new each place)))
       → AllZip (HasCalledOwn (Err fault) made) old (seats_of new)
@@ -303,12 +303,12 @@ module _ {A : Type 0} where
   )
 
   -- each of the lines has a text, so each of a seat's lines has one
-  pub texts-all : (threads : ℕ) (lines : List (Line A)) (parts texts : List (List ℕ)) (number : ℕ) → length parts ≡ length lines → IsPrefix (texts_of threads number lines parts) texts
+  pub texts-all : (threads : ℕ) (lines : List (RunLine A)) (parts texts : List (List ℕ)) (number : ℕ) → length parts ≡ length lines → IsPrefix (texts_of threads number lines parts) texts
       → length (seat_lines threads number lines) ≤ length texts
   texts-all threads lines parts texts number all begins =
       omega (arith, prefix-length (texts_of threads number lines parts) texts begins, length-texts_of threads number lines parts all)
 
-  pub each-ended : (threads : ℕ) (lines : List (Line A)) (ended : Ended) (old : List (SeatState A)) (new : List (Work A)) (each : AllZip (HasWorked threads lines) old new) → AreNumbered (λ place. place) old
+  pub each-ended : (threads : ℕ) (lines : List (RunLine A)) (ended : Ended) (old : List (SeatState A)) (new : List (Work A)) (each : AllZip (HasWorked threads lines) old new) → AreNumbered (λ place. place) old
       → (parts : List (List ℕ)) → HasCount ended (length parts) (length lines) → ((number : ℕ) → IsPrefix (texts_of threads number lines parts) (get_or (all_texts new) number []))
       → (all : Merged threads lines parts (replies_of threads lines old new each)) → AllZip (HasCalledOwn ended (calls_of threads lines all.replies)) old (seats_of new)
   each-ended threads lines (Ok done) old new each so parts count texts all =
@@ -316,7 +316,7 @@ module _ {A : Type 0} where
   each-ended threads lines (Err fault) old new each so parts count texts all = each-some threads fault lines (calls_of threads lines all.replies) (λ place. place) old new each so all.begins
 
   -- what the fault that ended a worker reports is what its seat has seen
-  pub works_seen : (threads : ℕ) (lines : List (Line A)) (ended : Ended) (old : List (SeatState A)) (new : List (Work A)) → AllZip (HasWorked threads lines) old new → IsFaultOf new ended → OneHasSeen ended (seats_of new)
+  pub works_seen : (threads : ℕ) (lines : List (RunLine A)) (ended : Ended) (old : List (SeatState A)) (new : List (Work A)) → AllZip (HasWorked threads lines) old new → IsFaultOf new ended → OneHasSeen ended (seats_of new)
   works_seen threads lines (Ok done) old new each is = tt
   works_seen threads lines (Err fault) old new each (inl memory) = subst (λ (f : CallFault). OneHasSeen (Err f) (seats_of new)) (sym memory) tt
   works_seen threads lines (Err fault) old new each (inr (place, one, within, at, ended)) =
@@ -353,14 +353,14 @@ module _ {A : Type 0} where
       let both : HasMet front seat other = subst (λ (s : SeatState A). HasMet front s other) one.3 (zip-at (HasMet front) old new place seat seat met one.2) in
       (place, other, within, get_or-any new place other seat within, omega (arith, one.4, prefix-length seat.seen other.seen both.seen))) ended seen
 
-  worked_goes : (threads : ℕ) (lines : List (Line A)) (old : List (SeatState A)) (new : List (Work A)) → AllZip (HasWorked threads lines) old new → AllZip GoesOn old (seats_of new)
+  worked_goes : (threads : ℕ) (lines : List (RunLine A)) (old : List (SeatState A)) (new : List (Work A)) → AllZip (HasWorked threads lines) old new → AllZip GoesOn old (seats_of new)
   worked_goes threads lines [] [] each = tt
   worked_goes threads lines [] (y ∷ new) each = absurd each
   worked_goes threads lines (x ∷ old) [] each = absurd each
   worked_goes threads lines (x ∷ old) (y ∷ new) each = (each.0.goes_on, worked_goes threads lines old new each.1)
 
   -- the workers have called the lines of a block, and the texts were gathered
-  pub block_called : (threads : ℕ) (lines : List (Line A)) (ended : Ended) (text : List ℕ) (first old : List (SeatState A)) (new : List (Work A)) (last : List (SeatState A)) → EachAt lines
+  pub block_called : (threads : ℕ) (lines : List (RunLine A)) (ended : Ended) (text : List ℕ) (first old : List (SeatState A)) (new : List (Work A)) (last : List (SeatState A)) → EachAt lines
       → AllZip (HasMet (first_seen first)) first old → AllZip (HasWorked threads lines) old new → AllZip (HasMet []) (seats_of new) last → EachSawIn (first_seen last) last → AreSeats threads first
       → Gathers threads lines (all_texts new) ended text → IsFaultOf new ended → HaveCalled threads lines ended text first last
   block_called threads lines ended text first old new last at before each after shown numbered gathers fault =
@@ -393,7 +393,7 @@ module _ {A : Type 0} where
     texts-made : (new : List W) → all_texts (map made_of new) ≡ map texts new
     texts-made new = map-map (λ (w : Work A). w.texts) made_of new
 
-    pub worked_called : (threads : ℕ) (block : List (Line A)) (out : Ended) (text : List ℕ) (first old new last : List W) → EachAt block
+    pub worked_called : (threads : ℕ) (block : List (RunLine A)) (out : Ended) (text : List ℕ) (first old new last : List W) → EachAt block
         → AllZip (HasMet (first_seen (map seat first))) (map seat first) (map seat old) → AllZip (HasWorked threads block) (map seat old) (map made_of new)
         → AllZip (HasMet []) (map seat new) (map seat last) → EachSawIn (first_seen (map seat last)) (map seat last) → AreSeats threads (map seat first)
         → Gathers threads block (map texts new) out text → IsFaultOf (map made_of new) out → HaveCalled threads block out text (map seat first) (map seat last)
@@ -403,13 +403,13 @@ module _ {A : Type 0} where
         (subst (λ (l : List (List (List ℕ))). Gathers threads block l out text) (sym (texts-made new)) gathers) fault
 
     -- there is a worker for each seat
-    pub worked_some : (threads place : ℕ) (block : List (Line A)) (seats : List (SeatState A)) (workers : List W) → AllZip (HasWorked threads block) seats (map made_of workers) → AreSeats threads seats → place ≤ threads
+    pub worked_some : (threads place : ℕ) (block : List (RunLine A)) (seats : List (SeatState A)) (workers : List W) → AllZip (HasWorked threads block) seats (map made_of workers) → AreSeats threads seats → place ≤ threads
         → place < length workers
     worked_some threads place block seats workers each numbered few =
         omega (arith, same_length (HasWorked threads block) seats (map made_of workers) each, length-map workers made_of, numbered.0, few)
 
     -- a worker without a text for one of its lines has ended at a fault
-    pub worked_fault : (threads place : ℕ) (block : List (Line A)) (seats : List (SeatState A)) (workers : List W) (worker : W) → AllZip (HasWorked threads block) seats (map made_of workers) → AreSeats threads seats
+    pub worked_fault : (threads place : ℕ) (block : List (RunLine A)) (seats : List (SeatState A)) (workers : List W) (worker : W) → AllZip (HasWorked threads block) seats (map made_of workers) → AreSeats threads seats
         → place < length workers → worker ≡ get_or workers place worker → length (texts worker) < length (seat_lines threads place block) → (fault : CallFault) × (ended worker ≡ Err fault)
     worked_fault threads place block seats workers worker each numbered within is few =
         let d : SeatState A = newcomer 0 in
@@ -425,21 +425,21 @@ module _ {A : Type 0} where
     worked_ended place workers worker within is =
         fault-of (map made_of workers) (made_of worker) place (omega (arith, length-map workers made_of, within)) (get_or-map made_of workers place worker (made_of worker) within ∙ ap made_of (sym is)) (ended worker) refl
 
-    pub worked_still : (threads : ℕ) (block : List (Line A)) (old new : List W) → AllZip (HasWorked threads block) (map seat old) (map made_of new) → AreSeats threads (map seat old) → AreSeats threads (map seat new)
+    pub worked_still : (threads : ℕ) (block : List (RunLine A)) (old new : List W) → AllZip (HasWorked threads block) (map seat old) (map made_of new) → AreSeats threads (map seat old) → AreSeats threads (map seat new)
     worked_still threads block old new each seats =
         subst (λ (l : List (SeatState A)). AreSeats threads l) (seats-made new) (worked_seats threads block (map seat old) (map made_of new) each seats)
 
-    pub worked_length : (threads : ℕ) (block : List (Line A)) (old new : List W) → AllZip (HasWorked threads block) (map seat old) (map made_of new) → length new ≡ length old
+    pub worked_length : (threads : ℕ) (block : List (RunLine A)) (old new : List W) → AllZip (HasWorked threads block) (map seat old) (map made_of new) → length new ≡ length old
     worked_length threads block old new each =
         omega (arith, same_length (HasWorked threads block) (map seat old) (map made_of new) each, length-map old seat, length-map new made_of)
 
   -- ---- texts taken from the workers, line by line
 
-  pub texts_of-none : (threads number : ℕ) (lines : List (Line A)) → texts_of threads number lines [] ≡ []
+  pub texts_of-none : (threads number : ℕ) (lines : List (RunLine A)) → texts_of threads number lines [] ≡ []
   texts_of-none threads number [] = refl
   texts_of-none threads number (line ∷ lines) = refl
 
-  pub texts_of-append : (threads number : ℕ) (lines : List (Line A)) (line : Line A) (others : List (Line A)) (parts : List (List ℕ)) (text : List ℕ) → length parts ≡ length lines
+  pub texts_of-append : (threads number : ℕ) (lines : List (RunLine A)) (line : RunLine A) (others : List (RunLine A)) (parts : List (List ℕ)) (text : List ℕ) → length parts ≡ length lines
       → texts_of threads number (lines ++ line ∷ others) (parts ++ text ∷ []) ≡ texts_of threads number lines parts ++ texts_of threads number (line ∷ others) (text ∷ [])
   texts_of-append threads number [] line others [] text same = refl
   texts_of-append threads number [] line others (x ∷ parts) text same = absurd (omega (arith, same))
@@ -454,7 +454,7 @@ module _ {A : Type 0} where
             ∙ ap (λ (l : List (List ℕ)). l ++ tail) (sym (texts-other threads number x lines t parts other))
       ]
 
-  pub texts_of-longer : (threads number : ℕ) (lines others : List (Line A)) (parts : List (List ℕ)) → length parts ≤ length lines → texts_of threads number (lines ++ others) parts ≡ texts_of threads number lines parts
+  pub texts_of-longer : (threads number : ℕ) (lines others : List (RunLine A)) (parts : List (List ℕ)) → length parts ≤ length lines → texts_of threads number (lines ++ others) parts ≡ texts_of threads number lines parts
   texts_of-longer threads number [] others [] few = texts_of-none threads number others
   texts_of-longer threads number [] others (t ∷ parts) few = absurd (omega (arith, few))
   texts_of-longer threads number (x ∷ lines) others [] few = refl
@@ -466,25 +466,25 @@ module _ {A : Type 0} where
       ]
 
   -- no line is of a seat beyond the workers'
-  pub not_beyond : (threads number : ℕ) (line : Line A) → 1 ≤ threads → threads < number → is_of threads number line ≡ false
+  pub not_beyond : (threads number : ℕ) (line : RunLine A) → 1 ≤ threads → threads < number → is_of threads number line ≡ false
   not_beyond threads number line some beyond =
-      nat_eq-other (seat_of threads line.worker) number (λ same. absurd (omega (arith, same, seat_of-most threads line.worker some, beyond)))
+      nat_eq-other (seat_of threads line.line.worker) number (λ same. absurd (omega (arith, same, seat_of-most threads line.line.worker some, beyond)))
 
-  pub texts-beyond : (threads number : ℕ) (lines : List (Line A)) (parts : List (List ℕ)) → 1 ≤ threads → threads < number → texts_of threads number lines parts ≡ []
+  pub texts-beyond : (threads number : ℕ) (lines : List (RunLine A)) (parts : List (List ℕ)) → 1 ≤ threads → threads < number → texts_of threads number lines parts ≡ []
   texts-beyond threads number [] parts some beyond = refl
   texts-beyond threads number (line ∷ lines) [] some beyond = refl
   texts-beyond threads number (line ∷ lines) (t ∷ parts) some beyond =
       texts-other threads number line lines t parts (not_beyond threads number line some beyond) ∙ texts-beyond threads number lines parts some beyond
 
-  pub calls-beyond : (threads number : ℕ) (lines : List (Line A)) (replies : List (Reply A)) → 1 ≤ threads → threads < number → own number (calls_of threads lines replies) ≡ []
+  pub calls-beyond : (threads number : ℕ) (lines : List (RunLine A)) (replies : List (Reply A)) → 1 ≤ threads → threads < number → own number (calls_of threads lines replies) ≡ []
   calls-beyond threads number [] replies some beyond = refl
   calls-beyond threads number (line ∷ lines) [] some beyond = refl
   calls-beyond threads number (line ∷ lines) (reply ∷ replies) some beyond =
-      own-other number (seat_of threads line.worker) (event_by (seat_of threads line.worker) line.command reply) (calls_of threads lines replies) refl (not_beyond threads number line some beyond)
+      own-other number (seat_of threads line.line.worker) (event_by (seat_of threads line.line.worker) line.line.command reply) (calls_of threads lines replies) refl (not_beyond threads number line some beyond)
       ∙ calls-beyond threads number lines replies some beyond
 
   -- So many texts of each seat were taken, for these lines.
-  pub record IsGathered (threads : ℕ) (lines : List (Line A)) (texts : List (List (List ℕ))) (taken : List ℕ) (text : List ℕ) : Type 0 where
+  pub record IsGathered (threads : ℕ) (lines : List (RunLine A)) (texts : List (List (List ℕ))) (taken : List ℕ) (text : List ℕ) : Type 0 where
     pub parts : List (List ℕ)
     pub counted : length parts ≡ length lines
     pub text_is : text ≡ concat parts
@@ -500,8 +500,8 @@ module _ {A : Type 0} where
     known = length-replicate {A = ℕ} 64 0;
   }
 
-  pub gathered_more : (threads : ℕ) (lines : List (Line A)) (line : Line A) (texts : List (List (List ℕ))) (taken more : List ℕ) (text new : List ℕ) (next : List ℕ) (seat : ℕ) → IsGathered threads lines texts taken text
-      → seat ≡ seat_of threads line.worker → seat < 64 → get_or taken seat 0 < length (get_or texts seat []) → next ≡ get_or (get_or texts seat []) (get_or taken seat 0) next
+  pub gathered_more : (threads : ℕ) (lines : List (RunLine A)) (line : RunLine A) (texts : List (List (List ℕ))) (taken more : List ℕ) (text new : List ℕ) (next : List ℕ) (seat : ℕ) → IsGathered threads lines texts taken text
+      → seat ≡ seat_of threads line.line.worker → seat < 64 → get_or taken seat 0 < length (get_or texts seat []) → next ≡ get_or (get_or texts seat []) (get_or taken seat 0) next
       → more ≡ set taken seat (get_or taken seat 0 + 1) → new ≡ text ++ next → IsGathered threads (lines ++ line ∷ []) texts more new
   gathered_more threads lines line texts taken more text new next seat so at within less read set_is new_is =
       record {
@@ -524,7 +524,7 @@ module _ {A : Type 0} where
                   ∙ ap (λ (t : List ℕ). take (get_or taken number 0) (get_or texts number []) ++ t ∷ []) here
                   ∙ sym (take_more (get_or texts number []) (get_or taken number 0) next lower) ∙ ap (λ (n : ℕ). take n (get_or texts number [])) (sym count)
               | inr other ↦
-                  let not_its : is_of threads number line ≡ false = nat_eq-other (seat_of threads line.worker) number (λ same. other (sym same ∙ sym at)) in
+                  let not_its : is_of threads number line ≡ false = nat_eq-other (seat_of threads line.line.worker) number (λ same. other (sym same ∙ sym at)) in
                   let count : get_or more number 0 ≡ get_or taken number 0 =
                   ap (λ (l : List ℕ). get_or l number 0) set_is ∙ get_or-set_other taken seat number (get_or taken seat 0 + 1) 0 other in
                   first ∙ ap (λ (l : List (List ℕ)). take (get_or taken number 0) (get_or texts number []) ++ l) (texts-other threads number line [] next [] not_its)
@@ -532,7 +532,7 @@ module _ {A : Type 0} where
             ];
       }
 
-  pub gathered-seats : (threads : ℕ) (lines : List (Line A)) (texts : List (List (List ℕ))) (taken text : List ℕ) (so : IsGathered threads lines texts taken text) → 1 ≤ threads → threads ≤ 63 → (number : ℕ)
+  pub gathered-seats : (threads : ℕ) (lines : List (RunLine A)) (texts : List (List (List ℕ))) (taken text : List ℕ) (so : IsGathered threads lines texts taken text) → 1 ≤ threads → threads ≤ 63 → (number : ℕ)
       → IsPrefix (texts_of threads number lines so.parts) (get_or texts number [])
   gathered-seats threads lines texts taken text so some most number =
       elim (cases_lt threads number) [
@@ -541,7 +541,7 @@ module _ {A : Type 0} where
             subst (λ (l : List (List ℕ)). IsPrefix l (get_or texts number [])) (sym (so.of_seats number (omega (arith, within, most)))) (take-begins (get_or taken number 0) (get_or texts number []))
       ]
 
-  pub gathered_all : (threads : ℕ) (lines : List (Line A)) (texts : List (List (List ℕ))) (taken text : List ℕ) → 1 ≤ threads → threads ≤ 63 → IsGathered threads lines texts taken text
+  pub gathered_all : (threads : ℕ) (lines : List (RunLine A)) (texts : List (List (List ℕ))) (taken text : List ℕ) → 1 ≤ threads → threads ≤ 63 → IsGathered threads lines texts taken text
       → Gathers threads lines texts (Ok tt) text
   gathered_all threads lines texts taken text some most so = record {
     parts = so.parts;
@@ -550,7 +550,7 @@ module _ {A : Type 0} where
     of_seats = gathered-seats threads lines texts taken text so some most;
   }
 
-  pub gathered_some : (threads : ℕ) (fault : CallFault) (lines others : List (Line A)) (texts : List (List (List ℕ))) (taken text : List ℕ) → 1 ≤ threads → threads ≤ 63 → 0 < length others
+  pub gathered_some : (threads : ℕ) (fault : CallFault) (lines others : List (RunLine A)) (texts : List (List (List ℕ))) (taken text : List ℕ) → 1 ≤ threads → threads ≤ 63 → 0 < length others
       → IsGathered threads lines texts taken text → Gathers threads (lines ++ others) texts (Err fault) text
   gathered_some threads fault lines others texts taken text some most more so = record {
     parts = so.parts;
@@ -562,15 +562,15 @@ module _ {A : Type 0} where
   }
 
   -- so much is pending behind what was
-  abbrev pub IsGatheredSo : ℕ → List (Line A) → List (List (List ℕ)) → List ℕ → List ℕ → List ℕ → Type 0
+  abbrev pub IsGatheredSo : ℕ → List (RunLine A) → List (List (List ℕ)) → List ℕ → List ℕ → List ℕ → Type 0
   IsGatheredSo threads lines texts taken old pending = (text : List ℕ) × (pending ≡ old ++ text) × IsGathered threads lines texts taken text
 
   pub gathered_begun : (threads : ℕ) (texts : List (List (List ℕ))) (old : List ℕ) → IsGatheredSo threads [] texts (replicate 64 0) old old
   gathered_begun threads texts old = ([], sym (append-nil old), gathered_none threads texts)
 
   -- one line's text is taken
-  pub gathered_line : {W S : Type 0} (made : W → List S) (bytes : S → List ℕ) (threads index : ℕ) (block : List (Line A)) (line : Line A) (workers : List W) (worker : W) (item : S) (taken more old pending now : List ℕ)
-      (seat : ℕ) → index < length block → line ≡ get_or block index line → seat ≡ seat_of threads line.worker → seat < 64 → seat < length workers → worker ≡ get_or workers seat worker
+  pub gathered_line : {W S : Type 0} (made : W → List S) (bytes : S → List ℕ) (threads index : ℕ) (block : List (RunLine A)) (line : RunLine A) (workers : List W) (worker : W) (item : S) (taken more old pending now : List ℕ)
+      (seat : ℕ) → index < length block → line ≡ get_or block index line → seat ≡ seat_of threads line.line.worker → seat < 64 → seat < length workers → worker ≡ get_or workers seat worker
       → get_or taken seat 0 < length (made worker) → item ≡ get_or (made worker) (get_or taken seat 0) item → more ≡ set taken seat (get_or taken seat 0 + 1) → now ≡ pending ++ bytes item
       → IsGatheredSo threads (take index block) (map (λ w. map bytes (made w)) workers) taken old pending
       → IsGatheredSo threads (take (index + 1) block) (map (λ w. map bytes (made w)) workers) more old now
@@ -583,14 +583,14 @@ module _ {A : Type 0} where
       sym (ap (λ (l : List (List ℕ)). get_or l (get_or taken seat 0) next) mine ∙ get_or-map bytes (made worker) (get_or taken seat 0) item next less ∙ ap bytes (sym read)) in (
         text ++ next,
         now_is ∙ ap (λ (t : List ℕ). t ++ next) pending_is ∙ append_assoc old text next,
-        subst (λ (l : List (Line A)). IsGathered threads l texts more (text ++ next))
-            (sym (take_more block index line within ∙ ap (λ (l : Line A). take index block ++ l ∷ []) (sym is)))
+        subst (λ (l : List (RunLine A)). IsGathered threads l texts more (text ++ next))
+            (sym (take_more block index line within ∙ ap (λ (l : RunLine A). take index block ++ l ∷ []) (sym is)))
             (gathered_more threads (take index block) line texts taken more text (text ++ next) next seat so at few lower here set_is refl),
       )
 
   -- all texts of a seat were taken, and it has one more line
-  pub gathered-few : (threads index place : ℕ) (block : List (Line A)) (line : Line A) (texts : List (List (List ℕ))) (taken text : List ℕ) → IsGathered threads (take index block) texts taken text
-      → index < length block → line ≡ get_or block index line → place ≡ seat_of threads line.worker → place < 64 → length (get_or texts place []) ≤ get_or taken place 0
+  pub gathered-few : (threads index place : ℕ) (block : List (RunLine A)) (line : RunLine A) (texts : List (List (List ℕ))) (taken text : List ℕ) → IsGathered threads (take index block) texts taken text
+      → index < length block → line ≡ get_or block index line → place ≡ seat_of threads line.line.worker → place < 64 → length (get_or texts place []) ≤ get_or taken place 0
       → length (get_or texts place []) < length (seat_lines threads place block)
   gathered-few threads index place block line texts taken text so within is at few none =
       omega (
@@ -603,29 +603,29 @@ module _ {A : Type 0} where
       )
 
   -- a line has no text
-  pub gathered_stopped : (threads index : ℕ) (fault : CallFault) (block : List (Line A)) (line : Line A) (texts : List (List (List ℕ))) (taken old pending : List ℕ) → 1 ≤ threads → threads ≤ 63
+  pub gathered_stopped : (threads index : ℕ) (fault : CallFault) (block : List (RunLine A)) (line : RunLine A) (texts : List (List (List ℕ))) (taken old pending : List ℕ) → 1 ≤ threads → threads ≤ 63
       → index < length block → IsGatheredSo threads (take index block) texts taken old pending → (text : List ℕ) × (pending ≡ old ++ text) × Gathers threads block texts (Err fault) text
   gathered_stopped threads index fault block line texts taken old pending some most within (text, pending_is, so) =
       let more : 0 < length (drop index block) = omega (arith, ap length (drop_more block index line within)) in (
         text,
         pending_is,
-        subst (λ (l : List (Line A)). Gathers threads l texts (Err fault) text) (take-append-drop index block)
+        subst (λ (l : List (RunLine A)). Gathers threads l texts (Err fault) text) (take-append-drop index block)
             (gathered_some threads fault (take index block) (drop index block) texts taken text some most more so),
       )
 
   -- each has one
-  pub gathered_done : (threads index : ℕ) (block : List (Line A)) (texts : List (List (List ℕ))) (taken old pending : List ℕ) → 1 ≤ threads → threads ≤ 63 → length block ≤ index
+  pub gathered_done : (threads index : ℕ) (block : List (RunLine A)) (texts : List (List (List ℕ))) (taken old pending : List ℕ) → 1 ≤ threads → threads ≤ 63 → length block ≤ index
       → IsGatheredSo threads (take index block) texts taken old pending → (text : List ℕ) × (pending ≡ old ++ text) × Gathers threads block texts (Ok tt) text
   gathered_done threads index block texts taken old pending some most ended (text, pending_is, so) = (
     text,
     pending_is,
-    gathered_all threads block texts taken text some most (subst (λ (l : List (Line A)). IsGathered threads l texts taken text) (take_all index block ended) so),
+    gathered_all threads block texts taken text some most (subst (λ (l : List (RunLine A)). IsGathered threads l texts taken text) (take_all index block ended) so),
   )
 
   -- a line has no text, since its worker has ended at a fault
-  pub gathered_ended : {W : Type 0} (seat : W → SeatState A) (texts : W → List (List ℕ)) (ended : W → Ended) (threads index place : ℕ) (block : List (Line A)) (line : Line A) (seats : List (SeatState A)) (workers : List W)
+  pub gathered_ended : {W : Type 0} (seat : W → SeatState A) (texts : W → List (List ℕ)) (ended : W → Ended) (threads index place : ℕ) (block : List (RunLine A)) (line : RunLine A) (seats : List (SeatState A)) (workers : List W)
       (worker : W) (taken old pending : List ℕ) → 1 ≤ threads → threads ≤ 63 → AreSeats threads seats → AllZip (HasWorked threads block) seats (map (λ w. work (seat w) (texts w) (ended w)) workers)
-      → index < length block → line ≡ get_or block index line → place ≡ seat_of threads line.worker → place < 64 → place < length workers → worker ≡ get_or workers place worker
+      → index < length block → line ≡ get_or block index line → place ≡ seat_of threads line.line.worker → place < 64 → place < length workers → worker ≡ get_or workers place worker
       → length (texts worker) ≤ get_or taken place 0 → IsGatheredSo threads (take index block) (map texts workers) taken old pending
       → (text : List ℕ) × (pending ≡ old ++ text) × Gathers threads block (map texts workers) (ended worker) text
   gathered_ended {W} seat texts ended threads index place block line seats workers worker taken old pending some most numbered each within is at few there found none so =

@@ -23,7 +23,8 @@ use Rattle.cap_run.specs.Workload.{AreCalls, AreOfOneHistory, EachBlock, EndsBlo
 use Rattle.cap_run.specs.RunFault.{RunsNothing}
 use Rattle.cap_run.specs.declared.fault.RunFault.{RunFault}
 use Rattle.cap_run.specs.declared.fault.RunFault.TheVariants.{BlobList, Blob, Call, Close, NotHex, NotUtf8, OutOfMemory, Patchset, Read, Script, Write}
-use Rattle.cap_script.specs.declared.line.Line.{Line}
+use Rattle.cap_replies.specs.declared.run_line.ReplyForm.{ReplyForm}
+use Rattle.cap_replies.specs.declared.run_line.RunLine.{RunLine}
 use Rattle.cap_locked.specs.declared.fault.CallFault.TheVariants as call
 use Rattle.cap_server.specs.Close.{FirstHasSeen, HasAll, IsClosed, IsMissing, StandsAt}
 use Rattle.cap_server.specs.Close.{MatchCloseFault}
@@ -87,7 +88,7 @@ module _ {A : Type 0} where
       subst (λ (s : SeatState A). HasCalledOwn ended made s (get_or seats number (newcomer 0))) (get_or-map-range_with_len newcomer 0 (threads + 1) number number (newcomer 0) within (omega arith))
       (AllZip-get_or (HasCalledOwn ended made) (opened threads) seats number (newcomer 0) (newcomer 0) each there)
 
-  pub closed-calls : (threads : ℕ) (lines : List (Line A)) (ended : Ended) (text : List ℕ) (seats : List (SeatState A)) (events : ℕ) (core : State A) (so : HaveCalled threads lines ended text (opened threads) seats)
+  pub closed-calls : (threads : ℕ) (lines : List (RunLine A)) (ended : Ended) (text : List ℕ) (seats : List (SeatState A)) (events : ℕ) (core : State A) (so : HaveCalled threads lines ended text (opened threads) seats)
       → 1 ≤ threads → AreSeats threads seats → (closed : IsClosed seats events core) → (number : ℕ) → AreCalls ended (own number (calls_of threads lines so.replies)) (own number closed.history)
   closed-calls threads lines ended text seats events core so some numbered closed number =
       let made = calls_of threads lines so.replies in
@@ -133,10 +134,10 @@ module _ {A : Type 0} where
       (AllZip-get_or (HasCut front made) (opened threads) seats number (newcomer 0) (newcomer 0) each there)
 
   -- the own calls of one seat in lines, of those before and of those behind
-  own-parts : (threads number : ℕ) (lines before behind : List (Line A)) (replies : List (Reply A)) → lines ≡ before ++ behind
+  own-parts : (threads number : ℕ) (lines before behind : List (RunLine A)) (replies : List (Reply A)) → lines ≡ before ++ behind
       → own number (calls_of threads lines replies) ≡ own number (calls_of threads before replies) ++ own number (calls_of threads behind (drop (length before) replies))
   own-parts threads number lines before behind replies is =
-      ap (λ (l : List (Line A)). own number (calls_of threads l replies)) is ∙ ap (own number) (calls_of-parts threads before behind replies)
+      ap (λ (l : List (RunLine A)). own number (calls_of threads l replies)) is ∙ ap (own number) (calls_of-parts threads before behind replies)
       ∙ own-append number (calls_of threads before replies) (calls_of threads behind (drop (length before) replies))
 
   -- a seat of a closed server has no more calls in a front than before it
@@ -153,7 +154,7 @@ module _ {A : Type 0} where
         | inr few ↦ few
       ]
 
-  pub closed-blocks : (threads : ℕ) (lines : List (Line A)) (ended : Ended) (text : List ℕ) (seats : List (SeatState A)) (events : ℕ) (core : State A) (so : HaveCalled threads lines ended text (opened threads) seats)
+  pub closed-blocks : (threads : ℕ) (lines : List (RunLine A)) (ended : Ended) (text : List ℕ) (seats : List (SeatState A)) (events : ℕ) (core : State A) (so : HaveCalled threads lines ended text (opened threads) seats)
       → 1 ≤ threads → AreSeats threads seats → (closed : IsClosed seats events core) → EachBlock lines so.replies (IsDivided (AreCalls ended) threads so.replies closed.history)
   closed-blocks threads lines ended text seats events core so some numbered closed before line behind is ends less =
       let order = so.order (opened_met A threads) in
@@ -188,7 +189,7 @@ module _ {A : Type 0} where
       (divided (Err call.OutOfMemory) before behind (before ++ behind) front rest history refl parts
       (prefix-trans (before ++ behind) seat_calls history (subst (λ (l : List (Event A)). IsPrefix l seat_calls) calls_parts (calls-begin ended all seat_calls are)) shown) begins few).1
 
-  pub seen-blocks : (threads : ℕ) (lines : List (Line A)) (ended : Ended) (text : List ℕ) (seats : List (SeatState A)) (history : List (Event A)) (so : HaveCalled threads lines ended text (opened threads) seats)
+  pub seen-blocks : (threads : ℕ) (lines : List (RunLine A)) (ended : Ended) (text : List ℕ) (seats : List (SeatState A)) (history : List (Event A)) (so : HaveCalled threads lines ended text (opened threads) seats)
       → 1 ≤ threads → AreSeats threads seats → All (λ seat. IsPrefix seat.seen history) seats → EachBlock lines so.replies (IsDivided IsPrefix threads so.replies history)
   seen-blocks threads lines ended text seats history so some numbered seen before line behind is ends less =
       let order = so.order (opened_met A threads) in
@@ -223,7 +224,7 @@ module _ {A : Type 0} where
       }
 
   -- such a history, with as many events at least as the fault reports
-  abbrev pub OneHistory : (List (Event A) → List (Event A) → Type 0) → ℕ → List (Line A) → List (Reply A) → Ended → Type 0
+  abbrev pub OneHistory : (List (Event A) → List (Event A) → Type 0) → ℕ → List (RunLine A) → List (Reply A) → Ended → Type 0
   OneHistory Are threads lines replies ended = (so : AreOfOneHistory Are threads lines replies) × ReportsEvents (λ count. count ≤ length so.history) ended
 
   -- what one of the seats has seen begins it
@@ -234,7 +235,7 @@ module _ {A : Type 0} where
       let begins : IsPrefix one.1.seen history = subst (λ (seat : SeatState A). IsPrefix seat.seen history) one.3 (shown one.0 one.1 one.2) in
       omega (arith, prefix-length one.1.seen history begins, one.4)) ended seen
 
-  pub closed_history : (threads : ℕ) (lines : List (Line A)) (ended : Ended) (text : List ℕ) (seats : List (SeatState A)) (events : ℕ) (core : State A) (so : HaveCalled threads lines ended text (opened threads) seats)
+  pub closed_history : (threads : ℕ) (lines : List (RunLine A)) (ended : Ended) (text : List ℕ) (seats : List (SeatState A)) (events : ℕ) (core : State A) (so : HaveCalled threads lines ended text (opened threads) seats)
       → 1 ≤ threads → AreSeats threads seats → IsClosed seats events core → OneHistory (AreCalls ended) threads lines so.replies ended
   closed_history threads lines ended text seats events core so some numbered closed = (
     record {
@@ -247,7 +248,7 @@ module _ {A : Type 0} where
     seen-events ended seats closed.history closed.seen so.events,
   )
 
-  pub begun-history : (threads : ℕ) (lines : List (Line A)) (replies : List (Reply A)) (ended : Ended) → OneHistory (AreCalls ended) threads lines replies ended → OneHistory IsPrefix threads lines replies ended
+  pub begun-history : (threads : ℕ) (lines : List (RunLine A)) (replies : List (Reply A)) (ended : Ended) → OneHistory (AreCalls ended) threads lines replies ended → OneHistory IsPrefix threads lines replies ended
   begun-history threads lines replies ended (so, events) = (
     record {
       history = so.history;
@@ -268,7 +269,7 @@ module _ {A : Type 0} where
   )
 
   -- what the first seat has seen of an unclosed server's history
-  pub seen_history : (threads : ℕ) (lines : List (Line A)) (ended : Ended) (text : List ℕ) (seats left : List (SeatState A)) (least : List (Event A)) (front : ℕ)
+  pub seen_history : (threads : ℕ) (lines : List (RunLine A)) (ended : Ended) (text : List ℕ) (seats left : List (SeatState A)) (least : List (Event A)) (front : ℕ)
       (so : HaveCalled threads lines ended text (opened threads) seats) → 1 ≤ threads → AreSeats threads seats → FirstHasSeen seats left least front → OneHistory IsPrefix threads lines so.replies ended
   seen_history threads lines ended text seats left least front so some numbered first =
       let made = calls_of threads lines so.replies in (
@@ -299,7 +300,7 @@ module _ {A : Type 0} where
 
   -- ---- what a run wrote
 
-  pub sooner-history : (threads : ℕ) (lines others : List (Line A)) (replies : List (Reply A)) (ended : Ended) → length replies ≤ length lines → OneHistory IsPrefix threads lines replies ended
+  pub sooner-history : (threads : ℕ) (lines others : List (RunLine A)) (replies : List (Reply A)) (ended : Ended) → length replies ≤ length lines → OneHistory IsPrefix threads lines replies ended
       → OneHistory IsPrefix threads (lines ++ others) replies ended
   sooner-history threads lines others replies ended few (so, events) = (
     record {
@@ -308,12 +309,12 @@ module _ {A : Type 0} where
       blobs = so.blobs;
       blocks = λ before line behind is ends less.
           let cut = split-first lines others before line behind is (omega (arith, few, less)) in
-          let sooner = ends_sooner line cut.0 others (subst (λ (l : List (Line A)). EndsBlock line l) cut.2 ends) in
+          let sooner = ends_sooner line cut.0 others (subst (λ (l : List (RunLine A)). EndsBlock line l) cut.2 ends) in
           let part = so.blocks before line cut.0 cut.1 sooner less in
           let left = drop (length (before ++ line ∷ [])) replies in
           let long : length lines ≡ length before + suc (length cut.0) = ap length cut.1 ∙ length-append before (line ∷ cut.0) in
           let fewer : length left ≤ length cut.0 = omega (arith, length-drop (length (before ++ line ∷ [])) replies, length-append before (line ∷ []), few, long) in
-          let same : calls_of threads behind left ≡ calls_of threads cut.0 left = ap (λ (l : List (Line A)). calls_of threads l left) cut.2 ∙ calls_of-longer threads cut.0 others left fewer in
+          let same : calls_of threads behind left ≡ calls_of threads cut.0 left = ap (λ (l : List (RunLine A)). calls_of threads l left) cut.2 ∙ calls_of-longer threads cut.0 others left fewer in
           record {
             front = part.front;
             rest = part.rest;
@@ -326,133 +327,133 @@ module _ {A : Type 0} where
     events,
   )
 
-  pub writes-some : (threads : ℕ) (called others lines : List (Line A)) (ended : Ended) (text : List ℕ) (seats : List (SeatState A)) (a b : Option (List ℕ)) → lines ≡ called ++ others
-      → (so : HaveCalled threads called ended text (opened threads) seats) → OneHistory IsPrefix threads called so.replies ended → AppendsFront a b (text ++ ending ended) → WritesSome threads lines a b
-  writes-some threads called others lines ended text seats a b parts so history wrote =
+  pub writes-some : (form : ReplyForm) (threads : ℕ) (called others lines : List (RunLine A)) (ended : Ended) (text : List ℕ) (seats : List (SeatState A)) (a b : Option (List ℕ)) → lines ≡ called ++ others
+      → (so : HaveCalled threads called ended text (opened threads) seats) → OneHistory IsPrefix threads called so.replies ended → AppendsFront a b (text ++ ending form ended) → WritesSome form threads lines a b
+  writes-some form threads called others lines ended text seats a b parts so history wrote =
       let few = count_few ended (length so.replies) (length called) so.count in
-      let all = subst (λ (l : List (Line A)). OneHistory IsPrefix threads l so.replies ended) (sym parts) (sooner-history threads called others so.replies ended few history) in (
+      let all = subst (λ (l : List (RunLine A)). OneHistory IsPrefix threads l so.replies ended) (sym parts) (sooner-history threads called others so.replies ended few history) in (
         ended,
-        text ++ ending ended,
+        text ++ ending form ended,
         record {
           replies = so.replies;
           few = omega (arith, few, ap length parts, length-append called others);
-          text_is = ap (λ (t : List ℕ). t ++ ending ended)
-              (so.text_is ∙ sym (reply_lines-longer called others so.replies few) ∙ ap (λ (l : List (Line A)). reply_lines l so.replies) (sym parts));
+          text_is = ap (λ (t : List ℕ). t ++ ending form ended)
+              (so.text_is ∙ sym (reply_lines-longer called others so.replies few) ∙ ap (λ (l : List (RunLine A)). reply_lines l so.replies) (sym parts));
           history = all.0;
           events = all.1;
         },
         wrote,
       )
 
-  pub writes-all : (threads : ℕ) (lines : List (Line A)) (ended : Ended) (text : List ℕ) (seats : List (SeatState A)) (a b : Option (List ℕ)) → (so : HaveCalled threads lines ended text (opened threads) seats)
-      → OneHistory (AreCalls ended) threads lines so.replies ended → Appends a b (text ++ ending ended) → WritesAll threads lines ended a b
-  writes-all threads lines ended text seats a b so (history, events) wrote =
-      (text ++ ending ended, record { replies = so.replies; count = so.count; text_is = ap (λ (t : List ℕ). t ++ ending ended) so.text_is; history = history; events = events }, wrote)
+  pub writes-all : (form : ReplyForm) (threads : ℕ) (lines : List (RunLine A)) (ended : Ended) (text : List ℕ) (seats : List (SeatState A)) (a b : Option (List ℕ)) → (so : HaveCalled threads lines ended text (opened threads) seats)
+      → OneHistory (AreCalls ended) threads lines so.replies ended → Appends a b (text ++ ending form ended) → WritesAll form threads lines ended a b
+  writes-all form threads lines ended text seats a b so (history, events) wrote =
+      (text ++ ending form ended, record { replies = so.replies; count = so.count; text_is = ap (λ (t : List ℕ). t ++ ending form ended) so.text_is; history = history; events = events }, wrote)
 
   -- the server was not closed
-  pub writes-unclosed : (threads : ℕ) (lines : List (Line A)) (text : List ℕ) (seats : List (SeatState A)) (a b : Option (List ℕ)) → (so : HaveCalled threads lines (Ok tt) text (opened threads) seats)
-      → OneHistory IsPrefix threads lines so.replies (Ok tt) → Appends a b text → WritesUnclosed threads lines a b
-  writes-unclosed threads lines text seats a b so (history, events) wrote =
+  pub writes-unclosed : (form : ReplyForm) (threads : ℕ) (lines : List (RunLine A)) (text : List ℕ) (seats : List (SeatState A)) (a b : Option (List ℕ)) → (so : HaveCalled threads lines (Ok tt) text (opened threads) seats)
+      → OneHistory IsPrefix threads lines so.replies (Ok tt) → Appends a b text → WritesUnclosed form threads lines a b
+  writes-unclosed form threads lines text seats a b so (history, events) wrote =
       (text, record { replies = so.replies; count = so.count; text_is = so.text_is ∙ sym (append-nil (reply_lines lines so.replies)); history = history; events = events }, wrote)
 
   -- ---- the whole run
 
-  pub writes_closed : (threads : ℕ) (input : Option (List ℕ)) (lines : List (Line A)) (outcome : Result (Unit {0}) RunFault) (seats : List (SeatState A)) (events : ℕ) (core : State A) (a b : Option (List ℕ))
-      → 1 ≤ threads → IsSpelled input lines → RunsLines threads lines outcome (opened threads) seats a b → IsClosed seats events core → WritesWorkload A threads input outcome a b
-  writes_closed threads input lines (Ok done) seats events core a b some spelled (text, so, wrote) closed =
+  pub writes_closed : (form : ReplyForm) (threads : ℕ) (input : Option (List ℕ)) (lines : List (RunLine A)) (outcome : Result (Unit {0}) RunFault) (seats : List (SeatState A)) (events : ℕ) (core : State A) (a b : Option (List ℕ))
+      → 1 ≤ threads → IsSpelled form input lines → RunsLines form threads lines outcome (opened threads) seats a b → IsClosed seats events core → WritesWorkload A form threads input outcome a b
+  writes_closed form threads input lines (Ok done) seats events core a b some spelled (text, so, wrote) closed =
       let history = closed_history threads lines (Ok tt) text seats events core so some (still_seats threads lines (Ok tt) text (opened threads) seats so (newcomers_seats A threads)) closed in
-      (lines, spelled, writes-all threads lines (Ok tt) text seats a b so history (subst (λ (t : List ℕ). Appends a b t) (sym (append-nil text)) wrote))
-  writes_closed threads input lines (Err (Call fault)) seats events core a b some spelled (text, so, wrote) closed =
+      (lines, spelled, writes-all form threads lines (Ok tt) text seats a b so history (subst (λ (t : List ℕ). Appends a b t) (sym (append-nil text)) wrote))
+  writes_closed form threads input lines (Err (Call fault)) seats events core a b some spelled (text, so, wrote) closed =
       let history = closed_history threads lines (Err fault) text seats events core so some (still_seats threads lines (Err fault) text (opened threads) seats so (newcomers_seats A threads)) closed in
-      (lines, spelled, writes-all threads lines (Err fault) text seats a b so history wrote)
-  writes_closed threads input lines (Err Write) seats events core a b some spelled (called, others, ended, text, parts, so, wrote) closed =
+      (lines, spelled, writes-all form threads lines (Err fault) text seats a b so history wrote)
+  writes_closed form threads input lines (Err Write) seats events core a b some spelled (called, others, ended, text, parts, so, wrote) closed =
       let history = closed_history threads called ended text seats events core so some (still_seats threads called ended text (opened threads) seats so (newcomers_seats A threads)) closed in
-      (lines, spelled, writes-some threads called others lines ended text seats a b parts so (begun-history threads called so.replies ended history) wrote)
-  writes_closed threads input lines (Err Close) seats events core a b some spelled runs closed = absurd runs
-  writes_closed threads input lines (Err (Script fault)) seats events core a b some spelled runs closed = absurd runs
-  writes_closed threads input lines (Err NotUtf8) seats events core a b some spelled runs closed = absurd runs
-  writes_closed threads input lines (Err NotHex) seats events core a b some spelled runs closed = absurd runs
-  writes_closed threads input lines (Err (Blob fault)) seats events core a b some spelled runs closed = absurd runs
-  writes_closed threads input lines (Err Patchset) seats events core a b some spelled runs closed = absurd runs
-  writes_closed threads input lines (Err (BlobList fault)) seats events core a b some spelled runs closed = absurd runs
-  writes_closed threads input lines (Err Read) seats events core a b some spelled runs closed = absurd runs
-  writes_closed threads input lines (Err OutOfMemory) seats events core a b some spelled runs closed = absurd runs
+      (lines, spelled, writes-some form threads called others lines ended text seats a b parts so (begun-history threads called so.replies ended history) wrote)
+  writes_closed form threads input lines (Err Close) seats events core a b some spelled runs closed = absurd runs
+  writes_closed form threads input lines (Err (Script fault)) seats events core a b some spelled runs closed = absurd runs
+  writes_closed form threads input lines (Err NotUtf8) seats events core a b some spelled runs closed = absurd runs
+  writes_closed form threads input lines (Err NotHex) seats events core a b some spelled runs closed = absurd runs
+  writes_closed form threads input lines (Err (Blob fault)) seats events core a b some spelled runs closed = absurd runs
+  writes_closed form threads input lines (Err Patchset) seats events core a b some spelled runs closed = absurd runs
+  writes_closed form threads input lines (Err (BlobList fault)) seats events core a b some spelled runs closed = absurd runs
+  writes_closed form threads input lines (Err Read) seats events core a b some spelled runs closed = absurd runs
+  writes_closed form threads input lines (Err OutOfMemory) seats events core a b some spelled runs closed = absurd runs
 
-  pub writes_unclosed : (threads : ℕ) (input : Option (List ℕ)) (lines : List (Line A)) (outcome : Result (Unit {0}) RunFault) (seats left : List (SeatState A)) (least : List (Event A)) (front : ℕ)
-      (a b : Option (List ℕ)) → 1 ≤ threads → IsSpelled input lines → RunsLines threads lines outcome (opened threads) seats a b → FirstHasSeen seats left least front
-      → WritesWorkload A threads input (unclosed_outcome outcome) a b
-  writes_unclosed threads input lines (Ok done) seats left least front a b some spelled (text, so, wrote) first =
+  pub writes_unclosed : (form : ReplyForm) (threads : ℕ) (input : Option (List ℕ)) (lines : List (RunLine A)) (outcome : Result (Unit {0}) RunFault) (seats left : List (SeatState A)) (least : List (Event A)) (front : ℕ)
+      (a b : Option (List ℕ)) → 1 ≤ threads → IsSpelled form input lines → RunsLines form threads lines outcome (opened threads) seats a b → FirstHasSeen seats left least front
+      → WritesWorkload A form threads input (unclosed_outcome outcome) a b
+  writes_unclosed form threads input lines (Ok done) seats left least front a b some spelled (text, so, wrote) first =
       let history = seen_history threads lines (Ok tt) text seats left least front so some (still_seats threads lines (Ok tt) text (opened threads) seats so (newcomers_seats A threads)) first in
-      (lines, spelled, writes-unclosed threads lines text seats a b so history wrote)
-  writes_unclosed threads input lines (Err (Call fault)) seats left least front a b some spelled (text, so, wrote) first =
+      (lines, spelled, writes-unclosed form threads lines text seats a b so history wrote)
+  writes_unclosed form threads input lines (Err (Call fault)) seats left least front a b some spelled (text, so, wrote) first =
       let history = seen_history threads lines (Err fault) text seats left least front so some (still_seats threads lines (Err fault) text (opened threads) seats so (newcomers_seats A threads)) first in
-      (lines, spelled, writes-all threads lines (Err fault) text seats a b so history wrote)
-  writes_unclosed threads input lines (Err Write) seats left least front a b some spelled (called, others, ended, text, parts, so, wrote) first =
+      (lines, spelled, writes-all form threads lines (Err fault) text seats a b so history wrote)
+  writes_unclosed form threads input lines (Err Write) seats left least front a b some spelled (called, others, ended, text, parts, so, wrote) first =
       let history = seen_history threads called ended text seats left least front so some (still_seats threads called ended text (opened threads) seats so (newcomers_seats A threads)) first in
-      (lines, spelled, writes-some threads called others lines ended text seats a b parts so history wrote)
-  writes_unclosed threads input lines (Err Close) seats left least front a b some spelled runs first = absurd runs
-  writes_unclosed threads input lines (Err (Script fault)) seats left least front a b some spelled runs first = absurd runs
-  writes_unclosed threads input lines (Err NotUtf8) seats left least front a b some spelled runs first = absurd runs
-  writes_unclosed threads input lines (Err NotHex) seats left least front a b some spelled runs first = absurd runs
-  writes_unclosed threads input lines (Err (Blob fault)) seats left least front a b some spelled runs first = absurd runs
-  writes_unclosed threads input lines (Err Patchset) seats left least front a b some spelled runs first = absurd runs
-  writes_unclosed threads input lines (Err (BlobList fault)) seats left least front a b some spelled runs first = absurd runs
-  writes_unclosed threads input lines (Err Read) seats left least front a b some spelled runs first = absurd runs
-  writes_unclosed threads input lines (Err OutOfMemory) seats left least front a b some spelled runs first = absurd runs
+      (lines, spelled, writes-some form threads called others lines ended text seats a b parts so history wrote)
+  writes_unclosed form threads input lines (Err Close) seats left least front a b some spelled runs first = absurd runs
+  writes_unclosed form threads input lines (Err (Script fault)) seats left least front a b some spelled runs first = absurd runs
+  writes_unclosed form threads input lines (Err NotUtf8) seats left least front a b some spelled runs first = absurd runs
+  writes_unclosed form threads input lines (Err NotHex) seats left least front a b some spelled runs first = absurd runs
+  writes_unclosed form threads input lines (Err (Blob fault)) seats left least front a b some spelled runs first = absurd runs
+  writes_unclosed form threads input lines (Err Patchset) seats left least front a b some spelled runs first = absurd runs
+  writes_unclosed form threads input lines (Err (BlobList fault)) seats left least front a b some spelled runs first = absurd runs
+  writes_unclosed form threads input lines (Err Read) seats left least front a b some spelled runs first = absurd runs
+  writes_unclosed form threads input lines (Err OutOfMemory) seats left least front a b some spelled runs first = absurd runs
 
   -- all seats were handed back
-  pub none_missing : (threads : ℕ) (lines : List (Line A)) (ended : Ended) (text : List ℕ) (seats : List (SeatState A)) (number : ℕ) → HaveCalled threads lines ended text (opened threads) seats
+  pub none_missing : (threads : ℕ) (lines : List (RunLine A)) (ended : Ended) (text : List ℕ) (seats : List (SeatState A)) (number : ℕ) → HaveCalled threads lines ended text (opened threads) seats
       → number < threads + 1 → ¬ IsMissing seats number
   none_missing threads lines ended text seats number so within missed =
       missed number (stands_at threads seats number (still_seats threads lines ended text (opened threads) seats so (newcomers_seats A threads)) within)
 
   -- some lines were called by the seats, however the run ended
-  pub runs-called : (threads : ℕ) (lines : List (Line A)) (outcome : Result (Unit {0}) RunFault) (a b : List (SeatState A)) (k l : Option (List ℕ)) → RunsLines threads lines outcome a b k l
-      → (called : List (Line A)) × (ended : Ended) × (text : List ℕ) × HaveCalled threads called ended text a b
-  runs-called threads lines (Ok done) a b k l (text, so, wrote) = (lines, Ok tt, text, so)
-  runs-called threads lines (Err (Call fault)) a b k l (text, so, wrote) = (lines, Err fault, text, so)
-  runs-called threads lines (Err Write) a b k l (called, others, ended, text, parts, so, wrote) = (called, ended, text, so)
-  runs-called threads lines (Err Close) a b k l runs = absurd runs
-  runs-called threads lines (Err (Script fault)) a b k l runs = absurd runs
-  runs-called threads lines (Err NotUtf8) a b k l runs = absurd runs
-  runs-called threads lines (Err NotHex) a b k l runs = absurd runs
-  runs-called threads lines (Err (Blob fault)) a b k l runs = absurd runs
-  runs-called threads lines (Err Patchset) a b k l runs = absurd runs
-  runs-called threads lines (Err (BlobList fault)) a b k l runs = absurd runs
-  runs-called threads lines (Err Read) a b k l runs = absurd runs
-  runs-called threads lines (Err OutOfMemory) a b k l runs = absurd runs
+  pub runs-called : (form : ReplyForm) (threads : ℕ) (lines : List (RunLine A)) (outcome : Result (Unit {0}) RunFault) (a b : List (SeatState A)) (k l : Option (List ℕ)) → RunsLines form threads lines outcome a b k l
+      → (called : List (RunLine A)) × (ended : Ended) × (text : List ℕ) × HaveCalled threads called ended text a b
+  runs-called form threads lines (Ok done) a b k l (text, so, wrote) = (lines, Ok tt, text, so)
+  runs-called form threads lines (Err (Call fault)) a b k l (text, so, wrote) = (lines, Err fault, text, so)
+  runs-called form threads lines (Err Write) a b k l (called, others, ended, text, parts, so, wrote) = (called, ended, text, so)
+  runs-called form threads lines (Err Close) a b k l runs = absurd runs
+  runs-called form threads lines (Err (Script fault)) a b k l runs = absurd runs
+  runs-called form threads lines (Err NotUtf8) a b k l runs = absurd runs
+  runs-called form threads lines (Err NotHex) a b k l runs = absurd runs
+  runs-called form threads lines (Err (Blob fault)) a b k l runs = absurd runs
+  runs-called form threads lines (Err Patchset) a b k l runs = absurd runs
+  runs-called form threads lines (Err (BlobList fault)) a b k l runs = absurd runs
+  runs-called form threads lines (Err Read) a b k l runs = absurd runs
+  runs-called form threads lines (Err OutOfMemory) a b k l runs = absurd runs
 
   -- ---- a run of the seats that a server opened, and that were handed back to it
 
-  pub served_closed : (threads : ℕ) (input : Option (List ℕ)) (lines : List (Line A)) (outcome : Result (Unit {0}) RunFault) (first last back : List (SeatState A)) (events : ℕ) (core : State A)
-      (a b : Option (List ℕ)) → 1 ≤ threads → IsSpelled input lines → first ≡ opened threads → back ≡ last → RunsLines threads lines outcome first last a b → IsClosed back events core
-      → WritesWorkload A threads input outcome a b
-  served_closed threads input lines outcome first last back events core a b some spelled new same runs closed =
-      writes_closed threads input lines outcome last events core a b some spelled
-      (subst (λ (l : List (SeatState A)). RunsLines threads lines outcome l last a b) new runs) (subst (λ (l : List (SeatState A)). IsClosed l events core) same closed)
+  pub served_closed : (form : ReplyForm) (threads : ℕ) (input : Option (List ℕ)) (lines : List (RunLine A)) (outcome : Result (Unit {0}) RunFault) (first last back : List (SeatState A)) (events : ℕ) (core : State A)
+      (a b : Option (List ℕ)) → 1 ≤ threads → IsSpelled form input lines → first ≡ opened threads → back ≡ last → RunsLines form threads lines outcome first last a b → IsClosed back events core
+      → WritesWorkload A form threads input outcome a b
+  served_closed form threads input lines outcome first last back events core a b some spelled new same runs closed =
+      writes_closed form threads input lines outcome last events core a b some spelled
+      (subst (λ (l : List (SeatState A)). RunsLines form threads lines outcome l last a b) new runs) (subst (λ (l : List (SeatState A)). IsClosed l events core) same closed)
 
-  pub served_unclosed : (threads count : ℕ) (input : Option (List ℕ)) (lines : List (Line A)) (outcome : Result (Unit {0}) RunFault) (first last back left : List (SeatState A)) (fault : CloseFault)
-      (a b : Option (List ℕ)) → 1 ≤ threads → count ≡ threads + 1 → IsSpelled input lines → first ≡ opened threads → back ≡ last → RunsLines threads lines outcome first last a b
+  pub served_unclosed : (form : ReplyForm) (threads count : ℕ) (input : Option (List ℕ)) (lines : List (RunLine A)) (outcome : Result (Unit {0}) RunFault) (first last back left : List (SeatState A)) (fault : CloseFault)
+      (a b : Option (List ℕ)) → 1 ≤ threads → count ≡ threads + 1 → IsSpelled form input lines → first ≡ opened threads → back ≡ last → RunsLines form threads lines outcome first last a b
       → MatchCloseFault fault (λ number. (left ≡ back) × (number < count) × IsMissing back number × HasAll back number) (λ front. HasAll back count × FirstHasSeen back left [] front)
-      → WritesWorkload A threads input (unclosed_outcome outcome) a b
-  served_unclosed threads count input lines outcome first last back left (closing.MissingSeat number) a b some seats spelled new same runs (kept, less, missed, all) =
-      let began = subst (λ (l : List (SeatState A)). RunsLines threads lines outcome l last a b) new runs in
-      let ran = runs-called threads lines outcome (opened threads) last a b began in
+      → WritesWorkload A form threads input (unclosed_outcome outcome) a b
+  served_unclosed form threads count input lines outcome first last back left (closing.MissingSeat number) a b some seats spelled new same runs (kept, less, missed, all) =
+      let began = subst (λ (l : List (SeatState A)). RunsLines form threads lines outcome l last a b) new runs in
+      let ran = runs-called form threads lines outcome (opened threads) last a b began in
       absurd (none_missing threads ran.0 ran.1 ran.2 last number ran.3 (omega (arith, less, seats)) (subst (λ (l : List (SeatState A)). IsMissing l number) same missed))
-  served_unclosed threads count input lines outcome first last back left (closing.Overtaken front) a b some seats spelled new same runs (all, seen) =
-      writes_unclosed threads input lines outcome last left [] front a b some spelled
-      (subst (λ (l : List (SeatState A)). RunsLines threads lines outcome l last a b) new runs) (subst (λ (l : List (SeatState A)). FirstHasSeen l left [] front) same seen)
+  served_unclosed form threads count input lines outcome first last back left (closing.Overtaken front) a b some seats spelled new same runs (all, seen) =
+      writes_unclosed form threads input lines outcome last left [] front a b some spelled
+      (subst (λ (l : List (SeatState A)). RunsLines form threads lines outcome l last a b) new runs) (subst (λ (l : List (SeatState A)). FirstHasSeen l left [] front) same seen)
 
 -- nothing was written, since the run did not begin
-pub begins_nothing : (A : Type 0) (threads : ℕ) (input : Option (List ℕ)) (fault : RunFault) (a : Option (List ℕ)) → RunsNothing fault → WritesWorkload A threads input (Err fault) a a
-begins_nothing A threads input (Script fault) a early = Keeps-refl a
-begins_nothing A threads input NotUtf8 a early = Keeps-refl a
-begins_nothing A threads input NotHex a early = Keeps-refl a
-begins_nothing A threads input (Blob fault) a early = Keeps-refl a
-begins_nothing A threads input Patchset a early = Keeps-refl a
-begins_nothing A threads input (BlobList fault) a early = Keeps-refl a
-begins_nothing A threads input (Call fault) a early = absurd early
-begins_nothing A threads input Read a early = Keeps-refl a
-begins_nothing A threads input Write a early = absurd early
-begins_nothing A threads input OutOfMemory a early = Keeps-refl a
-begins_nothing A threads input Close a early = absurd early
+pub begins_nothing : (form : ReplyForm) (A : Type 0) (threads : ℕ) (input : Option (List ℕ)) (fault : RunFault) (a : Option (List ℕ)) → RunsNothing fault → WritesWorkload A form threads input (Err fault) a a
+begins_nothing form A threads input (Script fault) a early = Keeps-refl a
+begins_nothing form A threads input NotUtf8 a early = Keeps-refl a
+begins_nothing form A threads input NotHex a early = Keeps-refl a
+begins_nothing form A threads input (Blob fault) a early = Keeps-refl a
+begins_nothing form A threads input Patchset a early = Keeps-refl a
+begins_nothing form A threads input (BlobList fault) a early = Keeps-refl a
+begins_nothing form A threads input (Call fault) a early = absurd early
+begins_nothing form A threads input Read a early = Keeps-refl a
+begins_nothing form A threads input Write a early = absurd early
+begins_nothing form A threads input OutOfMemory a early = Keeps-refl a
+begins_nothing form A threads input Close a early = absurd early

@@ -9,10 +9,11 @@ use Rattle.cap_run.specs.declared.fault.RunFault.{RunFault}
 use Rattle.cap_run.specs.declared.fault.RunFault.TheVariants.{BlobList, Blob, Call, Close, NotHex, NotUtf8, OutOfMemory, Patchset, Read, Script, Write}
 use Rattle.cap_script.specs.FirstRefused.{SpellsWithin}
 use Rattle.cap_script.specs.RefusedLines.{NoLines}
-use Rattle.cap_script.specs.Script.{SpellsScript}
+use Rattle.cap_replies.specs.Lines.{SpellsLines}
 use Rattle.cap_script.specs.declared.fault.ScriptFault.{ScriptFault}
 use Rattle.cap_script.specs.declared.fault.ScriptFault.TheVariants as script
-use Rattle.cap_script.specs.declared.line.Line.{Line}
+use Rattle.cap_replies.specs.declared.run_line.ReplyForm.{ReplyForm}
+use Rattle.cap_replies.specs.declared.run_line.RunLine.{RunLine}
 
 -- a fault after the text was read is not one of the text
 pub no_text_fault : {X : Type 0} (known : Option (List ℕ)) (answer : Result X RunFault) → IfErr answer (λ fault. exit_status fault ≡ 3) → IfSome known (λ given. answer ≡ Err NotUtf8 → ¬ (IsUtf8 given))
@@ -38,9 +39,9 @@ not_of_input P (Ok x) later = tt
 not_of_input P (Err fault) later = λ refused. absurd (omega (arith, later, refused))
 
 -- what the text spells is spelled by what the reader gave
-pub input_spelled : {A : Type 0} (lines : List (Line A)) (known : Option (List ℕ)) (bytes text : List ℕ) → text ≡ bytes → IfSome known (λ given. bytes ≡ given) → SpellsScript lines text → IsSpelled known lines
-input_spelled lines None bytes text same whole spelled = tt
-input_spelled lines (Some given) bytes text same whole spelled = subst (λ (l : List ℕ). SpellsScript lines l) (same ∙ whole) spelled
+pub input_spelled : (form : ReplyForm) {A : Type 0} (lines : List (RunLine A)) (known : Option (List ℕ)) (bytes text : List ℕ) → text ≡ bytes → IfSome known (λ given. bytes ≡ given) → SpellsLines form lines text → IsSpelled form known lines
+input_spelled form lines None bytes text same whole spelled = tt
+input_spelled form lines (Some given) bytes text same whole spelled = subst (λ (l : List ℕ). SpellsLines form lines l) (same ∙ whole) spelled
 
 -- ---- which texts are refused
 

@@ -14,7 +14,7 @@ use Rattle.cap_history.specs.Seat.{HasCalled, SeatState, SeesMore, calls}
 use Rattle.cap_run.specs.Run.{Ended}
 use Rattle.cap_run.specs.Code.Calls.{AreCut, AreInOrder, CallsBehind, EachAt, EachSawIn, FirstHasMet, GoesOn, HasCalledOwn, HasCut, HasMet, first_seen}
 use Rattle.cap_run.specs.Workload.{AreCalls, EndsBlock, HasCount, calls_of, seat_of}
-use Rattle.cap_script.specs.declared.line.Line.{Line}
+use Rattle.cap_replies.specs.declared.run_line.RunLine.{RunLine}
 
 all-ended : (ended : Ended) (count lines : ℕ) → HasCount ended count lines → lines ≤ count → ended ≡ Ok tt
 all-ended (Ok done) count lines has all = refl
@@ -211,54 +211,54 @@ module _ {A : Type 0} where
 
   -- ---- the calls of lines
 
-  pub calls_of-nothing : (threads : ℕ) (lines : List (Line A)) → calls_of threads lines [] ≡ []
+  pub calls_of-nothing : (threads : ℕ) (lines : List (RunLine A)) → calls_of threads lines [] ≡ []
   calls_of-nothing threads [] = refl
   calls_of-nothing threads (line ∷ lines) = refl
 
   -- replies beyond those to the lines say nothing
-  pub calls_of-enough : (threads : ℕ) (lines : List (Line A)) (replies more : List (Reply A)) → length lines ≤ length replies → calls_of threads lines (replies ++ more) ≡ calls_of threads lines replies
+  pub calls_of-enough : (threads : ℕ) (lines : List (RunLine A)) (replies more : List (Reply A)) → length lines ≤ length replies → calls_of threads lines (replies ++ more) ≡ calls_of threads lines replies
   calls_of-enough threads [] replies more enough = refl
   calls_of-enough threads (line ∷ lines) [] more enough = absurd (omega (arith, enough))
   calls_of-enough threads (line ∷ lines) (reply ∷ replies) more enough =
-      ap (λ (made : List (Event A)). event_by (seat_of threads line.worker) line.command reply ∷ made) (calls_of-enough threads lines replies more (omega (arith, enough)))
+      ap (λ (made : List (Event A)). event_by (seat_of threads line.line.worker) line.line.command reply ∷ made) (calls_of-enough threads lines replies more (omega (arith, enough)))
 
   -- the calls of the first lines, and those of the others
-  pub calls_of-parts : (threads : ℕ) (lines others : List (Line A)) (replies : List (Reply A))
+  pub calls_of-parts : (threads : ℕ) (lines others : List (RunLine A)) (replies : List (Reply A))
       → calls_of threads (lines ++ others) replies ≡ calls_of threads lines replies ++ calls_of threads others (drop (length lines) replies)
   calls_of-parts threads [] others replies = refl
   calls_of-parts threads (line ∷ lines) others [] = sym (calls_of-nothing threads others)
   calls_of-parts threads (line ∷ lines) others (reply ∷ replies) =
-      ap (λ (made : List (Event A)). event_by (seat_of threads line.worker) line.command reply ∷ made) (calls_of-parts threads lines others replies)
+      ap (λ (made : List (Event A)). event_by (seat_of threads line.line.worker) line.line.command reply ∷ made) (calls_of-parts threads lines others replies)
 
   -- lines behind those that have replies say nothing
-  pub calls_of-fewer : (threads : ℕ) (lines others : List (Line A)) (replies : List (Reply A)) → length replies ≤ length lines → calls_of threads (lines ++ others) replies ≡ calls_of threads lines replies
+  pub calls_of-fewer : (threads : ℕ) (lines others : List (RunLine A)) (replies : List (Reply A)) → length replies ≤ length lines → calls_of threads (lines ++ others) replies ≡ calls_of threads lines replies
   calls_of-fewer threads [] others [] few = calls_of-nothing threads others
   calls_of-fewer threads [] others (reply ∷ replies) few = absurd (omega (arith, few))
   calls_of-fewer threads (line ∷ lines) others [] few = refl
   calls_of-fewer threads (line ∷ lines) others (reply ∷ replies) few =
-      ap (λ (made : List (Event A)). event_by (seat_of threads line.worker) line.command reply ∷ made) (calls_of-fewer threads lines others replies (omega (arith, few)))
+      ap (λ (made : List (Event A)). event_by (seat_of threads line.line.worker) line.line.command reply ∷ made) (calls_of-fewer threads lines others replies (omega (arith, few)))
 
   -- ---- ends of blocks
 
   -- a block ends where lines end
-  pub ends_sooner : (line : Line A) (behind others : List (Line A)) → EndsBlock line (behind ++ others) → EndsBlock line behind
+  pub ends_sooner : (line : RunLine A) (behind others : List (RunLine A)) → EndsBlock line (behind ++ others) → EndsBlock line behind
   ends_sooner line [] others ends = tt
   ends_sooner line (next ∷ behind) others ends = ends
 
   -- these lines are one block: none but the last ends it
-  abbrev pub IsOne : List (Line A) → Type 0
-  IsOne lines = (before : List (Line A)) (line : Line A) (behind : List (Line A)) → lines ≡ before ++ line ∷ behind → EndsBlock line behind → behind ≡ []
+  abbrev pub IsOne : List (RunLine A) → Type 0
+  IsOne lines = (before : List (RunLine A)) (line : RunLine A) (behind : List (RunLine A)) → lines ≡ before ++ line ∷ behind → EndsBlock line behind → behind ≡ []
 
-  pub one_alone : (line : Line A) → IsOne (line ∷ [])
+  pub one_alone : (line : RunLine A) → IsOne (line ∷ [])
   one_alone line [] last behind is ends = let none : [] ≡ behind = cc is in sym none
   one_alone line (x ∷ before) last behind is ends =
       let long : length (line ∷ []) ≡ length (x ∷ before ++ last ∷ behind) = ap length is in
       absurd (omega (arith, long, length-append before (last ∷ behind)))
 
-  no-none : (line : Line A) → is_some line.worker ≡ true → ¬ (line.worker ≡ None)
+  no-none : (line : RunLine A) → is_some line.line.worker ≡ true → ¬ (line.line.worker ≡ None)
   no-none line at none = let no : true ≡ false = sym at ∙ ap is_some none in absurd (cc no)
 
-  pub one_each : (lines : List (Line A)) → EachAt lines → IsOne lines
+  pub one_each : (lines : List (RunLine A)) → EachAt lines → IsOne lines
   one_each [] each [] line behind is ends = absurd (cc is)
   one_each [] each (x ∷ before) line behind is ends = absurd (cc is)
   one_each (y ∷ lines) each [] line [] is ends = refl
@@ -267,8 +267,8 @@ module _ {A : Type 0} where
       let first : y ≡ line = cc is in
       let second : z ≡ next = cc is in
       absurd (elim ends [
-        | inl none ↦ no-none line (subst (λ (l : Line A). is_some l.worker ≡ true) first each.0) none
-        | inr none ↦ no-none next (subst (λ (l : Line A). is_some l.worker ≡ true) second each.1.0) none
+        | inl none ↦ no-none line (subst (λ (l : RunLine A). is_some l.line.worker ≡ true) first each.0) none
+        | inr none ↦ no-none next (subst (λ (l : RunLine A). is_some l.line.worker ≡ true) second each.1.0) none
       ])
   one_each (y ∷ lines) each (x ∷ before) line behind is ends =
       let tails : lines ≡ before ++ line ∷ behind = cc is in
@@ -276,7 +276,7 @@ module _ {A : Type 0} where
 
   -- ---- the order of the calls
 
-  pub order_none : (threads : ℕ) (lines : List (Line A)) (seats : List (SeatState A)) → FirstHasMet seats → AreInOrder threads lines [] seats seats
+  pub order_none : (threads : ℕ) (lines : List (RunLine A)) (seats : List (SeatState A)) → FirstHasMet seats → AreInOrder threads lines [] seats seats
   order_none threads lines seats met = record {
     met = met;
     seen = prefix-self (first_seen seats);
@@ -284,7 +284,7 @@ module _ {A : Type 0} where
     blocks = λ before line behind is ends few. absurd (omega (arith, few));
   }
 
-  pub order_longer : (threads : ℕ) (lines others : List (Line A)) (replies : List (Reply A)) (a b : List (SeatState A)) → length replies ≤ length lines → AreInOrder threads lines replies a b
+  pub order_longer : (threads : ℕ) (lines others : List (RunLine A)) (replies : List (Reply A)) (a b : List (SeatState A)) → length replies ≤ length lines → AreInOrder threads lines replies a b
       → AreInOrder threads (lines ++ others) replies a b
   order_longer threads lines others replies a b few so = record {
     met = so.met;
@@ -292,12 +292,12 @@ module _ {A : Type 0} where
     behind = so.behind;
     blocks = λ before line behind is ends less.
         let part = split-first lines others before line behind is (omega (arith, few, less)) in
-        let sooner = ends_sooner line part.0 others (subst (λ (l : List (Line A)). EndsBlock line l) part.2 ends) in
+        let sooner = ends_sooner line part.0 others (subst (λ (l : List (RunLine A)). EndsBlock line l) part.2 ends) in
         so.blocks before line part.0 part.1 sooner less;
   }
 
   -- lines are called, and then others
-  pub order_more : (threads : ℕ) (lines others : List (Line A)) (replies more : List (Reply A)) (a b c : List (SeatState A)) → length replies ≡ length lines
+  pub order_more : (threads : ℕ) (lines others : List (RunLine A)) (replies more : List (Reply A)) (a b c : List (SeatState A)) → length replies ≡ length lines
       → AllZip (HasCalledOwn (Ok tt) (calls_of threads lines replies)) a b → AreInOrder threads lines replies a b → AreInOrder threads others more b c
       → AreInOrder threads (lines ++ others) (replies ++ more) a c
   order_more threads lines others replies more a b c count made first second = record {
@@ -307,7 +307,7 @@ module _ {A : Type 0} where
     blocks = λ before line behind is ends less. elim (cases_lt (length before) (length lines)) [
       | inl within ↦
           let part = split-first lines others before line behind is within in
-          let sooner = ends_sooner line part.0 others (subst (λ (l : List (Line A)). EndsBlock line l) part.2 ends) in
+          let sooner = ends_sooner line part.0 others (subst (λ (l : List (RunLine A)). EndsBlock line l) part.2 ends) in
           let cut = first.blocks before line part.0 part.1 sooner (omega (arith, within, count)) in
           let enough : length (before ++ line ∷ []) ≤ length replies = omega (arith, length-append before (line ∷ []), within, count) in
           let same = calls_of-enough threads (before ++ line ∷ []) replies more enough in
@@ -321,9 +321,9 @@ module _ {A : Type 0} where
           let part = split-second lines others before line behind is beyond in
           let longer : length before ≡ length lines + length part.0 = ap length part.1 ∙ length-append lines part.0 in
           let cut = second.blocks part.0 line behind part.2 ends (omega (arith, less, longer, count, length-append replies more)) in
-          let parts : before ++ line ∷ [] ≡ lines ++ (part.0 ++ line ∷ []) = ap (λ (l : List (Line A)). l ++ line ∷ []) part.1 ∙ append_assoc lines part.0 (line ∷ []) in
+          let parts : before ++ line ∷ [] ≡ lines ++ (part.0 ++ line ∷ []) = ap (λ (l : List (RunLine A)). l ++ line ∷ []) part.1 ∙ append_assoc lines part.0 (line ∷ []) in
           let same : calls_of threads (before ++ line ∷ []) (replies ++ more) ≡ calls_of threads lines replies ++ calls_of threads (part.0 ++ line ∷ []) more =
-          ap (λ (l : List (Line A)). calls_of threads l (replies ++ more)) parts ∙ calls-append threads lines (part.0 ++ line ∷ []) replies more count in
+          ap (λ (l : List (RunLine A)). calls_of threads l (replies ++ more)) parts ∙ calls-append threads lines (part.0 ++ line ∷ []) replies more count in
           record {
             front = cut.front;
             seen = cut.seen;
@@ -332,16 +332,16 @@ module _ {A : Type 0} where
           }
     ];
   } where
-    calls-append : (threads : ℕ) (lines others : List (Line A)) (replies more : List (Reply A)) → length replies ≡ length lines
+    calls-append : (threads : ℕ) (lines others : List (RunLine A)) (replies more : List (Reply A)) → length replies ≡ length lines
         → calls_of threads (lines ++ others) (replies ++ more) ≡ calls_of threads lines replies ++ calls_of threads others more
     calls-append threads [] others [] more same = refl
     calls-append threads [] others (reply ∷ replies) more same = absurd (omega (arith, same))
     calls-append threads (line ∷ lines) others [] more same = absurd (omega (arith, same))
     calls-append threads (line ∷ lines) others (reply ∷ replies) more same =
-        ap (λ (made : List (Event A)). event_by (seat_of threads line.worker) line.command reply ∷ made) (calls-append threads lines others replies more (omega (arith, same)))
+        ap (λ (made : List (Event A)). event_by (seat_of threads line.line.worker) line.line.command reply ∷ made) (calls-append threads lines others replies more (omega (arith, same)))
 
   -- one block is called
-  pub order_one : (threads : ℕ) (lines : List (Line A)) (ended : Ended) (replies : List (Reply A)) (a b : List (SeatState A)) → IsOne lines → HasCount ended (length replies) (length lines)
+  pub order_one : (threads : ℕ) (lines : List (RunLine A)) (ended : Ended) (replies : List (Reply A)) (a b : List (SeatState A)) → IsOne lines → HasCount ended (length replies) (length lines)
       → AllZip (HasCalledOwn ended (calls_of threads lines replies)) a b → FirstHasMet b → IsPrefix (first_seen a) (first_seen b) → AllZip (CallsBehind (first_seen a)) a b
       → AreInOrder threads lines replies a b
   order_one threads lines ended replies a b one count made met seen later = record {
@@ -350,14 +350,14 @@ module _ {A : Type 0} where
     behind = later;
     blocks = λ before line behind is ends less.
         let none = one before line behind is ends in
-        let whole : lines ≡ before ++ line ∷ [] = is ∙ ap (λ (l : List (Line A)). before ++ line ∷ l) none in
+        let whole : lines ≡ before ++ line ∷ [] = is ∙ ap (λ (l : List (RunLine A)). before ++ line ∷ l) none in
         let all : ended ≡ Ok tt = all-ended ended (length replies) (length lines) count (omega (arith, less, ap length whole, length-append before (line ∷ []))) in
         record {
           front = first_seen b;
           seen = prefix-self (first_seen b);
           seats = each_cut_here (first_seen b) (calls_of threads (before ++ line ∷ []) replies) a b
               (subst (λ (e : Ended). AllZip (HasCalledOwn e (calls_of threads (before ++ line ∷ []) replies)) a b) all
-              (subst (λ (l : List (Line A)). AllZip (HasCalledOwn ended (calls_of threads l replies)) a b) whole made)) met.0 met.1;
+              (subst (λ (l : List (RunLine A)). AllZip (HasCalledOwn ended (calls_of threads l replies)) a b) whole made)) met.0 met.1;
         };
   }
 
@@ -367,7 +367,7 @@ module _ {A : Type 0} where
   saw_more front more [] longer so = tt
   saw_more front more (seat ∷ seats) longer so = (prefix-trans seat.seen front more so.0 longer, saw_more front more seats longer so.1)
 
-  pub order_alone : (threads : ℕ) (line : Line A) (ended : Ended) (replies : List (Reply A)) (old new : SeatState A) (seats : List (SeatState A)) → HasCount ended (length replies) 1
+  pub order_alone : (threads : ℕ) (line : RunLine A) (ended : Ended) (replies : List (Reply A)) (old new : SeatState A) (seats : List (SeatState A)) → HasCount ended (length replies) 1
       → AllZip (HasCalledOwn ended (calls_of threads (line ∷ []) replies)) (old ∷ seats) (new ∷ seats) → GoesOn old new → FirstHasMet (old ∷ seats)
       → AreInOrder threads (line ∷ []) replies (old ∷ seats) (new ∷ seats)
   order_alone threads line ended replies old new seats count made goes met =
@@ -436,7 +436,7 @@ module _ {A : Type 0} where
   kept_calls ended made (x ∷ a) [] so kept = absurd so
   kept_calls ended made (x ∷ a) (y ∷ b) so kept = (so.0.seen kept.0, kept_calls ended made a b so.1 kept.1)
 
-  pub order_block : (threads : ℕ) (lines : List (Line A)) (ended : Ended) (replies : List (Reply A)) (a s w c : List (SeatState A)) → EachAt lines → HasCount ended (length replies) (length lines)
+  pub order_block : (threads : ℕ) (lines : List (RunLine A)) (ended : Ended) (replies : List (Reply A)) (a s w c : List (SeatState A)) → EachAt lines → HasCount ended (length replies) (length lines)
       → AllZip (HasCalledOwn ended (calls_of threads lines replies)) s w → AllZip (HasMet (first_seen a)) a s → AllZip GoesOn s w → AllZip (HasMet []) w c → EachSawIn (first_seen c) c → FirstHasMet a
       → AreInOrder threads lines replies a c
   order_block threads lines ended replies a s w c each count made before goes after shown met =

@@ -17,8 +17,8 @@ use Rattle.cap_run.proofs.OrderLemmas.{order_alone, order_longer, order_more, or
 use Rattle.cap_run.specs.Run.{Ended, events_max, on_a_line, reply_lines}
 use Rattle.cap_run.specs.Code.Calls.{AreNumbered, AreSeats, HasCalledLine, HasCalledOwn, HasSeen, HaveCalled, KeepsCalls, reply_texts, seat_lines, texts_of}
 use Rattle.cap_run.specs.Workload.{AreCalls, HasCount, ReportsEvents, calls_of, seat_of}
-use Rattle.cap_script.specs.ReplyText.{reply_text}
-use Rattle.cap_script.specs.declared.line.Line.{Line}
+use Rattle.cap_replies.specs.Printed.{reply_text}
+use Rattle.cap_replies.specs.declared.run_line.RunLine.{RunLine}
 use Rattle.cap_locked.specs.declared.fault.CallFault.{CallFault}
 use Rattle.cap_locked.specs.declared.fault.CallFault.TheVariants as call
 
@@ -68,20 +68,20 @@ reports P Q so (Err call.HistoryFull) has = so events_max has
 module _ {A : Type 0} where
   -- ---- seats of lines
 
-  abbrev pub is_of : ℕ → ℕ → Line A → Bool
-  is_of threads number line = nat_eq (seat_of threads line.worker) number
+  abbrev pub is_of : ℕ → ℕ → RunLine A → Bool
+  is_of threads number line = nat_eq (seat_of threads line.line.worker) number
 
-  pub lines-own : (threads number : ℕ) (line : Line A) (lines : List (Line A)) → is_of threads number line ≡ true → seat_lines threads number (line ∷ lines) ≡ line ∷ seat_lines threads number lines
+  pub lines-own : (threads number : ℕ) (line : RunLine A) (lines : List (RunLine A)) → is_of threads number line ≡ true → seat_lines threads number (line ∷ lines) ≡ line ∷ seat_lines threads number lines
   lines-own threads number line lines is = rw is
 
-  pub lines-other : (threads number : ℕ) (line : Line A) (lines : List (Line A)) → is_of threads number line ≡ false → seat_lines threads number (line ∷ lines) ≡ seat_lines threads number lines
+  pub lines-other : (threads number : ℕ) (line : RunLine A) (lines : List (RunLine A)) → is_of threads number line ≡ false → seat_lines threads number (line ∷ lines) ≡ seat_lines threads number lines
   lines-other threads number line lines is = rw is
 
-  pub texts-own : (threads number : ℕ) (line : Line A) (lines : List (Line A)) (text : List ℕ) (texts : List (List ℕ)) → is_of threads number line ≡ true
+  pub texts-own : (threads number : ℕ) (line : RunLine A) (lines : List (RunLine A)) (text : List ℕ) (texts : List (List ℕ)) → is_of threads number line ≡ true
       → texts_of threads number (line ∷ lines) (text ∷ texts) ≡ text ∷ texts_of threads number lines texts
   texts-own threads number line lines text texts is = rw is
 
-  pub texts-other : (threads number : ℕ) (line : Line A) (lines : List (Line A)) (text : List ℕ) (texts : List (List ℕ)) → is_of threads number line ≡ false
+  pub texts-other : (threads number : ℕ) (line : RunLine A) (lines : List (RunLine A)) (text : List ℕ) (texts : List (List ℕ)) → is_of threads number line ≡ false
       → texts_of threads number (line ∷ lines) (text ∷ texts) ≡ texts_of threads number lines texts
   texts-other threads number line lines text texts is = rw is
 
@@ -91,29 +91,29 @@ module _ {A : Type 0} where
   pub own-other : (number by : ℕ) (event : Event A) (events : List (Event A)) → event.by ≡ by → nat_eq by number ≡ false → own number (event ∷ events) ≡ own number events
   own-other number by event events same is = let met : nat_eq event.by number ≡ false = ap (λ n. nat_eq n number) same ∙ is in rw met
 
-  pub reply_texts-none : (lines : List (Line A)) → reply_texts lines [] ≡ []
+  pub reply_texts-none : (lines : List (RunLine A)) → reply_texts lines [] ≡ []
   reply_texts-none [] = refl
   reply_texts-none (line ∷ lines) = refl
 
-  pub reply_lines-none : (lines : List (Line A)) → reply_lines lines [] ≡ []
+  pub reply_lines-none : (lines : List (RunLine A)) → reply_lines lines [] ≡ []
   reply_lines-none [] = refl
   reply_lines-none (line ∷ lines) = refl
 
-  pub calls_of-none : (threads : ℕ) (lines : List (Line A)) → calls_of threads lines [] ≡ []
+  pub calls_of-none : (threads : ℕ) (lines : List (RunLine A)) → calls_of threads lines [] ≡ []
   calls_of-none threads [] = refl
   calls_of-none threads (line ∷ lines) = refl
 
   -- ---- lines and then others
 
-  pub calls_of-append : (threads : ℕ) (lines others : List (Line A)) (replies more : List (Reply A)) → length replies ≡ length lines
+  pub calls_of-append : (threads : ℕ) (lines others : List (RunLine A)) (replies more : List (Reply A)) → length replies ≡ length lines
       → calls_of threads (lines ++ others) (replies ++ more) ≡ calls_of threads lines replies ++ calls_of threads others more
   calls_of-append threads [] others [] more same = refl
   calls_of-append threads [] others (reply ∷ replies) more same = absurd (omega (arith, same))
   calls_of-append threads (line ∷ lines) others [] more same = absurd (omega (arith, same))
   calls_of-append threads (line ∷ lines) others (reply ∷ replies) more same =
-      ap (λ (calls : List (Event A)). event_by (seat_of threads line.worker) line.command reply ∷ calls) (calls_of-append threads lines others replies more (omega (arith, same)))
+      ap (λ (calls : List (Event A)). event_by (seat_of threads line.line.worker) line.line.command reply ∷ calls) (calls_of-append threads lines others replies more (omega (arith, same)))
 
-  pub reply_lines-append : (lines others : List (Line A)) (replies more : List (Reply A)) → length replies ≡ length lines
+  pub reply_lines-append : (lines others : List (RunLine A)) (replies more : List (Reply A)) → length replies ≡ length lines
       → reply_lines (lines ++ others) (replies ++ more) ≡ reply_lines lines replies ++ reply_lines others more
   reply_lines-append [] others [] more same = refl
   reply_lines-append [] others (reply ∷ replies) more same = absurd (omega (arith, same))
@@ -123,14 +123,14 @@ module _ {A : Type 0} where
       ap (λ (text : List ℕ). first ++ text) (reply_lines-append lines others replies more (omega (arith, same))) ∙ sym (append_assoc first (reply_lines lines replies) (reply_lines others more))
 
   -- lines behind those that have replies say nothing
-  pub calls_of-longer : (threads : ℕ) (lines others : List (Line A)) (replies : List (Reply A)) → length replies ≤ length lines → calls_of threads (lines ++ others) replies ≡ calls_of threads lines replies
+  pub calls_of-longer : (threads : ℕ) (lines others : List (RunLine A)) (replies : List (Reply A)) → length replies ≤ length lines → calls_of threads (lines ++ others) replies ≡ calls_of threads lines replies
   calls_of-longer threads [] others [] few = calls_of-none threads others
   calls_of-longer threads [] others (reply ∷ replies) few = absurd (omega (arith, few))
   calls_of-longer threads (line ∷ lines) others [] few = refl
   calls_of-longer threads (line ∷ lines) others (reply ∷ replies) few =
-      ap (λ (calls : List (Event A)). event_by (seat_of threads line.worker) line.command reply ∷ calls) (calls_of-longer threads lines others replies (omega (arith, few)))
+      ap (λ (calls : List (Event A)). event_by (seat_of threads line.line.worker) line.line.command reply ∷ calls) (calls_of-longer threads lines others replies (omega (arith, few)))
 
-  pub reply_lines-longer : (lines others : List (Line A)) (replies : List (Reply A)) → length replies ≤ length lines → reply_lines (lines ++ others) replies ≡ reply_lines lines replies
+  pub reply_lines-longer : (lines others : List (RunLine A)) (replies : List (Reply A)) → length replies ≤ length lines → reply_lines (lines ++ others) replies ≡ reply_lines lines replies
   reply_lines-longer [] others [] few = reply_lines-none others
   reply_lines-longer [] others (reply ∷ replies) few = absurd (omega (arith, few))
   reply_lines-longer (line ∷ lines) others [] few = refl
@@ -162,7 +162,7 @@ module _ {A : Type 0} where
   }
 
   -- out of memory for the first of some lines
-  pub called_refused : (threads : ℕ) (lines : List (Line A)) (seats : List (SeatState A)) → 0 < length lines → HaveCalled threads lines (Err call.OutOfMemory) [] seats seats
+  pub called_refused : (threads : ℕ) (lines : List (RunLine A)) (seats : List (SeatState A)) → 0 < length lines → HaveCalled threads lines (Err call.OutOfMemory) [] seats seats
   called_refused threads lines seats some = record {
     replies = [];
     count = some;
@@ -193,7 +193,7 @@ module _ {A : Type 0} where
   each_more ended made more (x ∷ a) (y ∷ b) (z ∷ c) first second = (own_more ended made more x y z first.0 second.0, each_more ended made more a b c first.1 second.1)
 
   -- lines, and then others
-  pub called_more : (threads : ℕ) (ended : Ended) (lines others : List (Line A)) (text more : List ℕ) (a b c : List (SeatState A)) → HaveCalled threads lines (Ok tt) text a b
+  pub called_more : (threads : ℕ) (ended : Ended) (lines others : List (RunLine A)) (text more : List ℕ) (a b c : List (SeatState A)) → HaveCalled threads lines (Ok tt) text a b
       → HaveCalled threads others ended more b c → HaveCalled threads (lines ++ others) ended (text ++ more) a c
   called_more threads ended lines others text more a b c first second = record {
     replies = first.replies ++ second.replies;
@@ -210,7 +210,7 @@ module _ {A : Type 0} where
   }
 
   -- the lines behind the one that has no reply
-  pub called_longer : (threads : ℕ) (fault : CallFault) (lines others : List (Line A)) (text : List ℕ) (a b : List (SeatState A)) → HaveCalled threads lines (Err fault) text a b
+  pub called_longer : (threads : ℕ) (fault : CallFault) (lines others : List (RunLine A)) (text : List ℕ) (a b : List (SeatState A)) → HaveCalled threads lines (Err fault) text a b
       → HaveCalled threads (lines ++ others) (Err fault) text a b
   called_longer threads fault lines others text a b so =
       let few : length so.replies ≤ length lines = omega (arith, so.count) in
@@ -237,7 +237,7 @@ module _ {A : Type 0} where
   number-at number (seat ∷ seats) (suc place) d so within = number-at (λ p. number (suc p)) seats place d so.1 (omega (arith, within))
 
   -- the seats stay seats
-  pub still_seats : (threads : ℕ) (lines : List (Line A)) (ended : Ended) (text : List ℕ) (a b : List (SeatState A)) → HaveCalled threads lines ended text a b → AreSeats threads a → AreSeats threads b
+  pub still_seats : (threads : ℕ) (lines : List (RunLine A)) (ended : Ended) (text : List ℕ) (a b : List (SeatState A)) → HaveCalled threads lines ended text a b → AreSeats threads a → AreSeats threads b
   still_seats threads lines ended text a b so seats =
       let made = calls_of threads lines so.replies in
       (same_length (HasCalledOwn ended made) a b so.seats ∙ seats.0, same_numbers ended made (λ place. place) a b so.seats seats.1)
@@ -248,8 +248,8 @@ module _ {A : Type 0} where
 
   -- ---- a line of the first seat
 
-  pub first-own : (threads : ℕ) (line : Line A) (reply : Reply A) → line.worker ≡ None → calls_of threads (line ∷ []) (reply ∷ []) ≡ event_by 0 line.command reply ∷ []
-  first-own threads line reply is = ap (λ (worker : Option ℕ). event_by (seat_of threads worker) line.command reply ∷ []) is
+  pub first-own : (threads : ℕ) (line : RunLine A) (reply : Reply A) → line.line.worker ≡ None → calls_of threads (line ∷ []) (reply ∷ []) ≡ event_by 0 line.line.command reply ∷ []
+  first-own threads line reply is = ap (λ (worker : Option ℕ). event_by (seat_of threads worker) line.line.command reply ∷ []) is
 
   pub others_none : (ended : Ended) (event : Event A) (number : ℕ → ℕ) (seats : List (SeatState A)) → event.by ≡ 0 → AreNumbered (λ place. suc (number place)) seats
       → AllZip (HasCalledOwn ended (event ∷ [])) seats seats
@@ -262,12 +262,12 @@ module _ {A : Type 0} where
       )
 
   -- the first seat's line has its reply
-  pub first_called : (threads : ℕ) (line : Line A) (text : List ℕ) (old new : SeatState A) (seats : List (SeatState A)) → line.worker ≡ None → AreNumbered (λ place. place) (old ∷ seats)
+  pub first_called : (threads : ℕ) (line : RunLine A) (text : List ℕ) (old new : SeatState A) (seats : List (SeatState A)) → line.line.worker ≡ None → AreNumbered (λ place. place) (old ∷ seats)
       → HasCalledLine line text old new → HaveCalled threads (line ∷ []) (Ok tt) text (old ∷ seats) (new ∷ seats)
   first_called threads line text old new seats alone so answered =
-      let event = event_by 0 line.command answered.reply in
+      let event = event_by 0 line.line.command answered.reply in
       let its : own old.number (event ∷ []) ≡ event ∷ [] = own-one old.number 0 event [] refl (ap (λ n. nat_eq 0 n) so.0) in
-      let made : event_by old.number line.command answered.reply ≡ event = ap (λ (n : ℕ). event_by n line.command answered.reply) so.0 in
+      let made : event_by old.number line.line.command answered.reply ≡ event = ap (λ (n : ℕ). event_by n line.line.command answered.reply) so.0 in
       let each = subst (λ (l : List (Event A)). AllZip (HasCalledOwn (Ok tt) l) (old ∷ seats) (new ∷ seats)) (sym (first-own threads line answered.reply alone)) (
         record {
           number = answered.number;
@@ -286,7 +286,7 @@ module _ {A : Type 0} where
       }
 
   -- it has none
-  pub first_refused : (threads : ℕ) (fault : CallFault) (line : Line A) (old new : SeatState A) (seats : List (SeatState A)) → KeepsCalls old new → HasSeen (Err fault) new
+  pub first_refused : (threads : ℕ) (fault : CallFault) (line : RunLine A) (old new : SeatState A) (seats : List (SeatState A)) → KeepsCalls old new → HasSeen (Err fault) new
       → HaveCalled threads (line ∷ []) (Err fault) [] (old ∷ seats) (new ∷ seats)
   first_refused threads fault line old new seats so events =
       let each : AllZip (HasCalledOwn (Err fault) []) (old ∷ seats) (new ∷ seats) = (
@@ -318,20 +318,20 @@ module _ {A : Type 0} where
     seats_taken seats more all before left worker so first is =
         ap (λ (l : List (SeatState A)). l ++ map seat left) is ∙ append_assoc seats (seat worker ∷ []) (map seat left) ∙ sym (ap (λ (l : List W). seats ++ map seat l) first) ∙ so
 
-    alone_called : (threads : ℕ) (line : Line A) (text : List ℕ) (workers : List W) (first new : W) → AreSeats threads (map seat workers) → line.worker ≡ None → first ≡ get_or workers 0 first
+    alone_called : (threads : ℕ) (line : RunLine A) (text : List ℕ) (workers : List W) (first new : W) → AreSeats threads (map seat workers) → line.line.worker ≡ None → first ≡ get_or workers 0 first
         → HasCalledLine line text (seat first) (seat new) → HaveCalled threads (line ∷ []) (Ok tt) text (map seat workers) (map seat (set workers 0 new))
     alone_called threads line text [] first new so alone is answered = absurd (omega (arith, so.0))
     alone_called threads line text (x ∷ workers) first new so alone is answered =
         first_called threads line text (seat x) (seat new) (map seat workers) alone so.1 (subst (λ (w : W). HasCalledLine line text (seat w) (seat new)) is answered)
 
-    alone_refused : (threads : ℕ) (fault : CallFault) (line : Line A) (workers : List W) (first new : W) → AreSeats threads (map seat workers) → first ≡ get_or workers 0 first
+    alone_refused : (threads : ℕ) (fault : CallFault) (line : RunLine A) (workers : List W) (first new : W) → AreSeats threads (map seat workers) → first ≡ get_or workers 0 first
         → KeepsCalls (seat first) (seat new) → HasSeen (Err fault) (seat new) → HaveCalled threads (line ∷ []) (Err fault) [] (map seat workers) (map seat (set workers 0 new))
     alone_refused threads fault line [] first new so is keeps events = absurd (omega (arith, so.0))
     alone_refused threads fault line (x ∷ workers) first new so is keeps events =
         first_refused threads fault line (seat x) (seat new) (map seat workers) (subst (λ (w : W). KeepsCalls (seat w) (seat new)) is keeps) events
 
     -- the first worker called a line
-    pub called_alone : (threads : ℕ) (line : Line A) (ended : Ended) (old new : List ℕ) (workers : List W) (first next : W) → AreSeats threads (map seat workers) → line.worker ≡ None → first ≡ get_or workers 0 first
+    pub called_alone : (threads : ℕ) (line : RunLine A) (ended : Ended) (old new : List ℕ) (workers : List W) (first next : W) → AreSeats threads (map seat workers) → line.line.worker ≡ None → first ≡ get_or workers 0 first
         → OnOk ended ((text : List ℕ) × (new ≡ old ++ text) × HasCalledLine line text (seat first) (seat next)) → OnErr ended ((new ≡ old) × KeepsCalls (seat first) (seat next))
         → HasSeen ended (seat next) → (text : List ℕ) × (new ≡ old ++ text) × HaveCalled threads (line ∷ []) ended text (map seat workers) (map seat (set workers 0 next))
     called_alone threads line (Ok done) old new workers first next so alone is answered refused events =

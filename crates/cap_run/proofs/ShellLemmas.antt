@@ -12,6 +12,7 @@ use Rattle.cap_script.specs.ReplyText.{reply_text}
 use Rattle.cap_script.specs.declared.line.Line.{Line}
 use Rattle.cap_locked.specs.declared.fault.CallFault.{CallFault}
 use Rattle.cap_locked.specs.declared.fault.CallFault.TheVariants as call
+use Rattle.cap_replies.specs.declared.run_line.ReplyForm.TheVariants.{Text}
 use Rattle.cap_run.specs.BlobList.{HasLines}
 use Rattle.cap_run.specs.Code.Shell.{HasAnswered, IsLeftBy, MatchEnd, MayEnd}
 use Rattle.cap_run.specs.Code.Unread.{Counted, CutsLine, Failed, HasLine, HasPart}
@@ -249,7 +250,7 @@ module _ {A : Type 0} where
   -- what ended the shell was written, or a beginning of it
   pub at_fault : (input left known : Option (List ℕ)) (core : State A) (number : ℕ) (a b : Outputs) (after : Option (List ℕ)) (fault : CallFault) (result : Result (Unit {0}) RunFault) → IsAt input left core number a b
       → MayEnd fault core → ((others : List (List ℕ)) × HasLines left others × (0 < length others)) → OnOk result ⊥
-      → IfErr result (λ why. MatchEnd why (λ f. (f ≡ fault) × Appends b.replies after (ending (Err fault))) (AppendsFront b.replies after (ending (Err fault))))
+      → IfErr result (λ why. MatchEnd why (λ f. (f ≡ fault) × Appends b.replies after (ending Text (Err fault))) (AppendsFront b.replies after (ending Text (Err fault))))
       → WritesShell A input known result a (outputs after b.faults)
   at_fault input left known core number a b after fault (Ok done) so may some fails wrote = absurd fails
   at_fault input left known core number a b after fault (Err (Script f)) so may some fails wrote = absurd wrote
@@ -265,7 +266,7 @@ module _ {A : Type 0} where
         others,
         has_run input left core number a b so others has,
         ends_before fault (after_lines [] so.lines) core others so.leaves may some,
-        (Appends-trans a.replies b.replies after (replies_to [] so.lines) (ending (Err fault)) so.printed wrote, so.reported),
+        (Appends-trans a.replies b.replies after (replies_to [] so.lines) (ending Text (Err fault)) so.printed wrote, so.reported),
       )
   at_fault input left known core number a b after fault (Err Read) so may some fails wrote = absurd wrote
   at_fault input left known core number a b after fault (Err Write) so may (others, has, some) fails wrote = (
@@ -273,7 +274,7 @@ module _ {A : Type 0} where
     others,
     Err fault,
     has_run input left core number a b so others has,
-    (front_of a.replies b.replies after (replies_to [] so.lines) (ending (Err fault)) so.printed wrote, front_all a.faults b.faults (faults_of 1 so.lines) so.reported),
+    (front_of a.replies b.replies after (replies_to [] so.lines) (ending Text (Err fault)) so.printed wrote, front_all a.faults b.faults (faults_of 1 so.lines) so.reported),
   )
   at_fault input left known core number a b after fault (Err OutOfMemory) so may some fails wrote = absurd wrote
   at_fault input left known core number a b after fault (Err Close) so may some fails wrote = absurd wrote

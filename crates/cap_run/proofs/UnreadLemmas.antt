@@ -2,12 +2,13 @@
 use Rattle.std.proofs.Common.{◌≡◌, ◌∙◌, ◌⊎◌, inl, inr, ℕ, zero, suc, ◌+◌, ◌-◌, ◌*◌, ◌<◌, ◌≤◌, Bool, true, false, cond, ◌||◌, ◌==◌, List, [], ◌∷◌, ◌++◌, Option, Some, None, length, length-append, append-nil, append_assoc, get_or, take, drop, drop-cons, take-append-drop, ap, ap₂, sym, refl, subst, arith}
 use Rattle.std.specs.Io.KnownBytes.{Consumes, IsAtEnd, Keeps, prepend_known}
 use Rattle.std.specs.List.{list_any, onto_first}
-use Rattle.cap_run.specs.BlobList.{HasLines, split_lines}
+use Rattle.cap_run.specs.BlobList.{HasLines}
+use Rattle.cap_replies.specs.TextLines.{split_lines}
 use Rattle.cap_codec.specs.StreamCalls.{AllWent, Calls, LastFailed}
 use Rattle.cap_run.specs.Code.Unread.{Counted, CutsLine, Failed, HasLine, HasPart, IsGiven, IsTaken, MatchRead}
 use Rattle.cap_run.specs.declared.unread.ReadFault.{ReadFault}
 use Rattle.cap_run.specs.declared.unread.ReadFault.TheVariants.{Failed as ReadFailed, OutOfMemory}
-use Rattle.cap_run.proofs.BlobListLemmas.{has_line_feed, line_alone, line_cut}
+use Rattle.cap_replies.proofs.TextLineLemmas.{has_line_feed, line_alone, line_cut}
 use Rattle.cap_run.proofs.OutputLemmas.{calls_on, went_on}
 
 -- the first line feed is here

@@ -2,16 +2,10 @@
 use Rattle.std.specs.Prelude.{◌≡◌, ℕ, zero, suc, ◌+◌, ◌==◌, List, [], ◌∷◌, Option, Some, None, length, map}
 use Rattle.std.specs.Prelude.{drop, IfSome, nat_le, take, if◌then◌else◌}
 use Rattle.std.specs.Int.{from_be_bytes, w64}
-use Rattle.std.specs.List.{onto_first}
 use Rattle.std.specs.Option.{option_map_or}
+use Rattle.cap_replies.specs.TextLines.{split_lines}
 use Rattle.cap_run.specs.declared.encoding.Encoding.{Encoding}
 use Rattle.cap_run.specs.declared.encoding.Encoding.TheVariants.{Binary, Hex}
-
--- the lines of a text, of which the last may lack its line feed
-abbrev pub split_lines : List ℕ → List (List ℕ)
-split_lines [] = []
-split_lines (byte ∷ bytes) =
-    if byte == 10 then [] ∷ split_lines bytes else onto_first byte (split_lines bytes)
 
 -- the input has these lines, where it is known
 abbrev pub HasLines : Option (List ℕ) → List (List ℕ) → Type 0

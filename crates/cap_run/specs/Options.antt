@@ -17,7 +17,7 @@ IsThreadCount threads = (1 ≤ threads) × (threads ≤ 63)
 
 -- the threads of a run are as many as can run a workload
 abbrev pub IsInRange : Options → Type 0
-IsInRange (Run threads pace) = IsThreadCount threads
+IsInRange (Run threads pace form) = IsThreadCount threads
 IsInRange Shell = Unit {0}
 IsInRange (Show form encoding) = Unit {0}
 IsInRange (Convert conversion) = Unit {0}

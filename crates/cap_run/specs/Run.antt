@@ -11,9 +11,11 @@ use Rattle.cap_core.specs.Past.{HasRoom}
 use Rattle.cap_core.specs.Table.{BlobsFit}
 use Rattle.cap_run.specs.declared.fault.RunFault.{RunFault}
 use Rattle.cap_run.specs.declared.fault.RunFault.TheVariants.{Call, Write}
-use Rattle.cap_script.specs.declared.line.Line.{Line}
-use Rattle.cap_script.specs.ReplyText.{reply_text}
-use Rattle.cap_script.specs.Script.{SpellsScript}
+use Rattle.cap_replies.specs.declared.run_line.ReplyForm.{ReplyForm}
+use Rattle.cap_replies.specs.declared.run_line.ReplyForm.TheVariants.{Json, Text}
+use Rattle.cap_replies.specs.declared.run_line.RunLine.{RunLine}
+use Rattle.cap_replies.specs.Printed.{reply_text}
+use Rattle.cap_replies.specs.Lines.{SpellsLines}
 
 -- what a writer holds, where it is known
 abbrev pub Known : Type 0
@@ -41,10 +43,15 @@ call_fault_text call.HistoryFull = codes "history full"
 abbrev pub events_max : ℕ
 events_max = 2 ^ 63 - 1
 
--- the fault of the line at which a run ended, where it did
-abbrev pub ending : Ended → List ℕ
-ending (Ok done) = []
-ending (Err fault) = on_a_line (call_fault_text fault)
+-- the fault of the line at which a run ended, on a line of its own: as text or as a JSON object
+abbrev pub fault_line : ReplyForm → CallFault → List ℕ
+fault_line Text fault = on_a_line (call_fault_text fault)
+fault_line Json fault = codes "{\"fault\":\"" ++ (call_fault_text fault ++ (codes "\"}" ++ 10 ∷ []))
+
+-- the same, where there is such a line
+abbrev pub ending : ReplyForm → Ended → List ℕ
+ending form (Ok done) = []
+ending form (Err fault) = fault_line form fault
 
 -- the outcome of a run whose lines ended so
 abbrev pub run_outcome : Ended → Result (Unit {0}) RunFault
@@ -60,11 +67,11 @@ EndsAt (Err (call.Overtaken front)) lines count = ⊥
 EndsAt (Err call.HistoryFull) lines count = (count < lines) × (count ≡ events_max)
 
 module _ {A : Type 0} where
-  abbrev pub commands_of : List (Line A) → List (Command A)
-  commands_of lines = map (λ line. line.command) lines
+  abbrev pub commands_of : List (RunLine A) → List (Command A)
+  commands_of lines = map (λ line. line.line.command) lines
 
   -- the replies to the first lines, each on a line of its own
-  abbrev pub reply_lines : List (Line A) → List (Reply A) → List ℕ
+  abbrev pub reply_lines : List (RunLine A) → List (Reply A) → List ℕ
   reply_lines [] replies = []
   reply_lines (line ∷ lines) [] = []
   reply_lines (line ∷ lines) (reply ∷ replies) =
@@ -72,43 +79,45 @@ module _ {A : Type 0} where
 
   -- The text is that of the replies to the first `count` lines and of what ended the run there. The replies
   -- are those of a legal history of the lines' commands, whose blobs fit.
-  pub record IsRun (lines : List (Line A)) (count : ℕ) (ended : Ended) (text : List ℕ) : Type 0 where
+  pub record IsRun (form : ReplyForm) (lines : List (RunLine A)) (count : ℕ) (ended : Ended) (text : List ℕ) : Type 0 where
     pub replies : List (Reply A)
     pub counted : length replies ≡ count
     pub legal : IsLegal (history_of (commands_of lines) replies)
     pub blobs : BlobsFit (history_of (commands_of lines) replies)
-    pub text_is : text ≡ reply_lines lines replies ++ ending ended
+    pub text_is : text ≡ reply_lines lines replies ++ ending form ended
 
   -- all of a run's text was written
-  abbrev pub WritesRun : List (Line A) → Ended → Known → Known → Type 0
-  WritesRun lines ended old new =
-      (count : ℕ) × (text : List ℕ) × EndsAt ended (length lines) count × IsRun lines count ended text
+  abbrev pub WritesRun : ReplyForm → List (RunLine A) → Ended → Known → Known → Type 0
+  WritesRun form lines ended old new =
+      (count : ℕ) × (text : List ℕ) × EndsAt ended (length lines) count × IsRun form lines count ended text
       × Appends old new text
 
   -- a prefix of a run's text was written
-  abbrev pub BeginsRun : List (Line A) → Known → Known → Type 0
-  BeginsRun lines old new =
-      (count : ℕ) × (ended : Ended) × (text : List ℕ) × IsRun lines count ended text
+  abbrev pub BeginsRun : ReplyForm → List (RunLine A) → Known → Known → Type 0
+  BeginsRun form lines old new =
+      (count : ℕ) × (ended : Ended) × (text : List ℕ) × IsRun form lines count ended text
       × AppendsFront old new text
 
   -- The output of a run of the lines: all of its text, a prefix where a write failed, or nothing where it did
   -- not begin.
-  abbrev pub Writes : List (Line A) → Result (Unit {0}) RunFault → Known → Known → Type 0
-  Writes lines (Ok done) old new = WritesRun lines (Ok done) old new
-  Writes lines (Err (Call fault)) old new = WritesRun lines (Err fault) old new
-  Writes lines (Err Write) old new = BeginsRun lines old new
-  Writes lines (Err fault) old new = Keeps old new
+  abbrev pub Writes : ReplyForm → List (RunLine A) → Result (Unit {0}) RunFault → Known → Known
+      → Type 0
+  Writes form lines (Ok done) old new = WritesRun form lines (Ok done) old new
+  Writes form lines (Err (Call fault)) old new = WritesRun form lines (Err fault) old new
+  Writes form lines (Err Write) old new = BeginsRun form lines old new
+  Writes form lines (Err fault) old new = Keeps old new
 
   -- the input spells the lines, where it is known
-  abbrev pub IsSpelled : Known → List (Line A) → Type 0
-  IsSpelled input lines = IfSome input (λ text. SpellsScript lines text)
+  abbrev pub IsSpelled : ReplyForm → Known → List (RunLine A) → Type 0
+  IsSpelled form input lines = IfSome input (λ text. SpellsLines form lines text)
 
 -- the same of a run of the lines that the input spells
-abbrev pub WritesInput : (A : Type 0) → Known → Result (Unit {0}) RunFault → Known → Known → Type 0
-WritesInput A input (Ok done) old new =
-    (lines : List (Line A)) × IsSpelled input lines × WritesRun lines (Ok done) old new
-WritesInput A input (Err (Call fault)) old new =
-    (lines : List (Line A)) × IsSpelled input lines × WritesRun lines (Err fault) old new
-WritesInput A input (Err Write) old new =
-    (lines : List (Line A)) × IsSpelled input lines × BeginsRun lines old new
-WritesInput A input (Err fault) old new = Keeps old new
+abbrev pub WritesInput : (A : Type 0) → ReplyForm → Known → Result (Unit {0}) RunFault → Known → Known
+    → Type 0
+WritesInput A form input (Ok done) old new =
+    (lines : List (RunLine A)) × IsSpelled form input lines × WritesRun form lines (Ok done) old new
+WritesInput A form input (Err (Call fault)) old new =
+    (lines : List (RunLine A)) × IsSpelled form input lines × WritesRun form lines (Err fault) old new
+WritesInput A form input (Err Write) old new =
+    (lines : List (RunLine A)) × IsSpelled form input lines × BeginsRun form lines old new
+WritesInput A form input (Err fault) old new = Keeps old new

@@ -14,6 +14,7 @@ use Rattle.cap_script.specs.declared.fault.ScriptFault.{ScriptFault}
 use Rattle.cap_script.specs.declared.line.Line.{Line}
 use Rattle.cap_locked.specs.declared.fault.CallFault.{CallFault}
 use Rattle.cap_locked.specs.declared.fault.CallFault.TheVariants as call
+use Rattle.cap_replies.specs.declared.run_line.ReplyForm.TheVariants.{Text}
 use Rattle.cap_run.specs.BlobList.{HasLines}
 use Rattle.cap_run.specs.Run.{AppendsFront, Ended, Known, ending, events_max, on_a_line}
 use Rattle.cap_run.specs.declared.fault.RunFault.{RunFault}
@@ -101,13 +102,13 @@ module _ {A : Type 0} where
   -- the replies were written, then what ended the shell, and the faults
   abbrev pub Prints : List (ReadLine A) → Ended → Outputs → Outputs → Type 0
   Prints lines ended old new =
-      Appends old.replies new.replies (replies_to [] lines ++ ending ended)
+      Appends old.replies new.replies (replies_to [] lines ++ ending Text ended)
       × Appends old.faults new.faults (faults_of 1 lines)
 
   -- a prefix of each was written
   abbrev pub PrintsPart : List (ReadLine A) → Ended → Outputs → Outputs → Type 0
   PrintsPart lines ended old new =
-      AppendsFront old.replies new.replies (replies_to [] lines ++ ending ended)
+      AppendsFront old.replies new.replies (replies_to [] lines ++ ending Text ended)
       × AppendsFront old.faults new.faults (faults_of 1 lines)
 
   -- out of memory may end a shell before any line, and a full history before a line that would exceed it

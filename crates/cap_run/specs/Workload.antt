@@ -11,7 +11,8 @@ use Rattle.cap_history.specs.History.{own}
 use Rattle.cap_run.specs.Run.{AppendsFront, Ended, IsSpelled, Known, ending, events_max, reply_lines}
 use Rattle.cap_run.specs.declared.fault.RunFault.{RunFault}
 use Rattle.cap_run.specs.declared.fault.RunFault.TheVariants.{Call, Close, Write}
-use Rattle.cap_script.specs.declared.line.Line.{Line}
+use Rattle.cap_replies.specs.declared.run_line.ReplyForm.{ReplyForm}
+use Rattle.cap_replies.specs.declared.run_line.RunLine.{RunLine}
 use Rattle.cap_locked.specs.Fault.{MatchCallFault}
 
 -- the seat from which a line is called: seat 0, or for `@K` that of a worker
@@ -32,11 +33,11 @@ ReportsEvents Are (Err fault) = MatchCallFault fault (Unit {0}) Are (Are events_
 
 module _ {A : Type 0} where
   -- the calls of the lines that have replies, in the order of the lines, each by its line's seat
-  abbrev pub calls_of : ℕ → List (Line A) → List (Reply A) → List (Event A)
+  abbrev pub calls_of : ℕ → List (RunLine A) → List (Reply A) → List (Event A)
   calls_of threads [] replies = []
   calls_of threads (line ∷ lines) [] = []
   calls_of threads (line ∷ lines) (reply ∷ replies) =
-      event_by (seat_of threads line.worker) line.command reply ∷ calls_of threads lines replies
+      event_by (seat_of threads line.line.worker) line.line.command reply ∷ calls_of threads lines replies
 
   -- the calls are these, or where the lines ended at a fault these are a prefix of them
   abbrev pub AreCalls : Ended → List (Event A) → List (Event A) → Type 0
@@ -45,20 +46,20 @@ module _ {A : Type 0} where
 
   -- A block ends with this line: it or the line behind it is without `@`, or there is none behind it. A line
   -- without `@` is a block of its own.
-  abbrev pub EndsBlock : Line A → List (Line A) → Type 0
+  abbrev pub EndsBlock : RunLine A → List (RunLine A) → Type 0
   EndsBlock line [] = Unit {0}
-  EndsBlock line (next ∷ behind) = (line.worker ≡ None) ⊎ (next.worker ≡ None)
+  EndsBlock line (next ∷ behind) = (line.line.worker ≡ None) ⊎ (next.line.worker ≡ None)
 
   -- at the end of each block whose lines have replies, this holds of the lines up to there and those behind
-  abbrev pub EachBlock : List (Line A) → List (Reply A) → (List (Line A) → List (Line A) → Type 0) → Type 0
-  EachBlock lines replies IsSo = (before : List (Line A)) (line : Line A) (behind : List (Line A))
+  abbrev pub EachBlock : List (RunLine A) → List (Reply A) → (List (RunLine A) → List (RunLine A) → Type 0) → Type 0
+  EachBlock lines replies IsSo = (before : List (RunLine A)) (line : RunLine A) (behind : List (RunLine A))
       → lines ≡ before ++ line ∷ behind → EndsBlock line behind → length before < length replies
       → IsSo (before ++ line ∷ []) behind
 
   -- The history is in two parts. The first has the calls of the lines before, and the second those of the
   -- lines behind: each seat's own calls there are these, or these are a prefix of them.
   pub record IsDivided (Are : List (Event A) → List (Event A) → Type 0) (threads : ℕ)
-      (replies : List (Reply A)) (history : List (Event A)) (before behind : List (Line A)) : Type 0 where
+      (replies : List (Reply A)) (history : List (Event A)) (before behind : List (RunLine A)) : Type 0 where
     pub front : List (Event A)
     pub rest : List (Event A)
     pub parts : history ≡ front ++ rest
@@ -70,7 +71,7 @@ module _ {A : Type 0} where
   -- order of its lines: its own calls in that history are these, or these are a prefix of them. The end of
   -- each block divides it.
   pub record AreOfOneHistory (Are : List (Event A) → List (Event A) → Type 0) (threads : ℕ)
-      (lines : List (Line A)) (replies : List (Reply A)) : Type 0 where
+      (lines : List (RunLine A)) (replies : List (Reply A)) : Type 0 where
     pub history : List (Event A)
     pub legal : IsLegal history
     pub blobs : BlobsFit history
@@ -79,47 +80,48 @@ module _ {A : Type 0} where
 
   -- A run of the lines that ended so has this text: the replies in the order of the lines, up to the first
   -- line that has none, and then its fault. The history has at least as many events as the fault reports.
-  pub record IsWorkload (Are : List (Event A) → List (Event A) → Type 0) (threads : ℕ) (lines : List (Line A))
-      (ended : Ended) (text : List ℕ) : Type 0 where
+  pub record IsWorkload (form : ReplyForm) (Are : List (Event A) → List (Event A) → Type 0) (threads : ℕ)
+      (lines : List (RunLine A)) (ended : Ended) (text : List ℕ) : Type 0 where
     pub replies : List (Reply A)
     pub count : HasCount ended (length replies) (length lines)
-    pub text_is : text ≡ reply_lines lines replies ++ ending ended
+    pub text_is : text ≡ reply_lines lines replies ++ ending form ended
     pub history : AreOfOneHistory Are threads lines replies
     pub events : ReportsEvents (λ count. count ≤ length history.history) ended
 
   -- A run that came so far has this text.
-  pub record IsBegun (threads : ℕ) (lines : List (Line A)) (ended : Ended) (text : List ℕ) : Type 0 where
+  pub record IsBegun (form : ReplyForm) (threads : ℕ) (lines : List (RunLine A)) (ended : Ended) (text : List ℕ) : Type 0 where
     pub replies : List (Reply A)
     pub few : length replies ≤ length lines
-    pub text_is : text ≡ reply_lines lines replies ++ ending ended
+    pub text_is : text ≡ reply_lines lines replies ++ ending form ended
     pub history : AreOfOneHistory IsPrefix threads lines replies
     pub events : ReportsEvents (λ count. count ≤ length history.history) ended
 
   -- all of a run's text was written
-  abbrev pub WritesAll : ℕ → List (Line A) → Ended → Known → Known → Type 0
-  WritesAll threads lines ended old new =
-      (text : List ℕ) × IsWorkload (AreCalls ended) threads lines ended text × Appends old new text
+  abbrev pub WritesAll : ReplyForm → ℕ → List (RunLine A) → Ended → Known → Known → Type 0
+  WritesAll form threads lines ended old new =
+      (text : List ℕ) × IsWorkload form (AreCalls ended) threads lines ended text × Appends old new text
 
   -- all of it was written, and each line has its reply; the server was not closed, so its history has these
   -- calls, and may have more
-  abbrev pub WritesUnclosed : ℕ → List (Line A) → Known → Known → Type 0
-  WritesUnclosed threads lines old new =
-      (text : List ℕ) × IsWorkload IsPrefix threads lines (Ok tt) text × Appends old new text
+  abbrev pub WritesUnclosed : ReplyForm → ℕ → List (RunLine A) → Known → Known → Type 0
+  WritesUnclosed form threads lines old new =
+      (text : List ℕ) × IsWorkload form IsPrefix threads lines (Ok tt) text × Appends old new text
 
   -- a prefix of it was written
-  abbrev pub WritesSome : ℕ → List (Line A) → Known → Known → Type 0
-  WritesSome threads lines old new =
-      (ended : Ended) × (text : List ℕ) × IsBegun threads lines ended text × AppendsFront old new text
+  abbrev pub WritesSome : ReplyForm → ℕ → List (RunLine A) → Known → Known → Type 0
+  WritesSome form threads lines old new =
+      (ended : Ended) × (text : List ℕ) × IsBegun form threads lines ended text × AppendsFront old new text
 
 -- The output of a run of the lines that the input spells: all of its text, also where the server was not
 -- closed, a prefix where a write failed, or nothing where it did not begin.
-abbrev pub WritesWorkload : (A : Type 0) → ℕ → Known → Result (Unit {0}) RunFault → Known → Known → Type 0
-WritesWorkload A threads input (Ok done) old new =
-    (lines : List (Line A)) × IsSpelled input lines × WritesAll threads lines (Ok done) old new
-WritesWorkload A threads input (Err (Call fault)) old new =
-    (lines : List (Line A)) × IsSpelled input lines × WritesAll threads lines (Err fault) old new
-WritesWorkload A threads input (Err Write) old new =
-    (lines : List (Line A)) × IsSpelled input lines × WritesSome threads lines old new
-WritesWorkload A threads input (Err Close) old new =
-    (lines : List (Line A)) × IsSpelled input lines × WritesUnclosed threads lines old new
-WritesWorkload A threads input (Err fault) old new = Keeps old new
+abbrev pub WritesWorkload : (A : Type 0) → ReplyForm → ℕ → Known → Result (Unit {0}) RunFault → Known
+    → Known → Type 0
+WritesWorkload A form threads input (Ok done) old new =
+    (lines : List (RunLine A)) × IsSpelled form input lines × WritesAll form threads lines (Ok done) old new
+WritesWorkload A form threads input (Err (Call fault)) old new =
+    (lines : List (RunLine A)) × IsSpelled form input lines × WritesAll form threads lines (Err fault) old new
+WritesWorkload A form threads input (Err Write) old new =
+    (lines : List (RunLine A)) × IsSpelled form input lines × WritesSome form threads lines old new
+WritesWorkload A form threads input (Err Close) old new =
+    (lines : List (RunLine A)) × IsSpelled form input lines × WritesUnclosed form threads lines old new
+WritesWorkload A form threads input (Err fault) old new = Keeps old new

@@ -2,7 +2,7 @@
 ghost use Rattle.std.specs.Prelude.{◌≡◌, ◌∷◌, ◌<◌, ◌≤◌, false, length, IfErr};
 ghost use Rattle.std.specs.Option.{option_map};
 ghost use Rattle.cap_value.specs.Memory.{LeavesUnlessMemory, ShowsUnlessMemory};
-ghost use Rattle.cap_run.specs.BlobList.{frame_at, split_lines, texts_in};
+ghost use Rattle.cap_run.specs.BlobList.{frame_at, texts_in};
 ghost use Rattle.cap_run.specs.Combination.{group_fault, listed_bytes, numbered, numbered_fault};
 ghost use Rattle.cap_run.specs.Combination.{rebase_fault, text_added, text_bytes, texts_added};
 ghost use Rattle.cap_run.specs.RunFault.{input_fault, is_read, RunsNothing};
@@ -11,6 +11,7 @@ use crate::fault::{BlobListFault, ListedFault};
 use crate::{Encoding, RunFault};
 use cap_group::ChangeGroup;
 use cap_rebase::Rebaser;
+use cap_replies::first_line;
 use cap_value::{AllocHandle, Fault};
 use hex::FromHexError;
 
@@ -204,21 +205,6 @@ pub(crate) fn first_text(encoding: Encoding, given: &[u8]) -> (Option<&[u8]>, &[
             None => (None, &[]),
         },
     }
-}
-
-// The first line of the text, and the text behind its line feed.
-#[tactic(auto, using(crate::proofs::BlobListLemmas::line_at, crate::proofs::BlobListLemmas::line_more, crate::proofs::BlobListLemmas::line_alone))]
-fn first_line(text: &[u8]) -> (&[u8], &[u8])
-    requires some { 0 < length text.now }
-    ensures first { split_lines text.now ≡ result.0.now ∷ split_lines result.1.now }
-    ensures left { length result.1.now < length text.now }
-{
-    for at in 0..text.len() {
-        if text[at] == b'\n' {
-            return (&text[..at], &text[at + 1..]);
-        }
-    }
-    (text, &[])
 }
 
 // The first blob behind its length, and the bytes behind it, where there are as many.

@@ -9,7 +9,7 @@ ghost use Rattle.cap_run.specs.Options.{IsThreadCount};
 use crate::Gate;
 use crate::worker::{Shared, Worker, answer_lines, is_given, let_all_go_on};
 use cap_locked::CallFault;
-use cap_script::Line;
+use cap_replies::RunLine;
 use cap_server::Naming;
 use cap_value::AllocHandle;
 use std::snapshot::Snapshot;
@@ -31,7 +31,7 @@ struct BlockState {
 struct Task<'b, J: Naming, A: AllocHandle, T: Wait, G: Gate> {
     shared: &'b Shared<'b, J, A, T, G>,
     state: &'b BlockState,
-    block: &'b [Line<A>],
+    block: &'b [RunLine<A>],
     worker: Worker<J, A>,
 }
 
@@ -39,7 +39,7 @@ struct Task<'b, J: Naming, A: AllocHandle, T: Wait, G: Gate> {
 #[derive(Drop)]
 struct Called<'b, J: Naming, A: AllocHandle> {
     threads: u64,
-    block: &'b [Line<A>],
+    block: &'b [RunLine<A>],
     worker: Snapshot<Worker<J, A>>,
 }
 
@@ -84,7 +84,7 @@ pub(crate) fn run_block<
     G: Gate,
 >(
     shared: &Shared<'_, J, A, T, G>,
-    block: &[Line<A>],
+    block: &[RunLine<A>],
     workers: Vec<Worker<J, A>, A>,
 ) -> Vec<Worker<J, A>, A>
     requires frees { Frees A.Allocator A.dealloc_token }
@@ -128,7 +128,7 @@ fn run_workers<
     scope: &Scope<'s, &'e ()>,
     shared: &'e Shared<'e, J, A, T, G>,
     state: &'e BlockState,
-    block: &'e [Line<A>],
+    block: &'e [RunLine<A>],
     workers: &mut Vec<Worker<J, A>, A>,
 )
     requires frees { Frees A.Allocator A.dealloc_token }

@@ -8,6 +8,7 @@ use crate::{
 };
 use cap_blob::Target;
 use cap_codec::KeyFlags;
+use cap_replies::ReplyForm;
 use clap::builder::ValueParser;
 use clap::error::ErrorKind;
 use clap::{Arg, ArgAction, ArgMatches, Command, Error, value_parser};
@@ -78,6 +79,8 @@ const KEY_FLAGS_HELP: &str =
 static KEY_FLAGS: [&str; 2] = ["places", "ones"];
 
 const THREADS_HELP: &str = "How many workers the lines that begin with @K belong to, from 1 to 63";
+
+const REPLY_JSON_HELP: &str = "Print each reply as a JSON object on a line";
 
 const IN_TURN_HELP: &str = "Let workers call in the order of the lines, one after the other";
 
@@ -214,7 +217,8 @@ fn run_command<'a>(alloc: Global) -> Result<Command<'a>, AllocError> {
         .about(RUN_ABOUT)
         .after_help(LANGUAGE)
         .arg(threads)?
-        .arg(flag(alloc, "in-turn", IN_TURN_HELP))
+        .arg(flag(alloc, "in-turn", IN_TURN_HELP))?
+        .arg(flag(alloc, "json", REPLY_JSON_HELP))
 }
 
 fn shell_command<'a>(alloc: Global) -> Command<'a> {
@@ -270,7 +274,7 @@ fn flag<'a>(alloc: Global, word: &'a str, help: &'a str) -> Arg<'a> {
 /// Parses the words after the program's name.
 ///
 /// `run` runs a workload, on N threads with `--threads N`, N from 1 to 63, and otherwise on one; with
-/// `--in-turn` its lines are called one after the other. `shell` runs each line as it is read. `show` shows a
+/// `--in-turn` its lines are called one after the other, and with `--json` replies are JSON objects. `shell` runs each line as it is read. `show` shows a
 /// blob as text, with `--sql` as SQL, or with `--json` as JSON. `invert` and `patchset` convert one,
 /// `concat` concatenates several, and `rebase` rebases one over others, with key flags by places, or by ones
 /// with `--key-flags ones`. A blob is given and written as hex digits, or with `--binary` as its bytes. `-v`
@@ -298,6 +302,7 @@ fn asked_for(matches: &ArgMatches) -> Options
             Options::Run {
                 threads: threads.clamp(1, THREADS_MAX),
                 pace: pace(run),
+                form: reply_form(run),
             }
         }
         Some(("shell", _)) => Options::Shell,
@@ -324,6 +329,14 @@ fn pace(matches: &ArgMatches) -> Pace {
         Pace::InTurn
     } else {
         Pace::Free
+    }
+}
+
+fn reply_form(matches: &ArgMatches) -> ReplyForm {
+    if matches.get_flag("json") {
+        ReplyForm::Json
+    } else {
+        ReplyForm::Text
     }
 }
 

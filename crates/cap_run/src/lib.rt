@@ -27,6 +27,7 @@ mod unread;
 mod worker;
 mod workload;
 
+pub use cap_replies::ReplyForm;
 pub use combine::combine_blobs;
 pub use command_line::options;
 pub use conversion::{Combination, CombinationKind, Conversion};

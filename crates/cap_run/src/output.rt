@@ -1,12 +1,13 @@
 //! Writes replies and faults.
-ghost use Rattle.std.specs.Prelude.{◌≡◌, ◌++◌, ◌∷◌, ℕ, List, [], OnOk, IfErr, codes, decimal, string_bytes};
+ghost use Rattle.std.specs.Prelude.{◌≡◌, ◌++◌, ℕ, Err, List, [], OnOk, IfErr, decimal, string_bytes};
 ghost use Rattle.std.specs.Io.KnownBytes.{Appends, Keeps};
-ghost use Rattle.cap_run.specs.Run.{AppendsFront, ending};
+ghost use Rattle.cap_run.specs.Run.{AppendsFront, ending, fault_line};
 ghost use Rattle.cap_run.specs.Writes.{EndsWrites};
 
 use crate::input::is_interrupted;
 use crate::{RunFault, RunOutput};
 use cap_locked::CallFault;
+use cap_replies::ReplyForm;
 use cap_value::AllocHandle;
 use itoa::Buffer;
 
@@ -85,15 +86,16 @@ pub(crate) fn write_long<A: AllocHandle, W: RunOutput>(
 
 // Writes the fault at which the run ended, if any, and flushes the writer.
 pub(crate) fn write_ending<W: RunOutput>(
+    form: ReplyForm,
     outcome: Result<(), CallFault>,
     writer: &mut W,
 ) -> Result<(), RunFault>
-    ensures ok { OnOk result (Appends (W.contents writer.old) (W.contents writer.new) (ending outcome)) }
+    ensures ok { OnOk result (Appends (W.contents writer.old) (W.contents writer.new) (ending form outcome)) }
     ensures err { IfErr result (λ fault. (fault ≡ RunFault.Write)
-        × AppendsFront (W.contents writer.old) (W.contents writer.new) (ending outcome)) }
+        × AppendsFront (W.contents writer.old) (W.contents writer.new) (ending form outcome)) }
     ensures write_reported { EndsWrites W.went W.failed result writer.old writer.new }
 {
-    write_last_line(outcome, writer)?;
+    write_last_line(form, outcome, writer)?;
     flush(writer)
 }
 
@@ -107,39 +109,93 @@ fn flush<W: RunOutput>(writer: &mut W) -> Result<(), RunFault>
 }
 
 // Writes the fault at which the run ended, if any. It takes no memory.
-#[tactic(auto, unfolding(crate::specs::Run::call_fault_text))]
 fn write_last_line<W: RunOutput>(
+    form: ReplyForm,
     outcome: Result<(), CallFault>,
     writer: &mut W,
 ) -> Result<(), RunFault>
-    ensures ok { OnOk result (Appends (W.contents writer.old) (W.contents writer.new) (ending outcome)) }
+    ensures ok { OnOk result (Appends (W.contents writer.old) (W.contents writer.new)
+        (ending form outcome)) }
     ensures err { IfErr result (λ fault. (fault ≡ RunFault.Write)
-        × AppendsFront (W.contents writer.old) (W.contents writer.new) (ending outcome)) }
+        × AppendsFront (W.contents writer.old) (W.contents writer.new) (ending form outcome)) }
     ensures write_reported { EndsWrites W.went W.failed result writer.old writer.new }
 {
     match outcome {
         Ok(()) => write_whole(writer, b""),
-        Err(CallFault::OutOfMemory) => write_whole(writer, b"refused for memory\n"),
-        Err(CallFault::HistoryFull) => write_whole(writer, b"history full\n"),
-        Err(CallFault::Overtaken { front }) => write_overtaken(writer, front),
+        Err(fault) => write_fault_line(form, fault, writer),
     }
 }
 
-// Writes that a call was overtaken, with the number of events of the history.
-#[tactic(auto, using(crate::proofs::RunLemmas::front_more, crate::proofs::RunLemmas::front_sooner))]
-fn write_overtaken<W: RunOutput>(writer: &mut W, front: u64) -> Result<(), RunFault>
+// Writes a fault as a line of its own.
+fn write_fault_line<W: RunOutput>(
+    form: ReplyForm,
+    fault: CallFault,
+    writer: &mut W,
+) -> Result<(), RunFault>
     ensures ok { OnOk result (Appends (W.contents writer.old) (W.contents writer.new)
-        ((codes "overtaken " ++ decimal front) ++ 10 ∷ [])) }
+        (fault_line form fault)) }
+    ensures err { IfErr result (λ why. (why ≡ RunFault.Write)
+        × AppendsFront (W.contents writer.old) (W.contents writer.new) (fault_line form fault)) }
+    ensures write_reported { EndsWrites W.went W.failed result writer.old writer.new }
+{
+    match form {
+        ReplyForm::Text => write_fault_text(fault, writer),
+        ReplyForm::Json => write_fault_json(fault, writer),
+    }
+}
+
+#[tactic(auto, unfolding(crate::specs::Run::call_fault_text))]
+fn write_fault_text<W: RunOutput>(fault: CallFault, writer: &mut W) -> Result<(), RunFault>
+    ensures ok { OnOk result (Appends (W.contents writer.old) (W.contents writer.new)
+        (fault_line ReplyForm.Text fault)) }
+    ensures err { IfErr result (λ why. (why ≡ RunFault.Write)
+        × AppendsFront (W.contents writer.old) (W.contents writer.new) (fault_line ReplyForm.Text fault)) }
+    ensures write_reported { EndsWrites W.went W.failed result writer.old writer.new }
+{
+    match fault {
+        CallFault::OutOfMemory => write_whole(writer, b"refused for memory\n"),
+        CallFault::HistoryFull => write_whole(writer, b"history full\n"),
+        CallFault::Overtaken { front } => write_number(writer, b"overtaken ", front, b"\n"),
+    }
+}
+
+#[tactic(auto, unfolding(crate::specs::Run::call_fault_text))]
+fn write_fault_json<W: RunOutput>(fault: CallFault, writer: &mut W) -> Result<(), RunFault>
+    ensures ok { OnOk result (Appends (W.contents writer.old) (W.contents writer.new)
+        (fault_line ReplyForm.Json fault)) }
+    ensures err { IfErr result (λ why. (why ≡ RunFault.Write)
+        × AppendsFront (W.contents writer.old) (W.contents writer.new) (fault_line ReplyForm.Json fault)) }
+    ensures write_reported { EndsWrites W.went W.failed result writer.old writer.new }
+{
+    match fault {
+        CallFault::OutOfMemory => write_whole(writer, b"{\"fault\":\"refused for memory\"}\n"),
+        CallFault::HistoryFull => write_whole(writer, b"{\"fault\":\"history full\"}\n"),
+        CallFault::Overtaken { front } => {
+            write_number(writer, b"{\"fault\":\"overtaken ", front, b"\"}\n")
+        }
+    }
+}
+
+// Writes a number between some bytes and others.
+#[tactic(auto, using(crate::proofs::RunLemmas::front_more, crate::proofs::RunLemmas::front_sooner))]
+fn write_number<W: RunOutput>(
+    writer: &mut W,
+    before: &[u8],
+    number: u64,
+    after: &[u8],
+) -> Result<(), RunFault>
+    ensures ok { OnOk result (Appends (W.contents writer.old) (W.contents writer.new)
+        ((before.now ++ decimal number) ++ after.now)) }
     ensures err { IfErr result (λ fault. (fault ≡ RunFault.Write)
         × AppendsFront (W.contents writer.old) (W.contents writer.new)
-        ((codes "overtaken " ++ decimal front) ++ 10 ∷ [])) }
+        ((before.now ++ decimal number) ++ after.now)) }
     ensures write_reported { EndsWrites W.went W.failed result writer.old writer.new }
 {
     let mut digits = Buffer::new();
-    if let Err(_) = write_both(writer, b"overtaken ", digits.format(front).as_bytes()) {
+    if let Err(_) = write_both(writer, before, digits.format(number).as_bytes()) {
         return Err(RunFault::Write);
     }
-    if let Err(_) = write_whole(writer, b"\n") {
+    if let Err(_) = write_whole(writer, after) {
         return Err(RunFault::Write);
     }
     Ok(())

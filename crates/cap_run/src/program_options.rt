@@ -3,6 +3,7 @@ ghost use Rattle.std.specs.Prelude.{◌≡◌};
 ghost use Rattle.cap_run.specs.Options.{options_status};
 
 use crate::{Combination, Conversion, Encoding, Form, Pace};
+use cap_replies::ReplyForm;
 use thiserror::Error;
 
 /// What the program does.
@@ -14,6 +15,8 @@ pub enum Options {
         threads: u64,
         /// Whether they wait for each other.
         pace: Pace,
+        /// In which form replies are printed.
+        form: ReplyForm,
     },
     /// Run each line of standard input as it is read.
     Shell,

@@ -13,9 +13,10 @@ ghost use Rattle.cap_run.specs.RunFault.{exit_status, is_read, is_script, IsNoWo
 ghost use Rattle.cap_run.specs.RunFault.{IsUnspelled};
 ghost use Rattle.cap_run.specs.Writes.{EndsWrites};
 ghost use Rattle.cap_script.specs.FirstRefused.{SpellsWithin};
-ghost use Rattle.cap_script.specs.ReplyText.{reply_text};
-ghost use Rattle.cap_script.specs.Script.{SpellsScript};
-ghost use Rattle.cap_script.specs.declared.line.Line.{Line};
+ghost use Rattle.cap_replies.specs.Printed.{reply_text};
+ghost use Rattle.cap_replies.specs.Lines.{SpellsLines, SpellsRun, all_lines};
+ghost use Rattle.cap_replies.specs.declared.run_line.ReplyForm.{ReplyForm};
+ghost use Rattle.cap_replies.specs.declared.run_line.RunLine.{RunLine};
 ghost use Rattle.cap_locked.specs.Fault.{MatchCallFault};
 
 use crate::input::read_whole;
@@ -25,7 +26,7 @@ use crate::{RunFault, RunOutput};
 use cap_codec::Source;
 use cap_core::{Command, Core, EVENTS_MAX, NoHook, Reply, legal_histories_grow};
 use cap_locked::CallFault;
-use cap_script::{Line, Lines};
+use cap_replies::{ReplyForm, RunLine, RunLines};
 use cap_value::{AllocHandle, Fault};
 
 /// Runs the workload from the reader on a new server, one command after the other, and writes the replies.
@@ -40,6 +41,7 @@ use cap_value::{AllocHandle, Fault};
 /// whose content is known.
 pub fn run_core<A: AllocHandle, R: Source, W: RunOutput>(
     alloc: A,
+    form: ReplyForm,
     reader: &mut R,
     writer: &mut W,
 ) -> Result<(), RunFault>
@@ -70,12 +72,12 @@ pub fn run_core<A: AllocHandle, R: Source, W: RunOutput>(
 
     // The output is the replies of a legal history of the commands that the input spells, line by line, up to
     // the end of the run.
-    ensures written { WritesInput A (R.remaining reader.old) result
+    ensures written { WritesInput A form (R.remaining reader.old) result
         (W.contents writer.old) (W.contents writer.new) }
 {
     let text = read_text(alloc, reader)?;
-    let mut lines = parse_lines(alloc, text.as_str())?;
-    run_lines(alloc, &mut lines, writer)
+    let mut lines = parse_lines(alloc, form, text.as_str())?;
+    run_lines(alloc, form, &mut lines, writer)
 }
 
 // Reads the text. Whether the bytes are UTF-8 is checked without memory.
@@ -102,15 +104,20 @@ fn text_of<A: AllocHandle>(bytes: Vec<u8, A>) -> Result<String<A>, RunFault>
 }
 
 // The lines of a workload's text, after all of it is parsed once.
-pub(crate) fn parse_lines<A: AllocHandle>(alloc: A, text: &str) -> Result<Lines<'_, A>, RunFault>
-    ensures whole { IfOk result (λ lines. lines ≡ text.now) }
-    ensures spelled { IfOk result (λ lines. (spelled : List (Line A)) × SpellsScript spelled text.now) }
+pub(crate) fn parse_lines<A: AllocHandle>(
+    alloc: A,
+    form: ReplyForm,
+    text: &str,
+) -> Result<RunLines<'_, A>, RunFault>
+    ensures whole { IfOk result (λ lines. lines ≡ all_lines form text.now) }
+    ensures spelled { IfOk result (λ lines. (spelled : List (RunLine A))
+        × SpellsLines form spelled text.now) }
     ensures within { IfOk result (λ lines. SpellsWithin A text.now) }
     ensures early { IfErr result IsUnspelled }
     ensures refused { IfErr result (λ fault. IsOfText A fault text.now) }
     ensures accepted { IfErr result (λ fault. SpellsWithin A text.now → is_script fault ≡ false) }
 {
-    match Lines::new(alloc, text) {
+    match RunLines::new(alloc, form, text) {
         Ok(lines) => Ok(lines),
         Err(Fault::Refused(fault)) => Err(RunFault::Script(fault)),
         Err(Fault::OutOfMemory) => Err(RunFault::OutOfMemory),
@@ -120,11 +127,12 @@ pub(crate) fn parse_lines<A: AllocHandle>(alloc: A, text: &str) -> Result<Lines<
 // Runs the lines on a new server, and writes their replies.
 fn run_lines<A: AllocHandle, W: RunOutput>(
     alloc: A,
-    lines: &mut Lines<'_, A>,
+    form: ReplyForm,
+    lines: &mut RunLines<'_, A>,
     writer: &mut W,
 ) -> Result<(), RunFault>
-    ensures writes { (spelled : List (Line A)) → SpellsScript spelled lines.old
-        → Writes spelled result (W.contents writer.old) (W.contents writer.new) }
+    ensures writes { (spelled : List (RunLine A)) → SpellsRun spelled lines.old
+        → Writes form spelled result (W.contents writer.old) (W.contents writer.new) }
     ensures status { IfErr result (λ fault. exit_status fault ≡ 3) }
     ensures no_failed_read { IfErr result (λ fault. is_read fault ≡ false) }
     ensures write_reported { EndsWrites W.went W.failed result writer.old writer.new }
@@ -132,7 +140,7 @@ fn run_lines<A: AllocHandle, W: RunOutput>(
     let mut pending = String::new(alloc);
     let outcome = write_replies(alloc, lines, writer, &mut pending)?;
     write_pending(writer, &mut pending)?;
-    write_ending(outcome, writer)?;
+    write_ending(form, outcome, writer)?;
     run_outcome(outcome)
 }
 
@@ -149,18 +157,18 @@ pub(crate) fn run_outcome(outcome: Result<(), CallFault>) -> Result<(), RunFault
 // of the line at which the run ended.
 fn write_replies<A: AllocHandle, W: RunOutput>(
     alloc: A,
-    lines: &mut Lines<'_, A>,
+    lines: &mut RunLines<'_, A>,
     writer: &mut W,
     pending: &mut String<A>,
 ) -> Result<Result<(), CallFault>, RunFault>
     requires { string_bytes pending.old ≡ [] }
-    ensures ok { (spelled : List (Line A)) → SpellsScript spelled lines.old
+    ensures ok { (form : ReplyForm) → (spelled : List (RunLine A)) → SpellsRun spelled lines.old
         → IfOk result (λ ended. (count : ℕ) × (written : List ℕ)
         × EndsAt ended (length spelled) count
-        × IsRun spelled count (Ok tt) (written ++ string_bytes pending.new)
+        × IsRun form spelled count (Ok tt) (written ++ string_bytes pending.new)
         × Appends (W.contents writer.old) (W.contents writer.new) written) }
-    ensures err { (spelled : List (Line A)) → SpellsScript spelled lines.old
-        → IfErr result (λ fault. BeginsRun spelled (W.contents writer.old) (W.contents writer.new)) }
+    ensures err { (form : ReplyForm) → (spelled : List (RunLine A)) → SpellsRun spelled lines.old
+        → IfErr result (λ fault. BeginsRun form spelled (W.contents writer.old) (W.contents writer.new)) }
     ensures write { IfErr result (λ fault. fault ≡ RunFault.Write) }
     ensures write_reported { EndsWrites W.went W.failed result writer.old writer.new }
 {
@@ -171,7 +179,7 @@ fn write_replies<A: AllocHandle, W: RunOutput>(
             Ok(None) => return Ok(Ok(())),
             Err(_) => return Ok(Err(line_fault(&core))),
         };
-        line.command.blob_fits();
+        line.line.command.blob_fits();
         match run_line(alloc, &mut core, &line, pending) {
             Ok(()) => {}
             Err(fault) => return Ok(Err(fault)),
@@ -195,13 +203,13 @@ fn line_fault<A: AllocHandle>(core: &Core<A>) -> CallFault
 pub(crate) fn run_line<A: AllocHandle>(
     alloc: A,
     core: &mut Core<A>,
-    line: &Line<A>,
+    line: &RunLine<A>,
     pending: &mut String<A>,
 ) -> Result<(), CallFault>
     ensures history { (h : List (Event A)) → IsLegal h → state h ≡ core.old → OnOk result (
-        (core.new ≡ state (h ++ event_by 0 line.now.command (reply_of h line.now.command) ∷ []))
+        (core.new ≡ state (h ++ event_by 0 line.now.line.command (reply_of h line.now.line.command) ∷ []))
         × (string_bytes pending.new
-        ≡ string_bytes pending.old ++ on_a_line (reply_text line.now (reply_of h line.now.command)))) }
+        ≡ string_bytes pending.old ++ on_a_line (reply_text line.now (reply_of h line.now.line.command)))) }
     ensures room { OnOk result (HasRoom core.old.events) }
     ensures full { IfErr result (λ fault.
         MatchCallFault fault (HasRoom core.old.events) (λ _. ⊥) (events_max ≤ core.old.events)) }
@@ -211,7 +219,7 @@ pub(crate) fn run_line<A: AllocHandle>(
     if core.events() >= EVENTS_MAX {
         return Err(CallFault::HistoryFull);
     }
-    let reply = run_command(core, &line.command)?;
+    let reply = run_command(core, &line.line.command)?;
     let text = reply_line(alloc, line, &reply).map_err(|_| CallFault::OutOfMemory)?;
     match pending.push_str(text.as_str()) {
         Ok(()) => Ok(()),

@@ -21,6 +21,7 @@ use crate::{RunFault, RunOutput};
 use cap_codec::Source;
 use cap_core::Core;
 use cap_locked::CallFault;
+use cap_replies::{ReplyForm, RunLine};
 use cap_script::{Line, ScriptFault, print_fault, read_line};
 use cap_value::{AllocHandle, Fault};
 
@@ -105,13 +106,13 @@ fn write_printed<A: AllocHandle, W: RunOutput, E: RunOutput>(
 fn end<W: RunOutput>(replies: &mut W, fault: CallFault) -> Result<(), RunFault>
     ensures ended { OnOk result ⊥ }
     ensures written { IfErr result (λ why. MatchEnd why
-        (λ f. (f ≡ fault) × Appends (W.contents replies.old) (W.contents replies.new) (ending (Err fault)))
-        (AppendsFront (W.contents replies.old) (W.contents replies.new) (ending (Err fault)))) }
+        (λ f. (f ≡ fault) × Appends (W.contents replies.old) (W.contents replies.new) (ending ReplyForm.Text (Err fault)))
+        (AppendsFront (W.contents replies.old) (W.contents replies.new) (ending ReplyForm.Text (Err fault)))) }
     ensures status { IfErr result (λ why. exit_status why ≡ 3) }
     ensures no_failed_read { IfErr result (λ why. is_read why ≡ false) }
     ensures write_reported { EndsWrites W.went W.failed result replies.old replies.new }
 {
-    match write_ending(Err(fault), replies) {
+    match write_ending(ReplyForm::Text, Err(fault), replies) {
         Ok(()) => Err(RunFault::Call(fault)),
         Err(_) => Err(RunFault::Write),
     }
@@ -146,7 +147,7 @@ fn answer_text<A: AllocHandle>(
     ensures ended { IfErr result (λ fault. MayEnd fault core.old) }
 {
     match read_line(alloc, number, text) {
-        Ok(Some(line)) => answer_command(alloc, core, number, text, &line),
+        Ok(Some(line)) => answer_command(alloc, core, number, text, line),
         Ok(None) => Ok(nothing(alloc)),
         Err(fault) => answer_refused(alloc, core, number, text, fault),
     }
@@ -158,16 +159,21 @@ fn answer_command<A: AllocHandle>(
     core: &mut Core<A>,
     number: u64,
     text: &str,
-    line: &Line<A>,
+    line: Line<A>,
 ) -> Result<Printed<A>, CallFault>
-    requires found { IsFound (Some line.now) text.now }
+    requires found { IsFound (Some line) text.now }
     ensures answered { (h : List (Event A)) → IsLeftBy h core.old → IfOk result (λ printed.
         HasAnswered number text.now h core.new (string_bytes printed.reply) (string_bytes printed.fault)) }
     ensures ended { IfErr result (λ fault. MayEnd fault core.old) }
 {
     line.command.blob_fits();
+    let line = RunLine {
+        form: ReplyForm::Text,
+        number,
+        line,
+    };
     let mut reply = String::new(alloc);
-    match run_line(alloc, core, line, &mut reply) {
+    match run_line(alloc, core, &line, &mut reply) {
         Ok(()) => Ok(Printed {
             reply,
             fault: String::new(alloc),

@@ -83,7 +83,7 @@ impl<A: AllocHandle> Unread<A> {
 }
 
 // Where the first line feed is.
-#[tactic(auto, using(crate::proofs::BlobListLemmas::line_more))]
+#[tactic(auto, using(cap_replies::proofs::TextLineLemmas::line_more))]
 fn line_feed(bytes: &[u8]) -> Option<usize>
     ensures { MatchOption result (has_line_feed bytes.now ≡ false) (λ at. (at < length bytes.now)
         × (bytes.now ≡ take at bytes.now ++ 10 ∷ drop (at + 1) bytes.now)

@@ -5,12 +5,12 @@ ghost use Rattle.cap_run.specs.Code.Calls.{HasCalledLine, HasCalledLines, HasSee
 ghost use Rattle.cap_run.specs.Options.{IsThreadCount};
 ghost use Rattle.cap_run.specs.Run.{on_a_line};
 ghost use Rattle.cap_run.specs.Workload.{seat_of};
-ghost use Rattle.cap_script.specs.ReplyText.{reply_text};
+ghost use Rattle.cap_replies.specs.Printed.{reply_text};
 
 use crate::Gate;
 use cap_core::Reply;
 use cap_locked::CallFault;
-use cap_script::{Line, print_reply};
+use cap_replies::{ReplyForm, RunLine, print_run_reply};
 use cap_server::{Naming, Seat, Server};
 use cap_value::{AllocHandle, OutOfMemory};
 use std::sync::Wait;
@@ -33,6 +33,8 @@ pub(crate) struct Shared<'r, J: Naming, A: AllocHandle, T: Wait, G: Gate> {
     pub(crate) alloc: A,
     pub(crate) server: &'r Server<J, A>,
     pub(crate) gate: &'r G,
+    // In which form the fault is printed at which a run ends.
+    pub(crate) form: ReplyForm,
     // The number of workers, without seat 0.
     pub(crate) threads: u64,
     // Whether each line waits for the lines of its block before it.
@@ -64,13 +66,13 @@ pub(crate) fn seat_of(threads: u64, worker: Option<u64>) -> u64
 }
 
 // Whether a line of the block is called from the seat.
-pub(crate) fn is_given<A: AllocHandle>(threads: u64, seat: u64, block: &[Line<A>]) -> bool
+pub(crate) fn is_given<A: AllocHandle>(threads: u64, seat: u64, block: &[RunLine<A>]) -> bool
     requires { IsThreadCount threads }
     ensures { MatchBool result (0 < length (seat_lines threads seat block.now))
         (seat_lines threads seat block.now ≡ []) }
 {
     for line in block {
-        if seat_of(threads, line.worker) == seat {
+        if seat_of(threads, line.line.worker) == seat {
             return true;
         }
     }
@@ -81,7 +83,7 @@ pub(crate) fn is_given<A: AllocHandle>(threads: u64, seat: u64, block: &[Line<A>
 pub(crate) fn answer_lines<J: Naming, A: AllocHandle, T: Wait, G: Gate>(
     shared: &Shared<'_, J, A, T, G>,
     called: &AtomicU64,
-    block: &[Line<A>],
+    block: &[RunLine<A>],
     worker: &mut Worker<J, A>,
 ) -> Result<(), CallFault>
     requires threads { IsThreadCount shared.now.threads }
@@ -93,7 +95,7 @@ pub(crate) fn answer_lines<J: Naming, A: AllocHandle, T: Wait, G: Gate>(
     let number = worker.seat.number();
     let mut before = 0u64;
     for line in block {
-        if seat_of(shared.threads, line.worker) == number {
+        if seat_of(shared.threads, line.line.worker) == number {
             wait_for_turn(shared.rt, shared.is_in_turn, called, before);
             answer_own(shared, called, worker, line)?;
         }
@@ -131,7 +133,7 @@ fn answer_own<J: Naming, A: AllocHandle, T: Wait, G: Gate>(
     shared: &Shared<'_, J, A, T, G>,
     called: &AtomicU64,
     worker: &mut Worker<J, A>,
-    line: &Line<A>,
+    line: &RunLine<A>,
 ) -> Result<(), CallFault>
     ensures ok { OnOk result ((text : List ℕ) × HasCalledLine line.now text worker.old.seat worker.new.seat
         × (map string_bytes worker.new.texts.items ≡ map string_bytes worker.old.texts.items ++ text ∷ [])) }
@@ -166,13 +168,13 @@ pub(crate) fn call_line<J: Naming, A: AllocHandle, T: Wait>(
     alloc: A,
     server: &Server<J, A>,
     seat: &mut Seat<J, A>,
-    line: &Line<A>,
+    line: &RunLine<A>,
 ) -> Result<String<A>, CallFault>
     ensures ok { IfOk result (λ text. HasCalledLine line.now (string_bytes text) seat.old seat.new) }
     ensures err { OnErr result (KeepsCalls seat.old seat.new) }
     ensures fault { IfErr result (λ fault. HasSeen (Err fault) seat.new) }
 {
-    let reply = server.call(rt, seat, &line.command)?;
+    let reply = server.call(rt, seat, &line.line.command)?;
     match reply_line(alloc, line, &reply) {
         Ok(text) => Ok(text),
         Err(_) => Err(CallFault::OutOfMemory),
@@ -182,12 +184,12 @@ pub(crate) fn call_line<J: Naming, A: AllocHandle, T: Wait>(
 // The text of a reply, with a line feed.
 pub(crate) fn reply_line<A: AllocHandle>(
     alloc: A,
-    line: &Line<A>,
+    line: &RunLine<A>,
     reply: &Reply<A>,
 ) -> Result<String<A>, OutOfMemory>
     ensures { IfOk result (λ text. string_bytes text ≡ on_a_line (reply_text line.now reply.now)) }
 {
-    let mut text = print_reply(alloc, line, reply)?;
+    let mut text = print_run_reply(alloc, line, reply)?;
     text.push_str("\n")?;
     Ok(text)
 }

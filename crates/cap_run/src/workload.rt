@@ -15,8 +15,8 @@ ghost use Rattle.cap_run.specs.RunFault.{IsNoWorkload, IsOfText, IsUnread, exit_
 ghost use Rattle.cap_run.specs.Workload.{WritesWorkload};
 ghost use Rattle.cap_run.specs.Writes.{EndsWrites};
 ghost use Rattle.cap_script.specs.FirstRefused.{SpellsWithin};
-ghost use Rattle.cap_script.specs.Script.{SpellsScript};
-ghost use Rattle.cap_script.specs.declared.line.Line.{Line};
+ghost use Rattle.cap_replies.specs.Lines.{SpellsRun};
+ghost use Rattle.cap_replies.specs.declared.run_line.RunLine.{RunLine};
 
 use crate::block::run_block;
 use crate::meeting::{each_meets_first, first_meets_each};
@@ -27,7 +27,7 @@ use crate::{Gate, Pace, RunFault, RunOutput};
 use cap_codec::Source;
 use cap_history::Opened;
 use cap_locked::{CallFault, SEATS_MAX};
-use cap_script::{Line, Lines};
+use cap_replies::{ReplyForm, RunLine, RunLines};
 use cap_server::{Naming, Seat, Server};
 use cap_value::{AllocHandle, OutOfMemory};
 use std::marker::Brand;
@@ -65,6 +65,7 @@ pub fn run_workload<
     gate: &G,
     threads: u64,
     pace: Pace,
+    form: ReplyForm,
     reader: &mut R,
     writer: &mut W,
 ) -> Result<(), RunFault>
@@ -101,13 +102,15 @@ pub fn run_workload<
     // it. Where the run ends at a fault, it is the first replies, and each seat's calls are a prefix of its
     // calls in such a history; where that fault is `Close`, it is all replies. The history has at least as
     // many events as the fault reports: 2^63 - 1 where it is full.
-    ensures written { WritesWorkload A threads (R.remaining reader.old) result
+    ensures written { WritesWorkload A form threads (R.remaining reader.old) result
         (W.contents writer.old) (W.contents writer.new) }
 {
     let text = read_text(alloc, reader)?;
-    let mut lines = parse_lines(alloc, text.as_str())?;
+    let mut lines = parse_lines(alloc, form, text.as_str())?;
     let opened = Opened::new();
-    serve_lines::<Brand, A, T, G, W>(rt, alloc, gate, threads, pace, opened, &mut lines, writer)
+    serve_lines::<Brand, A, T, G, W>(
+        rt, alloc, gate, threads, pace, form, opened, &mut lines, writer,
+    )
 }
 
 // Runs the lines on a new server, and writes their replies.
@@ -123,21 +126,22 @@ fn serve_lines<
     gate: &G,
     threads: u64,
     pace: Pace,
+    form: ReplyForm,
     opened: Opened<A>,
-    lines: &mut Lines<'_, A>,
+    lines: &mut RunLines<'_, A>,
     writer: &mut W,
 ) -> Result<(), RunFault>
     requires threads { IsThreadCount threads }
     requires frees { Frees A.Allocator A.dealloc_token }
     requires history { opened.seen.book ≡ J.book }
     requires seats { threads + 1 ≡ J.seats }
-    requires spelled { (spelled : List (Line A)) × SpellsScript spelled lines.old }
+    requires spelled { (spelled : List (RunLine A)) × SpellsRun spelled lines.old }
     ensures status { IfErr result (λ fault. exit_status fault ≡ 3) }
     ensures no_failed_read { IfErr result (λ fault. is_read fault ≡ false) }
     ensures write_reported { EndsWrites W.went W.failed result writer.old writer.new }
-    ensures written { (input : Known) → (spelled : List (Line A)) → IsSpelled input spelled
-        → SpellsScript spelled lines.old
-        → WritesWorkload A threads input result (W.contents writer.old) (W.contents writer.new) }
+    ensures written { (input : Known) → (spelled : List (RunLine A)) → IsSpelled form input spelled
+        → SpellsRun spelled lines.old
+        → WritesWorkload A form threads input result (W.contents writer.old) (W.contents writer.new) }
 {
     let Ok((server, seats)) = Server::<J, A>::open(opened, alloc, threads + 1) else {
         return Err(RunFault::OutOfMemory);
@@ -153,6 +157,7 @@ fn serve_lines<
         alloc,
         server: &server,
         gate,
+        form,
         threads,
         is_in_turn: pace.is_in_turn(),
     };
@@ -226,27 +231,27 @@ fn run_with_workers<
     W: RunOutput,
 >(
     shared: &Shared<'_, J, A, T, G>,
-    lines: &mut Lines<'_, A>,
+    lines: &mut RunLines<'_, A>,
     workers: Vec<Worker<J, A>, A>,
     writer: &mut W,
 ) -> (Vec<Worker<J, A>, A>, Result<(), RunFault>)
     requires threads { IsThreadCount shared.now.threads }
     requires frees { Frees A.Allocator A.dealloc_token }
     requires seats { AreSeats shared.now.threads (map (λ w. w.seat) workers.items) }
-    requires spelled { (spelled : List (Line A)) × SpellsScript spelled lines.old }
+    requires spelled { (spelled : List (RunLine A)) × SpellsRun spelled lines.old }
     ensures status { IfErr result.1 (λ fault. exit_status fault ≡ 3) }
     ensures no_failed_read { IfErr result.1 (λ fault. is_read fault ≡ false) }
     ensures write_reported { EndsWrites W.went W.failed result.1 writer.old writer.new }
     ensures len { vec_len result.0 ≡ vec_len workers }
-    ensures runs { (spelled : List (Line A)) → SpellsScript spelled lines.old
-        → RunsLines shared.now.threads spelled result.1
+    ensures runs { (spelled : List (RunLine A)) → SpellsRun spelled lines.old
+        → RunsLines shared.now.form shared.now.threads spelled result.1
         (map (λ w. w.seat) workers.items) (map (λ w. w.seat) result.0.items)
         (W.contents writer.old) (W.contents writer.new) }
 {
     let mut pending = String::new(shared.alloc);
     let (workers, outcome) = answer_all(shared, lines, workers, writer, &mut pending);
     let outcome = match outcome {
-        Ok(outcome) => write_rest(writer, &mut pending, outcome),
+        Ok(outcome) => write_rest(shared.form, writer, &mut pending, outcome),
         Err(fault) => Err(fault),
     };
     (workers, outcome)
@@ -254,6 +259,7 @@ fn run_with_workers<
 
 // Writes the pending output, and the fault at which the lines ended.
 fn write_rest<A: AllocHandle, W: RunOutput>(
+    form: ReplyForm,
     writer: &mut W,
     pending: &mut String<A>,
     outcome: Result<(), CallFault>,
@@ -261,13 +267,13 @@ fn write_rest<A: AllocHandle, W: RunOutput>(
     ensures status { IfErr result (λ fault. exit_status fault ≡ 3) }
     ensures no_failed_read { IfErr result (λ fault. is_read fault ≡ false) }
     ensures write_reported { EndsWrites W.went W.failed result writer.old writer.new }
-    ensures runs { (threads : ℕ) → (lines : List (Line A)) → (a : List (SeatState A))
+    ensures runs { (threads : ℕ) → (lines : List (RunLine A)) → (a : List (SeatState A))
         → (b : List (SeatState A)) → (known : Known)
         → HaveEnded threads lines outcome (string_bytes pending.old) a b known (W.contents writer.old)
-        → RunsLines threads lines result a b known (W.contents writer.new) }
+        → RunsLines form threads lines result a b known (W.contents writer.new) }
 {
     write_pending(writer, pending)?;
-    write_ending(outcome, writer)?;
+    write_ending(form, outcome, writer)?;
     run_outcome(outcome)
 }
 
@@ -281,7 +287,7 @@ fn answer_all<
     W: RunOutput,
 >(
     shared: &Shared<'_, J, A, T, G>,
-    lines: &mut Lines<'_, A>,
+    lines: &mut RunLines<'_, A>,
     workers: Vec<Worker<J, A>, A>,
     writer: &mut W,
     pending: &mut String<A>,
@@ -293,15 +299,15 @@ fn answer_all<
     requires frees { Frees A.Allocator A.dealloc_token }
     requires seats { AreSeats shared.now.threads (map (λ w. w.seat) workers.items) }
     requires none { string_bytes pending.old ≡ [] }
-    requires spelled { (spelled : List (Line A)) × SpellsScript spelled lines.old }
+    requires spelled { (spelled : List (RunLine A)) × SpellsRun spelled lines.old }
     ensures len { vec_len result.0 ≡ vec_len workers }
     ensures status { IfErr result.1 (λ fault. fault ≡ RunFault.Write) }
     ensures write_reported { EndsWrites W.went W.failed result.1 writer.old writer.new }
-    ensures called { (spelled : List (Line A)) → SpellsScript spelled lines.old → MatchResult result.1
+    ensures called { (spelled : List (RunLine A)) → SpellsRun spelled lines.old → MatchResult result.1
         (λ ended. HaveEnded shared.now.threads spelled ended (string_bytes pending.new)
         (map (λ w. w.seat) workers.items)
         (map (λ w. w.seat) result.0.items) (W.contents writer.old) (W.contents writer.new))
-        (λ fault. RunsLines shared.now.threads spelled (Err RunFault.Write) (map (λ w. w.seat) workers.items)
+        (λ fault. RunsLines shared.now.form shared.now.threads spelled (Err RunFault.Write) (map (λ w. w.seat) workers.items)
         (map (λ w. w.seat) result.0.items) (W.contents writer.old) (W.contents writer.new)) }
 {
     let mut workers = workers;
@@ -331,24 +337,24 @@ fn answer_next<
     G: Gate,
 >(
     shared: &Shared<'_, J, A, T, G>,
-    line: Line<A>,
-    lines: &mut Lines<'_, A>,
+    line: RunLine<A>,
+    lines: &mut RunLines<'_, A>,
     workers: Vec<Worker<J, A>, A>,
     pending: &mut String<A>,
 ) -> (Vec<Worker<J, A>, A>, Result<(), CallFault>)
     requires threads { IsThreadCount shared.now.threads }
     requires frees { Frees A.Allocator A.dealloc_token }
     requires seats { AreSeats shared.now.threads (map (λ w. w.seat) workers.items) }
-    requires spelled { (spelled : List (Line A)) × SpellsScript spelled lines.old }
+    requires spelled { (spelled : List (RunLine A)) × SpellsRun spelled lines.old }
     ensures seats { AreSeats shared.now.threads (map (λ w. w.seat) result.0.items) }
     ensures len { vec_len result.0 ≡ vec_len workers }
-    ensures left { OnOk result.1 (length lines.new ≤ length lines.old) }
-    ensures called { (rest : List (Line A)) → SpellsScript rest lines.old
+    ensures left { OnOk result.1 (length lines.new.text ≤ length lines.old.text) }
+    ensures called { (rest : List (RunLine A)) → SpellsRun rest lines.old
         → IsNext shared.now.threads line rest result.1 lines.new
         (string_bytes pending.old) (string_bytes pending.new)
         (map (λ w. w.seat) workers.items) (map (λ w. w.seat) result.0.items) }
 {
-    if line.worker.is_some() {
+    if line.line.worker.is_some() {
         let Ok(block) = block_from(shared.alloc, line, lines) else {
             return (workers, Err(CallFault::OutOfMemory));
         };
@@ -368,7 +374,7 @@ fn answer_block<
     G: Gate,
 >(
     shared: &Shared<'_, J, A, T, G>,
-    block: &[Line<A>],
+    block: &[RunLine<A>],
     workers: Vec<Worker<J, A>, A>,
     pending: &mut String<A>,
 ) -> (Vec<Worker<J, A>, A>, Result<(), CallFault>)
@@ -393,12 +399,12 @@ fn answer_block<
 // The block of a line with `@`: it and the lines after it, up to the next without `@`.
 fn block_from<A: AllocHandle>(
     alloc: A,
-    first: Line<A>,
-    lines: &mut Lines<'_, A>,
-) -> Result<Vec<Line<A>, A>, OutOfMemory>
-    requires spelled { (spelled : List (Line A)) × SpellsScript spelled lines.old }
-    ensures left { IfOk result (λ block. length lines.new ≤ length lines.old) }
-    ensures block { (rest : List (Line A)) → SpellsScript rest lines.old
+    first: RunLine<A>,
+    lines: &mut RunLines<'_, A>,
+) -> Result<Vec<RunLine<A>, A>, OutOfMemory>
+    requires spelled { (spelled : List (RunLine A)) × SpellsRun spelled lines.old }
+    ensures left { IfOk result (λ block. length lines.new.text ≤ length lines.old.text) }
+    ensures block { (rest : List (RunLine A)) → SpellsRun rest lines.old
         → IfOk result (λ block. IsWholeBlock first rest block.items lines.new) }
 {
     let mut block = Vec::new(alloc);
@@ -415,12 +421,12 @@ fn block_from<A: AllocHandle>(
 // Calls a line without `@` from seat 0. The text of the reply is appended to `pending`.
 fn answer_alone<J: Naming, A: AllocHandle, T: Wait, G: Gate>(
     shared: &Shared<'_, J, A, T, G>,
-    line: &Line<A>,
+    line: &RunLine<A>,
     workers: &mut Vec<Worker<J, A>, A>,
     pending: &mut String<A>,
 ) -> Result<(), CallFault>
     requires seats { AreSeats shared.now.threads (map (λ w. w.seat) workers.old.items) }
-    requires alone { line.now.worker ≡ None }
+    requires alone { line.now.line.worker ≡ None }
     ensures len { vec_len workers.new ≡ vec_len workers.old }
     ensures called { (text : List ℕ) × (string_bytes pending.new ≡ string_bytes pending.old ++ text)
         × HaveCalled shared.now.threads (line.now ∷ []) result text (map (λ w. w.seat) workers.old.items)
@@ -434,7 +440,7 @@ fn answer_alone<J: Naming, A: AllocHandle, T: Wait, G: Gate>(
 fn answer_here<J: Naming, A: AllocHandle, T: Wait, G: Gate>(
     shared: &Shared<'_, J, A, T, G>,
     seat: &mut Seat<J, A>,
-    line: &Line<A>,
+    line: &RunLine<A>,
     pending: &mut String<A>,
 ) -> Result<(), CallFault>
     ensures ok { OnOk result ((text : List ℕ) × (string_bytes pending.new ≡ string_bytes pending.old ++ text)
@@ -454,7 +460,7 @@ fn answer_here<J: Naming, A: AllocHandle, T: Wait, G: Gate>(
 // first line without a reply. Each worker has called its lines of the block.
 fn gather<J: Naming, A: AllocHandle>(
     threads: u64,
-    block: &[Line<A>],
+    block: &[RunLine<A>],
     workers: &[Worker<J, A>],
     pending: &mut String<A>,
 ) -> Result<(), CallFault>
@@ -470,7 +476,7 @@ fn gather<J: Naming, A: AllocHandle>(
     // The number of texts taken from each seat's worker.
     let mut taken = [0usize; SEATS_MAX as usize];
     for line in block {
-        let seat = seat_of(threads, line.worker) as usize;
+        let seat = seat_of(threads, line.line.worker) as usize;
         let worker = &workers[seat];
         let Some(text) = worker.texts.get(taken[seat]) else {
             // The worker has ended at a fault before this line.

@@ -2,7 +2,8 @@
 use cap_blob::Target;
 use cap_codec::KeyFlags;
 use cap_run::{
-    Combination, CombinationKind, Conversion, Encoding, Form, Options, OptionsFault, Pace, options,
+    Combination, CombinationKind, Conversion, Encoding, Form, Options, OptionsFault, Pace,
+    ReplyForm, options,
 };
 use std::alloc::{AllocError, Global};
 use std::test::Fail;
@@ -22,8 +23,13 @@ fn asked(alloc: Global, line: &str) -> Option<Options> {
     options(alloc, words.as_slice()).ok()
 }
 
-fn asks_for_run(alloc: Global, line: &str, threads: u64, pace: Pace) -> bool {
-    asked(alloc, line) == Some(Options::Run { threads, pace })
+fn asks_for_run(alloc: Global, line: &str, threads: u64, pace: Pace, form: ReplyForm) -> bool {
+    asked(alloc, line)
+        == Some(Options::Run {
+            threads,
+            pace,
+            form,
+        })
 }
 
 fn asks_to_show(alloc: Global, line: &str, form: Form, encoding: Encoding) -> bool {
@@ -52,7 +58,22 @@ fn what_is_asked_for(rt: HostRuntime) -> Result<(), Fail> {
         ("--verbose run", 1, Pace::Free),
     ];
     for (line, threads, pace) in runs {
-        assert!(rt; asks_for_run(rt.alloc(), line, threads, pace), "{line}");
+        let form = ReplyForm::Text;
+        assert!(rt;
+            asks_for_run(rt.alloc(), line, threads, pace, form),
+            "{line}"
+        );
+    }
+    let runs = [
+        ("run --json", 1, Pace::Free),
+        ("run --threads 4 --json --in-turn", 4, Pace::InTurn),
+    ];
+    for (line, threads, pace) in runs {
+        let form = ReplyForm::Json;
+        assert!(rt;
+            asks_for_run(rt.alloc(), line, threads, pace, form),
+            "{line}"
+        );
     }
     assert!(rt; asked(rt.alloc(), "shell") == Some(Options::Shell));
     assert!(rt; asked(rt.alloc(), "shell --verbose") == Some(Options::Shell));

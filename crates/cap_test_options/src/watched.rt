@@ -5,8 +5,8 @@ ghost use Rattle.std.specs.declared.io.ErrorKind.TheVariants.{Interrupted};
 
 use cap_codec::Source;
 use cap_run::{
-    Combination, Conversion, Encoding, Form, NoGate, Pace, RunFault, RunOutput, combine_blobs,
-    convert_blob, run_core, run_shell, run_workload, show_blob,
+    Combination, Conversion, Encoding, Form, NoGate, Pace, ReplyForm, RunFault, RunOutput,
+    combine_blobs, convert_blob, run_core, run_shell, run_workload, show_blob,
 };
 use std::alloc::Global;
 use std::io;
@@ -110,7 +110,7 @@ pub fn run_watched<R: Read, W: Write>(
     ensures read { reader.new.has_failed ≡ true → result ≡ Err RunFault.Read }
     ensures write { writer.new.has_failed ≡ true → result ≡ Err RunFault.Write }
 {
-    run_core(alloc, reader, writer)
+    run_core(alloc, ReplyForm::Text, reader, writer)
 }
 
 /// Runs a workload on the server that threads share, with one worker. A call of the streams that failed is
@@ -126,7 +126,8 @@ pub fn serve_watched<T: Threads + Wait + Sync, R: Read, W: Write>(
     ensures read { reader.new.has_failed ≡ true → result ≡ Err RunFault.Read }
     ensures write { writer.new.has_failed ≡ true → result ≡ Err RunFault.Write }
 {
-    run_workload(rt, alloc, &NoGate, 1, Pace::Free, reader, writer)
+    let form = ReplyForm::Text;
+    run_workload(rt, alloc, &NoGate, 1, Pace::Free, form, reader, writer)
 }
 
 /// Runs a shell. A call of the streams that failed is what the shell reports.

@@ -1,7 +1,7 @@
 //! Each request of a run for memory refused in turn.
 use crate::rows::WORKLOADS;
 use cap_locked::CallFault;
-use cap_run::{NoGate, Pace, RunFault, run_core, run_workload};
+use cap_run::{NoGate, Pace, ReplyForm, RunFault, run_core, run_workload};
 use cap_test_support::{Failure, Memory, Source};
 use std::alloc::Global;
 use std::sync::Wait;
@@ -31,10 +31,20 @@ fn run<T: Threads + Wait + Sync>(
         most,
         failure: Failure::none(),
     };
+    let form = ReplyForm::Text;
     if is_served {
-        run_workload(rt, memory, &NoGate, 1, Pace::Free, &mut reader, written)
+        run_workload(
+            rt,
+            memory,
+            &NoGate,
+            1,
+            Pace::Free,
+            form,
+            &mut reader,
+            written,
+        )
     } else {
-        run_core(memory, &mut reader, written)
+        run_core(memory, form, &mut reader, written)
     }
 }
 

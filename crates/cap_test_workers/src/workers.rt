@@ -3,7 +3,7 @@
 ghost use Rattle.std.specs.Prelude.{◌≤◌};
 
 use crate::rows::ROWS;
-use cap_run::{Gate, NoGate, Pace, RunFault, run_workload};
+use cap_run::{Gate, NoGate, Pace, ReplyForm, RunFault, run_workload};
 use std::alloc::Global;
 use std::sync::Wait;
 use std::sync::atomic::{AtomicU64, Ordering};
@@ -59,7 +59,8 @@ fn run<T: Threads + Wait + Sync, G: Gate>(
     requires { (1 ≤ threads) × (threads ≤ 63) }
 {
     let mut reader = text.as_bytes();
-    let outcome = run_workload(rt, alloc, gate, threads, pace, &mut reader, written);
+    let form = ReplyForm::Text;
+    let outcome = run_workload(rt, alloc, gate, threads, pace, form, &mut reader, written);
     outcome
 }
 

@@ -7,8 +7,8 @@
 ghost use Rattle.cap_run.specs.Options.{IsThreadCount};
 
 use cap_run::{
-    NoGate, Options, OptionsFault, Pace, RunFault, combine_blobs, convert_blob, options, run_core,
-    run_shell, run_workload, show_blob,
+    NoGate, Options, OptionsFault, Pace, ReplyForm, RunFault, combine_blobs, convert_blob, options,
+    run_core, run_shell, run_workload, show_blob,
 };
 use std::alloc::AllocError;
 use std::io::{IsTerminal, Read, Write};
@@ -79,6 +79,7 @@ fn run<R: Input + Print + Eprint + AllocGlobal + Threads + Wait + Sync>(
     is_verbose: bool,
     threads: u64,
     pace: Pace,
+    form: ReplyForm,
 ) -> u8
     requires threads { IsThreadCount threads }
 {
@@ -86,9 +87,19 @@ fn run<R: Input + Print + Eprint + AllocGlobal + Threads + Wait + Sync>(
     let mut reader = rt.reader();
     let mut writer = io::writer(rt);
     let outcome = if threads == 1 {
-        run_core(alloc, &mut reader, &mut writer)
+        run_core(alloc, form, &mut reader, &mut writer)
     } else {
-        run_workload(rt, alloc, &NoGate, threads, pace, &mut reader, &mut writer)
+        let gate = &NoGate;
+        run_workload(
+            rt,
+            alloc,
+            gate,
+            threads,
+            pace,
+            form,
+            &mut reader,
+            &mut writer,
+        )
     };
     report(rt, is_verbose, outcome)
 }
@@ -146,7 +157,13 @@ fn run_program<R: Input + Print + Eprint + Env + AllocGlobal + Threads + Wait + 
     let words: Vec<String> = arguments.skip(1).collect(alloc)?;
     let is_verbose = asks_what_failed(words.as_slice());
     match options(alloc, words.as_slice()) {
-        Ok(Options::Run { threads, pace }) => Ok(run(rt, is_verbose, threads, pace)),
+        Ok(
+            Options::Run {
+                threads,
+                pace,
+                form,
+            },
+        ) => Ok(run(rt, is_verbose, threads, pace, form)),
         Ok(Options::Shell) => Ok(shell(rt, is_verbose, faults, at_terminal)),
         Ok(Options::Show { form, encoding }) => {
             let outcome = show_blob(alloc, form, encoding, &mut rt.reader(), &mut io::writer(rt));

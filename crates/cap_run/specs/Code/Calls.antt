@@ -13,9 +13,10 @@ use Rattle.cap_locked.specs.declared.fault.CallFault.TheVariants.{OutOfMemory}
 use Rattle.cap_run.specs.Run.{AppendsFront, Ended, Known, ending, on_a_line, reply_lines}
 use Rattle.cap_run.specs.declared.fault.RunFault.{RunFault}
 use Rattle.cap_run.specs.declared.fault.RunFault.TheVariants.{Call, Close, Write}
-use Rattle.cap_script.specs.ReplyText.{reply_text}
-use Rattle.cap_script.specs.Script.{SpellsScript, begins_at}
-use Rattle.cap_script.specs.declared.line.Line.{Line}
+use Rattle.cap_replies.specs.Printed.{reply_text}
+use Rattle.cap_replies.specs.Lines.{LinesLeft, SpellsRun, begins_at}
+use Rattle.cap_replies.specs.declared.run_line.ReplyForm.{ReplyForm}
+use Rattle.cap_replies.specs.declared.run_line.RunLine.{RunLine}
 use Rattle.cap_run.specs.Workload.{AreCalls, EachBlock, HasCount, ReportsEvents, calls_of, seat_of}
 
 -- a worker after its lines of a block: its seat, the texts of their replies, and the fault of the line after
@@ -62,11 +63,11 @@ module _ {A : Type 0} where
       AllByRecursion (λ seat. IsPrefix seat.answered seat.seen) seats × EachSawIn (first_seen seats) seats
 
   -- the seat has made this line's call, and no other; the text is that of the reply
-  pub record HasCalledLine (line : Line A) (text : List ℕ) (old new : SeatState A) : Type 0 where
+  pub record HasCalledLine (line : RunLine A) (text : List ℕ) (old new : SeatState A) : Type 0 where
     pub reply : Reply A
     pub text_is : text ≡ on_a_line (reply_text line reply)
     pub number : new.number ≡ old.number
-    pub calls_are : calls new ≡ calls old ++ event_by old.number line.command reply ∷ []
+    pub calls_are : calls new ≡ calls old ++ event_by old.number line.line.command reply ∷ []
     pub seen : IsPrefix new.answered new.seen
     pub goes_on : GoesOn old new
 
@@ -78,11 +79,11 @@ module _ {A : Type 0} where
     pub goes_on : GoesOn old new
 
   -- the lines that are called from a seat
-  abbrev pub seat_lines : ℕ → ℕ → List (Line A) → List (Line A)
-  seat_lines threads number lines = filter (λ line. nat_eq (seat_of threads line.worker) number) lines
+  abbrev pub seat_lines : ℕ → ℕ → List (RunLine A) → List (RunLine A)
+  seat_lines threads number lines = filter (λ line. nat_eq (seat_of threads line.line.worker) number) lines
 
   -- the text of each reply, on a line of its own
-  abbrev pub reply_texts : List (Line A) → List (Reply A) → List (List ℕ)
+  abbrev pub reply_texts : List (RunLine A) → List (Reply A) → List (List ℕ)
   reply_texts [] replies = []
   reply_texts (line ∷ lines) [] = []
   reply_texts (line ∷ lines) (reply ∷ replies) = on_a_line (reply_text line reply) ∷ reply_texts lines replies
@@ -93,7 +94,7 @@ module _ {A : Type 0} where
 
   -- The seat has called these lines, one after the other, up to one whose call had a fault. These are the
   -- texts of the replies.
-  pub record HasCalledLines (threads : ℕ) (lines : List (Line A)) (ended : Ended) (texts : List (List ℕ))
+  pub record HasCalledLines (threads : ℕ) (lines : List (RunLine A)) (ended : Ended) (texts : List (List ℕ))
       (old new : SeatState A) : Type 0 where
     pub replies : List (Reply A)
     pub count : HasCount ended (length replies) (length lines)
@@ -105,7 +106,7 @@ module _ {A : Type 0} where
     pub events : HasSeen ended new
 
   -- a worker that had this seat has called its lines of a block
-  abbrev pub HasWorked : ℕ → List (Line A) → SeatState A → Work A → Type 0
+  abbrev pub HasWorked : ℕ → List (RunLine A) → SeatState A → Work A → Type 0
   HasWorked threads block old new =
       HasCalledLines threads (seat_lines threads old.number block) new.ended new.texts old new.seat
 
@@ -115,16 +116,16 @@ module _ {A : Type 0} where
   IsFaultOf works (Err fault) = (fault ≡ OutOfMemory) ⊎ Any (λ work. work.ended ≡ Err fault) works
 
   -- those of the texts that are of a seat's lines
-  abbrev pub texts_of : ℕ → ℕ → List (Line A) → List (List ℕ) → List (List ℕ)
+  abbrev pub texts_of : ℕ → ℕ → List (RunLine A) → List (List ℕ) → List (List ℕ)
   texts_of threads number [] texts = []
   texts_of threads number (line ∷ lines) [] = []
   texts_of threads number (line ∷ lines) (text ∷ texts) =
-      if nat_eq (seat_of threads line.worker) number then text ∷ texts_of threads number lines texts
+      if nat_eq (seat_of threads line.line.worker) number then text ∷ texts_of threads number lines texts
       else texts_of threads number lines texts
 
   -- The text has a part for each line, in the order of the lines, up to the first without a reply. The parts
   -- of each seat's lines are a prefix of that seat's texts.
-  pub record Gathers (threads : ℕ) (lines : List (Line A)) (texts : List (List (List ℕ))) (ended : Ended)
+  pub record Gathers (threads : ℕ) (lines : List (RunLine A)) (texts : List (List (List ℕ))) (ended : Ended)
       (text : List ℕ) : Type 0 where
     pub parts : List (List ℕ)
     pub count : HasCount ended (length parts) (length lines)
@@ -157,7 +158,7 @@ module _ {A : Type 0} where
 
   -- The first seat has seen what the others have seen. What the seats have called stands behind all that it
   -- had seen before, and what they have called behind the end of a block stands behind the calls up to there.
-  pub record AreInOrder (threads : ℕ) (lines : List (Line A)) (replies : List (Reply A))
+  pub record AreInOrder (threads : ℕ) (lines : List (RunLine A)) (replies : List (Reply A))
       (old new : List (SeatState A)) : Type 0 where
     pub met : FirstHasMet new
     pub seen : IsPrefix (first_seen old) (first_seen new)
@@ -166,7 +167,7 @@ module _ {A : Type 0} where
 
   -- The seats have called these lines, each its own in their order, up to one that has no reply. This is the
   -- text of the replies, in the order of the lines.
-  pub record HaveCalled (threads : ℕ) (lines : List (Line A)) (ended : Ended) (text : List ℕ)
+  pub record HaveCalled (threads : ℕ) (lines : List (RunLine A)) (ended : Ended) (text : List ℕ)
       (old new : List (SeatState A)) : Type 0 where
     pub replies : List (Reply A)
     pub count : HasCount ended (length replies) (length lines)
@@ -193,61 +194,61 @@ unclosed_outcome (Err fault) = Err fault
 module _ {A : Type 0} where
   -- How lines ended that the seats have called, and what of the text of their replies was written. Where a
   -- write failed some of the lines may not have been called.
-  abbrev pub RunsLines : ℕ → List (Line A) → Result (Unit {0}) RunFault → List (SeatState A)
+  abbrev pub RunsLines : ReplyForm → ℕ → List (RunLine A) → Result (Unit {0}) RunFault → List (SeatState A)
       → List (SeatState A) → Known → Known → Type 0
-  RunsLines threads lines (Ok done) a b old new =
+  RunsLines form threads lines (Ok done) a b old new =
       (text : List ℕ) × HaveCalled threads lines (Ok done) text a b × Appends old new text
-  RunsLines threads lines (Err (Call fault)) a b old new =
+  RunsLines form threads lines (Err (Call fault)) a b old new =
       (text : List ℕ) × HaveCalled threads lines (Err fault) text a b
-      × Appends old new (text ++ ending (Err fault))
-  RunsLines threads lines (Err Write) a b old new =
-      (called : List (Line A)) × (others : List (Line A)) × (ended : Ended) × (text : List ℕ)
+      × Appends old new (text ++ ending form (Err fault))
+  RunsLines form threads lines (Err Write) a b old new =
+      (called : List (RunLine A)) × (others : List (RunLine A)) × (ended : Ended) × (text : List ℕ)
       × (lines ≡ called ++ others) × HaveCalled threads called ended text a b
-      × AppendsFront old new (text ++ ending ended)
-  RunsLines threads lines (Err fault) a b old new = ⊥
+      × AppendsFront old new (text ++ ending form ended)
+  RunsLines form threads lines (Err fault) a b old new = ⊥
 
   -- a prefix of the lines was called, and their replies are written except what is pending
-  pub record AreUnder (threads : ℕ) (lines : List (Line A)) (rest : List ℕ) (pending : List ℕ)
+  pub record AreUnder (threads : ℕ) (lines : List (RunLine A)) (rest : LinesLeft) (pending : List ℕ)
       (a b : List (SeatState A)) (old new : Known) : Type 0 where
-    pub called : List (Line A)
-    pub others : List (Line A)
+    pub called : List (RunLine A)
+    pub others : List (RunLine A)
     pub parts : lines ≡ called ++ others
-    pub spelled : SpellsScript others rest
+    pub spelled : SpellsRun others rest
     pub written : List ℕ
     pub made : HaveCalled threads called (Ok tt) (written ++ pending) a b
     pub wrote : Appends old new written
 
   -- each of the lines begins with `@`
-  abbrev pub EachAt : List (Line A) → Type 0
+  abbrev pub EachAt : List (RunLine A) → Type 0
   EachAt [] = Unit {0}
-  EachAt (line ∷ lines) = (is_some line.worker ≡ true) × EachAt lines
+  EachAt (line ∷ lines) = (is_some line.line.worker ≡ true) × EachAt lines
 
   -- a block is a line and some lines after it, each of which begins with `@`; the rest spells the others
-  pub record IsBlock (first : Line A) (rest block : List (Line A)) (behind : List ℕ) : Type 0 where
-    pub taken : List (Line A)
-    pub left : List (Line A)
+  pub record IsBlock (first : RunLine A) (rest block : List (RunLine A)) (behind : LinesLeft) : Type 0 where
+    pub taken : List (RunLine A)
+    pub left : List (RunLine A)
     pub block_is : block ≡ first ∷ taken
     pub parts : rest ≡ taken ++ left
     pub each : EachAt taken
-    pub spelled : SpellsScript left behind
+    pub spelled : SpellsRun left behind
 
   -- those up to the next without `@`
-  abbrev pub IsWholeBlock : Line A → List (Line A) → List (Line A) → List ℕ → Type 0
+  abbrev pub IsWholeBlock : RunLine A → List (RunLine A) → List (RunLine A) → LinesLeft → Type 0
   IsWholeBlock first rest block behind = (so : IsBlock first rest block behind) × (begins_at so.left ≡ false)
 
   -- A line was called, and some lines after it. The text of their replies is appended to what is pending.
-  pub record IsNext (threads : ℕ) (line : Line A) (rest : List (Line A)) (ended : Ended) (behind : List ℕ)
+  pub record IsNext (threads : ℕ) (line : RunLine A) (rest : List (RunLine A)) (ended : Ended) (behind : LinesLeft)
       (old new : List ℕ) (a b : List (SeatState A)) : Type 0 where
-    pub taken : List (Line A)
-    pub left : List (Line A)
+    pub taken : List (RunLine A)
+    pub left : List (RunLine A)
     pub parts : rest ≡ taken ++ left
     pub text : List ℕ
     pub text_is : new ≡ old ++ text
     pub made : HaveCalled threads (line ∷ taken) ended text a b
-    pub spelled : OnOk ended (SpellsScript left behind)
+    pub spelled : OnOk ended (SpellsRun left behind)
 
   -- how all lines ended, and what of the replies was written
-  abbrev pub HaveEnded : ℕ → List (Line A) → Ended → List ℕ → List (SeatState A) → List (SeatState A) → Known
+  abbrev pub HaveEnded : ℕ → List (RunLine A) → Ended → List ℕ → List (SeatState A) → List (SeatState A) → Known
       → Known → Type 0
   HaveEnded threads lines ended pending a b old new =
       (written : List ℕ) × HaveCalled threads lines ended (written ++ pending) a b × Appends old new written

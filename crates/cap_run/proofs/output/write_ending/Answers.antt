@@ -13,4 +13,4 @@ returns-in_err-write_last_line-clause-write_reported g c =
     rw (p.1, p.2) c.in_err-write_last_line.ensures.write_reported
 
 pub returns-clause-err : goal.returns-clause-err
-returns-clause-err g c = flush_failed c.flush.result _ _ _ (ending c.args.outcome) c.flush.ensures.err c.in_ok-write_last_line.ensures.ok c.flush.ensures.bytes
+returns-clause-err g c = flush_failed c.flush.result _ _ _ (ending c.args.form c.args.outcome) c.flush.ensures.err c.in_ok-write_last_line.ensures.ok c.flush.ensures.bytes

@@ -3,7 +3,7 @@ use Rattle.std.proofs.lemmas.Result.{err_from_is_err_and}
 use Rattle.cap_run.specs.declared.fault.RunFault.TheVariants.{NotUtf8}
 use Rattle.cap_run.specs.RunFault.{IsNoWorkload, IsOfText, IsUnread, is_script}
 use Rattle.cap_script.specs.FirstRefused.{SpellsWithin}
-use Rattle.cap_script.specs.Script.{SpellsScript}
+use Rattle.cap_replies.specs.Lines.{LinesLeft, SpellsRun}
 use Rattle.cap_run.proofs.InputLemmas.{each_text, fault_of_text, known_text, no_script_fault, unread_no_script, unread_of_text, unspelled_early, unspelled_no_workload, reads_passed, reads_unspelled, no_text_fault, text_known, unread_early, not_of_input, input_spelled}
 use Rattle.cap_run.proofs.OutputLemmas.{none_reported}
 use Rattle.cap_run.proofs.RunLemmas.{writes_input, writes_nothing}
@@ -23,15 +23,15 @@ returns-clause-only_not_utf8 g c = no_text_fault (g.R.Source.remaining c.args.re
 pub returns-clause-written : goal.returns-clause-written
 returns-clause-written g c =
     let spelled = c.in_ok-lines.ensures.spelled in
-    writes_input {A = g.row.A.Denot} (g.R.Source.remaining c.args.reader.now) spelled.0 c.run_lines.result _ _
-    (input_spelled spelled.0 (g.R.Source.remaining c.args.reader.now) (string_bytes c.in_ok-text.text) c.as_str.result.now c.as_str.ensures.value c.in_ok-text.ensures.whole spelled.1)
-    (c.run_lines.ensures.writes spelled.0 (subst (λ (l : List ℕ). SpellsScript spelled.0 l) (sym c.in_ok-lines.ensures.whole) spelled.1))
+    writes_input {A = g.row.A.Denot} c.args.form (g.R.Source.remaining c.args.reader.now) spelled.0 c.run_lines.result _ _
+    (input_spelled c.args.form spelled.0 (g.R.Source.remaining c.args.reader.now) (string_bytes c.in_ok-text.text) c.as_str.result.now c.as_str.ensures.value c.in_ok-text.ensures.whole spelled.1)
+    (c.run_lines.ensures.writes spelled.0 (subst (λ (l : LinesLeft). SpellsRun spelled.0 l) (sym c.in_ok-lines.ensures.whole) spelled.1))
 
 -- nothing was run
 pub returns-in_err-text-clause-written : goal.returns-in_err-text-clause-written
 returns-in_err-text-clause-written g c =
     let p = err_from_is_err_and c.from_residual.result c.from_residual.ensures.1 in
-    rw (p.1, p.2) (writes_nothing g.row.A.Denot (g.R.Source.remaining c.args.reader.now) c.in_err-text.field-0.0 _ (unread_early c.in_err-text.field-0.0 c.in_err-text.ensures.unread))
+    rw (p.1, p.2) (writes_nothing c.args.form g.row.A.Denot (g.R.Source.remaining c.args.reader.now) c.in_err-text.field-0.0 _ (unread_early c.in_err-text.field-0.0 c.in_err-text.ensures.unread))
 
 pub returns-clause-read_reported : goal.returns-clause-read_reported
 returns-clause-read_reported g c = reads_passed g.R.Source.gave g.R.Source.failed c.run_lines.result _ _ c.run_lines.ensures.no_failed_read c.in_ok-text.ensures.read_reported

@@ -1,16 +1,16 @@
 use Rattle.std.proofs.Common.{List, length, string_bytes}
 use Rattle.cap_codec.specs.StreamCalls.{AllWent}
-use Rattle.cap_script.specs.Script.{SpellsScript}
-use Rattle.cap_script.specs.declared.line.Line.{Line}
+use Rattle.cap_replies.specs.Lines.{SpellsRun}
+use Rattle.cap_replies.specs.declared.run_line.RunLine.{RunLine}
 use Rattle.cap_run.proofs.RunLemmas.{IsAt}
 use Rattle.cap_run.proofs.run.write_replies.Given as goal
 
 abbrev pub invariant-loop-line : goal.invariant-loop-line
 invariant-loop-line g l = record {
-  run : (spelled : List (Line g.row.A.Denot)) → SpellsScript spelled l.initial.lines
+  run : (spelled : List (RunLine g.row.A.Denot)) → SpellsRun spelled l.initial.lines
       → IsAt spelled l.lines l.core (string_bytes l.pending) (g.W.RunOutput.contents l.initial.writer) (g.W.RunOutput.contents l.writer);
   went : AllWent g.W.RunOutput.went l.initial.writer l.writer;
 }
 
 abbrev pub decreases-loop-line : goal.decreases-loop-line
-decreases-loop-line g l = length l.lines
+decreases-loop-line g l = length l.lines.text

@@ -8,7 +8,7 @@ use Rattle.cap_run.proofs.shell.answer_command.Goals as goal
 
 pub returns-in-Ok-clause-answered : goal.returns-in-Ok-clause-answered
 returns-in-Ok-clause-answered g c = λ h so.
-    let line = c.args.line.now in
+    let line = c.args.line in
     let run = c.in-Ok.ensures.history h so.legal so.state_is in
     let text = on_a_line (reply_text line (reply_of h line.command)) in
     answered_command c.args.number c.args.text.now line h c.args.core.now c.run_line.new.core (string_bytes c.run_line.new.pending) (string_bytes c.new.result) so c.blob_fits.ensures c.in-Ok.ensures.room

@@ -1,5 +1,5 @@
 use Rattle.std.proofs.Common.{◌≡◌, false, take}
-use Rattle.cap_run.proofs.BlobListLemmas.{has_line_feed}
+use Rattle.cap_replies.proofs.TextLineLemmas.{has_line_feed}
 use Rattle.cap_run.proofs.unread.line_feed.Given as goal
 
 -- no line feed so far

@@ -1,7 +1,7 @@
 use Rattle.std.proofs.Common.{◌≡◌, ◌*◌, ◌+◌, ◌≤◌, ◌++◌, false, length}
 use Rattle.std.specs.Io.KnownBytes.{Keeps, prepend_known}
 use Rattle.cap_run.specs.Code.Unread.{Counted}
-use Rattle.cap_run.proofs.BlobListLemmas.{has_line_feed}
+use Rattle.cap_replies.proofs.TextLineLemmas.{has_line_feed}
 use Rattle.cap_run.proofs.unread.next_line.Given as goal
 
 abbrev pub invariant-loop-line : goal.invariant-loop-line

@@ -2,7 +2,7 @@ use Rattle.std.proofs.Common.{◌∙◌, [], ◌∷◌, arith, refl, sym, subst,
 use Rattle.cap_run.specs.Code.Calls.{EachAt, IsWholeBlock}
 use Rattle.cap_run.proofs.NextLemmas.{next_alone, next_block, next_refused, of_ended}
 use Rattle.cap_run.proofs.SeatLemmas.{still_seats}
-use Rattle.cap_script.specs.declared.line.Line.{Line}
+use Rattle.cap_replies.specs.declared.run_line.RunLine.{RunLine}
 use Rattle.cap_run.proofs.workload.answer_next.Goals as goal
 
 -- out of memory for the block
@@ -16,7 +16,7 @@ returns-then-is_some-clause-left g c = of_ended c.answer_block.result.1 c.in-Ok.
 pub returns-then-is_some-clause-called : goal.returns-then-is_some-clause-called
 returns-then-is_some-clause-called g c = λ rest spelled.
     let called = c.answer_block.ensures.called in
-    let whole = subst (λ (l : List (Line g.row.A.Denot)). IsWholeBlock c.args.line rest l c.block_from.new.lines) (sym c.as_slice.ensures.value) (c.in-Ok.ensures.block rest spelled) in
+    let whole = subst (λ (l : List (RunLine g.row.A.Denot)). IsWholeBlock c.args.line rest l c.block_from.new.lines) (sym c.as_slice.ensures.value) (c.in-Ok.ensures.block rest spelled) in
     next_block c.args.shared.now.threads c.args.line rest c.as_slice.result.now c.answer_block.result.1 _ _ _ called.0 _ _ whole called.1 called.2
 
 pub returns-clause-seats : goal.returns-clause-seats
@@ -36,4 +36,4 @@ pub answer_block-requires-clause-at : goal.answer_block-requires-clause-at
 answer_block-requires-clause-at g c κs within =
     let spelled = c.requires.spelled in
     let whole = c.in-Ok.ensures.block spelled.0 spelled.1 in
-    subst (λ (l : List (Line g.row.A.Denot)). EachAt l) (sym (c.as_slice.ensures.value ∙ whole.0.block_is)) (sym c.is_some.ensures ∙ c.if-is_some.true, whole.0.each)
+    subst (λ (l : List (RunLine g.row.A.Denot)). EachAt l) (sym (c.as_slice.ensures.value ∙ whole.0.block_is)) (sym c.is_some.ensures ∙ c.if-is_some.true, whole.0.each)

@@ -2,7 +2,7 @@ use Rattle.std.proofs.Common.{◌≡◌, List, ℕ, IsErrAnd, false, inr, string
 use Rattle.std.proofs.lemmas.Result.{err_from_is_err_and}
 use Rattle.cap_run.specs.RunFault.{IsNoWorkload, IsOfText, is_script}
 use Rattle.cap_script.specs.FirstRefused.{SpellsWithin}
-use Rattle.cap_script.specs.Script.{SpellsScript}
+use Rattle.cap_replies.specs.Lines.{LinesLeft, SpellsRun}
 use Rattle.cap_run.proofs.HistoryLemmas.{begins_nothing}
 use Rattle.cap_run.proofs.InputLemmas.{each_text, fault_of_text, known_text, no_script_fault, unread_no_script, unread_of_text, unspelled_early, unspelled_no_workload, reads_passed, reads_unspelled, input_spelled, unread_early}
 use Rattle.cap_run.proofs.OutputLemmas.{none_reported}
@@ -12,14 +12,14 @@ pub returns-clause-written : goal.returns-clause-written
 returns-clause-written g c =
     let spelled = c.in_ok-lines.ensures.spelled in
     c.serve_lines.ensures.written (g.R.Source.remaining c.args.reader.now) spelled.0
-    (input_spelled spelled.0 (g.R.Source.remaining c.args.reader.now) (string_bytes c.in_ok-text.text) c.as_str.result.now c.as_str.ensures.value c.in_ok-text.ensures.whole spelled.1)
-    (subst (λ (l : List ℕ). SpellsScript spelled.0 l) (sym c.in_ok-lines.ensures.whole) spelled.1)
+    (input_spelled c.args.form spelled.0 (g.R.Source.remaining c.args.reader.now) (string_bytes c.in_ok-text.text) c.as_str.result.now c.as_str.ensures.value c.in_ok-text.ensures.whole spelled.1)
+    (subst (λ (l : LinesLeft). SpellsRun spelled.0 l) (sym c.in_ok-lines.ensures.whole) spelled.1)
 
 -- nothing was run
 pub returns-in_err-text-clause-written : goal.returns-in_err-text-clause-written
 returns-in_err-text-clause-written g c =
     let p = err_from_is_err_and c.from_residual.result c.from_residual.ensures.1 in
-    rw (p.1, p.2) (begins_nothing g.row.A.Denot c.args.threads (g.R.Source.remaining c.args.reader.now) c.in_err-text.field-0.0 _ (unread_early c.in_err-text.field-0.0 c.in_err-text.ensures.unread))
+    rw (p.1, p.2) (begins_nothing c.args.form g.row.A.Denot c.args.threads (g.R.Source.remaining c.args.reader.now) c.in_err-text.field-0.0 _ (unread_early c.in_err-text.field-0.0 c.in_err-text.ensures.unread))
 
 pub returns-clause-read_reported : goal.returns-clause-read_reported
 returns-clause-read_reported g c = reads_passed g.R.Source.gave g.R.Source.failed c.serve_lines.result _ _ c.serve_lines.ensures.no_failed_read c.in_ok-text.ensures.read_reported
@@ -37,7 +37,7 @@ returns-in_err-text-clause-read_reported g c =
 pub serve_lines-requires-clause-spelled : goal.serve_lines-requires-clause-spelled
 serve_lines-requires-clause-spelled g c κs within =
     let spelled = c.in_ok-lines.ensures.spelled in
-    (spelled.0, subst (λ (l : List ℕ). SpellsScript spelled.0 l) (sym c.in_ok-lines.ensures.whole) spelled.1)
+    (spelled.0, subst (λ (l : LinesLeft). SpellsRun spelled.0 l) (sym c.in_ok-lines.ensures.whole) spelled.1)
 
 -- which texts are refused
 pub returns-clause-refused : goal.returns-clause-refused

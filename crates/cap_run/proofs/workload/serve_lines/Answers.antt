@@ -24,15 +24,15 @@ take_seats-requires g c =
 pub returns-in-Ok-closed-clause-written : goal.returns-in-Ok-closed-clause-written
 returns-in-Ok-closed-clause-written g c = λ input spelled is spells.
     let last = map (λ w. w.seat) c.run_with_workers-workers.result.0.items in
-    served_closed c.args.threads input spelled c.run_with_workers-workers.result.1 (map (λ w. w.seat) c.in-Ok-workers_of.workers.items) last c.take_seats.new.seats.items c.in-Ok-closed._closed.events c.in-Ok-closed._closed.core _ _
+    served_closed c.args.form c.args.threads input spelled c.run_with_workers-workers.result.1 (map (λ w. w.seat) c.in-Ok-workers_of.workers.items) last c.take_seats.new.seats.items c.in-Ok-closed._closed.events c.in-Ok-closed._closed.core _ _
     c.requires.threads.0 is (c.in-Ok-workers_of.ensures.seats ∙ c.in-Ok.ensures) (c.take_seats.ensures.seats ∙ ap (λ (l : List (SeatState g.row.A.Denot)). l ++ last) c.in-Ok-with_capacity.ensures.items)
     (c.run_with_workers-workers.ensures.runs spelled spells) c.in-Ok-closed.ensures.closed.0
 
 pub returns-in-Err-clause-written : goal.returns-in-Err-clause-written
 returns-in-Err-clause-written g c = λ input spelled is spells.
     let last = map (λ w. w.seat) c.run_with_workers-workers.result.0.items in
-    subst (λ (r : Result (Unit {0}) RunFault). WritesWorkload g.row.A.Denot c.args.threads input r (g.W.RunOutput.contents c.args.writer.now) (g.W.RunOutput.contents c.run_with_workers-workers.new.writer)) (sym c.outcome_unclosed.ensures.same)
-    (served_unclosed c.args.threads g.J.Naming.seats input spelled c.run_with_workers-workers.result.1 (map (λ w. w.seat) c.in-Ok-workers_of.workers.items) last c.take_seats.new.seats.items c.in-Err._unclosed.1.items c.in-Err._unclosed.2 _ _
+    subst (λ (r : Result (Unit {0}) RunFault). WritesWorkload g.row.A.Denot c.args.form c.args.threads input r (g.W.RunOutput.contents c.args.writer.now) (g.W.RunOutput.contents c.run_with_workers-workers.new.writer)) (sym c.outcome_unclosed.ensures.same)
+    (served_unclosed c.args.form c.args.threads g.J.Naming.seats input spelled c.run_with_workers-workers.result.1 (map (λ w. w.seat) c.in-Ok-workers_of.workers.items) last c.take_seats.new.seats.items c.in-Err._unclosed.1.items c.in-Err._unclosed.2 _ _
     c.requires.threads.0 (sym c.requires.seats) is (c.in-Ok-workers_of.ensures.seats ∙ c.in-Ok.ensures) (c.take_seats.ensures.seats ∙ ap (λ (l : List (SeatState g.row.A.Denot)). l ++ last) c.in-Ok-with_capacity.ensures.items)
     (c.run_with_workers-workers.ensures.runs spelled spells) c.in-Err.ensures.refused)
 

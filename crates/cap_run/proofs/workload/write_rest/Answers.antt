@@ -10,14 +10,14 @@ pub returns-in_err-write_pending-clause-runs : goal.returns-in_err-write_pending
 returns-in_err-write_pending-clause-runs g c = λ threads lines a b known ran.
     let p = err_from_is_err_and c.from_residual.result c.from_residual.ensures.1 in
     let why = c.in_err-write_pending.ensures.err in
-    rw (p.1, p.2) (subst (λ (f : RunFault). RunsLines threads lines (Err f) a b known (g.W.RunOutput.contents c.write_pending.new.writer)) (sym why.0) (runs_some threads lines c.args.outcome (string_bytes c.args.pending.now) a b known _ _ ran why.1))
+    rw (p.1, p.2) (subst (λ (f : RunFault). RunsLines c.args.form threads lines (Err f) a b known (g.W.RunOutput.contents c.write_pending.new.writer)) (sym why.0) (runs_some c.args.form threads lines c.args.outcome (string_bytes c.args.pending.now) a b known _ _ ran why.1))
 
 pub returns-in_err-write_ending-clause-runs : goal.returns-in_err-write_ending-clause-runs
 returns-in_err-write_ending-clause-runs g c = λ threads lines a b known ran.
     let p = err_from_is_err_and c.from_residual-in_err-write_ending.result c.from_residual-in_err-write_ending.ensures.1 in
     let why = c.in_err-write_ending.ensures.err in
-    rw (p.1, p.2) (subst (λ (f : RunFault). RunsLines threads lines (Err f) a b known (g.W.RunOutput.contents c.write_ending.new.writer)) (sym why.0)
-    (runs_most threads lines c.args.outcome (string_bytes c.args.pending.now) a b known _ _ _ ran c.in_ok-write_pending.ensures.ok.1 why.1))
+    rw (p.1, p.2) (subst (λ (f : RunFault). RunsLines c.args.form threads lines (Err f) a b known (g.W.RunOutput.contents c.write_ending.new.writer)) (sym why.0)
+    (runs_most c.args.form threads lines c.args.outcome (string_bytes c.args.pending.now) a b known _ _ _ ran c.in_ok-write_pending.ensures.ok.1 why.1))
 
 pub returns-in_err-write_pending-clause-write_reported : goal.returns-in_err-write_pending-clause-write_reported
 returns-in_err-write_pending-clause-write_reported g c =
@@ -39,4 +39,4 @@ returns-clause-write_reported g c =
 pub returns-clause-runs : goal.returns-clause-runs
 returns-clause-runs g c = λ threads lines a b known ran.
     rw c.run_outcome.ensures.same
-    (runs_all threads lines c.args.outcome (string_bytes c.args.pending.now) a b known _ _ _ ran c.in_ok-write_pending.ensures.ok.1 c.in_ok-write_ending.ensures.ok)
+    (runs_all c.args.form threads lines c.args.outcome (string_bytes c.args.pending.now) a b known _ _ _ ran c.in_ok-write_pending.ensures.ok.1 c.in_ok-write_ending.ensures.ok)

@@ -1,6 +1,6 @@
 use Rattle.std.proofs.Common.{◌≡◌, false, take}
-use Rattle.cap_run.proofs.BlobListLemmas.{has_line_feed}
-use Rattle.cap_run.proofs.blob_list.first_line.Given as goal
+use Rattle.cap_replies.proofs.TextLineLemmas.{has_line_feed}
+use Rattle.cap_replies.proofs.text_line.first_line.Given as goal
 
 -- no line feed so far
 abbrev pub invariant-loop-at : goal.invariant-loop-at

@@ -1,17 +1,17 @@
-use Rattle.std.proofs.Common.{List, ℕ, [], ◌∷◌, ◌++◌, ◌∙◌, refl, subst, codes}
+use Rattle.std.proofs.Common.{List, ℕ, ◌++◌, ◌∙◌, refl, subst}
 use Rattle.cap_run.proofs.OutputLemmas.{fault_later, went_on, write_fault}
 use Rattle.cap_run.proofs.RunLemmas.{front_more, front_sooner}
 use Rattle.cap_run.specs.Run.{AppendsFront}
 use Rattle.cap_run.specs.declared.fault.RunFault.TheVariants.{Write}
-use Rattle.cap_run.proofs.output.write_overtaken.Goals as goal
+use Rattle.cap_run.proofs.output.write_number.Goals as goal
 
 -- the words and the number were written, and nothing behind them
 pub returns-in-Err-write_whole-clause-err : goal.returns-in-Err-write_whole-clause-err
 returns-in-Err-write_whole-clause-err g c =
     let text = c.as_bytes.ensures.value ∙ c.format.ensures.text in (
       refl,
-      subst (λ (digits : List ℕ). AppendsFront (g.W.RunOutput.contents c.args.writer.now) (g.W.RunOutput.contents c.write_whole.new.writer) ((codes "overtaken " ++ digits) ++ 10 ∷ [])) text
-          (front_more _ _ _ (codes "overtaken " ++ c.as_bytes.result.now) (10 ∷ []) c.in_default.ensures.ok c.in-Err-write_whole.ensures.err.1),
+      subst (λ (digits : List ℕ). AppendsFront (g.W.RunOutput.contents c.args.writer.now) (g.W.RunOutput.contents c.write_whole.new.writer) ((c.args.before.now ++ digits) ++ c.args.after.now)) text
+          (front_more _ _ _ (c.args.before.now ++ c.as_bytes.result.now) c.args.after.now c.in_default.ensures.ok c.in-Err-write_whole.ensures.err.1),
     )
 
 -- a beginning of the words and the number was written
@@ -19,8 +19,8 @@ pub returns-in-Err-clause-err : goal.returns-in-Err-clause-err
 returns-in-Err-clause-err g c =
     let text = c.as_bytes.ensures.value ∙ c.format.ensures.text in (
       refl,
-      subst (λ (digits : List ℕ). AppendsFront (g.W.RunOutput.contents c.args.writer.now) (g.W.RunOutput.contents c.write_both.new.writer) ((codes "overtaken " ++ digits) ++ 10 ∷ [])) text
-          (front_sooner _ _ (codes "overtaken " ++ c.as_bytes.result.now) (10 ∷ []) c.in-Err.ensures.err.1),
+      subst (λ (digits : List ℕ). AppendsFront (g.W.RunOutput.contents c.args.writer.now) (g.W.RunOutput.contents c.write_both.new.writer) ((c.args.before.now ++ digits) ++ c.args.after.now)) text
+          (front_sooner _ _ (c.args.before.now ++ c.as_bytes.result.now) c.args.after.now c.in-Err.ensures.err.1),
     )
 
 pub returns-in-Err-write_whole-clause-write_reported : goal.returns-in-Err-write_whole-clause-write_reported

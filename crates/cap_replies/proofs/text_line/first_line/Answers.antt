@@ -1,7 +1,7 @@
 use Rattle.std.proofs.Common.{take_all}
 use Rattle.std.proofs.lemmas.List.{take_rest}
-use Rattle.cap_run.proofs.BlobListLemmas.{line_alone, line_at}
-use Rattle.cap_run.proofs.blob_list.first_line.Goals as goal
+use Rattle.cap_replies.proofs.TextLineLemmas.{line_alone, line_at}
+use Rattle.cap_replies.proofs.text_line.first_line.Goals as goal
 
 pub returns-then-text-at-eq10-clause-first : goal.returns-then-text-at-eq10-clause-first
 returns-then-text-at-eq10-clause-first c =

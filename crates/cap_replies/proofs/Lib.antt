@@ -1,0 +1,4 @@
+pub mod Crossing
+pub mod TextLineLemmas
+mod NumberLemmas
+mod TokenLemmas

@@ -1,0 +1,18 @@
+-- The reply to a line of a run, as it is printed.
+use Rattle.std.specs.Prelude.{ℕ, List}
+use Rattle.cap_core.specs.declared.reply.Reply.{Reply}
+use Rattle.cap_replies.specs.ReplyJson.{reply_json}
+use Rattle.cap_replies.specs.declared.run_line.ReplyForm.{ReplyForm}
+use Rattle.cap_replies.specs.declared.run_line.ReplyForm.TheVariants.{Json, Text}
+use Rattle.cap_replies.specs.declared.run_line.RunLine.{RunLine}
+use Rattle.cap_script.specs.ReplyText as script
+use Rattle.cap_script.specs.declared.line.Line.{Line}
+
+module _ {A : Type 0} where
+  abbrev pub text_in : ReplyForm → ℕ → Line A → Reply A → List ℕ
+  text_in Text number line reply = script.reply_text line reply
+  text_in Json number line reply = reply_json number line reply
+
+  -- its text, or the JSON of it
+  abbrev pub reply_text : RunLine A → Reply A → List ℕ
+  reply_text line reply = text_in line.form line.number line.line reply
