@@ -4,7 +4,7 @@ import re
 import subprocess
 
 PAGE = "docs/changecap.1"
-HELP = "crates/cap_run/src/command_line.rt"
+HELP = "crates/cap_command_line/src/help.rt"
 HEADER = "include/changecap.h"
 COMPLETIONS = "docs/completions"
 # A form of a command in the help of `run`, and its heading in the page.
@@ -33,7 +33,8 @@ def helps(sources, program, text_of):
     if not program:
         source = text_of(sources.root, HELP)
         return source, source
-    words = [[], *([word] for word in ("run", "shell", "show", "invert", "patchset", "concat", "rebase"))]
+    words = [[], *([word] for word in ("run", "shell", "show", "check", "summary", "invert", "patchset", "concat",
+                                       "rebase"))]
     printed = [subprocess.run([program, *it, "--help"], capture_output=True, text=True, check=False).stdout
                for it in words]
     return "\n".join(printed), printed[1]

@@ -160,7 +160,7 @@ class Sources:
         for name, value in EVALUATED.findall(text):
             self.constants.setdefault((crate, name), value)
         self.words |= set(WORD.findall(text))
-        if crate == "cap_run":
+        if crate == "cap_command_line":
             self.options["program"] |= {f"--{it}" for it in re.findall(r"(?:long\(|flag\(alloc, )\"([a-z-]+)\"", text)}
 
     def add_item(self, item, within, crate, is_test):

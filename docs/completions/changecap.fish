@@ -1,8 +1,11 @@
 # Completion of changecap for fish.
 complete -c changecap -f
+complete -c changecap -n 'not __fish_use_subcommand; and not __fish_seen_subcommand_from shell' -F
 complete -c changecap -n __fish_use_subcommand -a run -d 'Print the reply to each command of a workload'
 complete -c changecap -n __fish_use_subcommand -a shell -d 'Run each line as it is read'
 complete -c changecap -n __fish_use_subcommand -a show -d 'Print what is in a blob'
+complete -c changecap -n __fish_use_subcommand -a check -d 'Say whether blobs are well formed'
+complete -c changecap -n __fish_use_subcommand -a summary -d 'Count the changes of blobs'
 complete -c changecap -n __fish_use_subcommand -a invert -d 'Print the inverse of a changeset'
 complete -c changecap -n __fish_use_subcommand -a patchset -d 'Print the patchset of a changeset'
 complete -c changecap -n __fish_use_subcommand -a concat -d 'Print the concatenation of blobs'
@@ -18,5 +21,7 @@ complete -c changecap -n '__fish_seen_subcommand_from show' -l json -d 'Print JS
 set -l converting show invert patchset concat rebase
 complete -c changecap -n "__fish_seen_subcommand_from $converting" -l binary -d 'Blobs are bytes, not hex digits'
 set -e converting[1]
+set -l writing show check summary $converting
+complete -c changecap -n "__fish_seen_subcommand_from $writing" -s o -l output -r -d 'The file that is written'
 complete -c changecap -n "__fish_seen_subcommand_from $converting" -l key-flags -x -a 'places ones' \
     -d 'How key columns are flagged'

@@ -4,12 +4,12 @@ pub mod Combination
 pub mod Conversion
 pub mod Encoding
 pub mod Hex
-pub mod Options
 pub mod Pieces
 pub mod Reads
 pub mod Run
 pub mod RunFault
 pub mod Shell
 pub mod Show
+pub mod Threads
 pub mod Workload
 pub mod Writes

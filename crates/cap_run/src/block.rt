@@ -4,7 +4,7 @@ ghost use Rattle.std.specs.Prelude.{string_bytes, vec_capacity, vec_len};
 ghost use Rattle.std.specs.List.{AllZip};
 ghost use denote.Param.Send.{Frees, IsSend, IsSync};
 ghost use Rattle.cap_run.specs.Code.Calls.{HasWorked, seat_lines, work};
-ghost use Rattle.cap_run.specs.Options.{IsThreadCount};
+ghost use Rattle.cap_run.specs.Threads.{IsThreadCount};
 
 use crate::Gate;
 use crate::worker::{Shared, Worker, answer_lines, is_given, let_all_go_on};

@@ -2,7 +2,7 @@
 ghost use Rattle.std.specs.Prelude.{◌≡◌, ◌++◌, ◌∷◌, ◌<◌, ◌≤◌, [], IfOk, MatchBool, OnOk, OnErr, List, ℕ};
 ghost use Rattle.std.specs.Prelude.{Err, IfErr, length, map, string_bytes};
 ghost use Rattle.cap_run.specs.Code.Calls.{HasCalledLine, HasCalledLines, HasSeen, KeepsCalls, seat_lines};
-ghost use Rattle.cap_run.specs.Options.{IsThreadCount};
+ghost use Rattle.cap_run.specs.Threads.{IsThreadCount};
 ghost use Rattle.cap_run.specs.Run.{on_a_line};
 ghost use Rattle.cap_run.specs.Workload.{seat_of};
 ghost use Rattle.cap_replies.specs.Printed.{reply_text};

@@ -8,7 +8,7 @@ ghost use Rattle.cap_history.specs.Seat.{SeatState};
 ghost use Rattle.cap_run.specs.Code.Calls.{AreSeats, EachAt, Gathers, HasCalledLine, HasSeen, HasWorked};
 ghost use Rattle.cap_run.specs.Code.Calls.{HaveCalled, HaveEnded, IsFaultOf, IsNext, IsWholeBlock};
 ghost use Rattle.cap_run.specs.Code.Calls.{KeepsCalls, RunsLines, unclosed_outcome, work};
-ghost use Rattle.cap_run.specs.Options.{IsThreadCount};
+ghost use Rattle.cap_run.specs.Threads.{IsThreadCount};
 ghost use Rattle.cap_run.specs.Run.{IsSpelled, Known};
 ghost use Rattle.cap_run.specs.Reads.{EndsReads};
 ghost use Rattle.cap_run.specs.RunFault.{IsNoWorkload, IsOfText, IsUnread, exit_status, is_read, is_script};

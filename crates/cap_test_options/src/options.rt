@@ -1,10 +1,8 @@
 //! The words of a command line: what they ask for, and those that are refused.
 use cap_blob::Target;
 use cap_codec::KeyFlags;
-use cap_run::{
-    Combination, CombinationKind, Conversion, Encoding, Form, Options, OptionsFault, Pace,
-    ReplyForm, options,
-};
+use cap_command_line::{Asked, Options, OptionsFault, options};
+use cap_run::{Combination, CombinationKind, Conversion, Encoding, Form, Pace, ReplyForm};
 use std::alloc::{AllocError, Global};
 use std::test::Fail;
 
@@ -17,10 +15,15 @@ fn words_of(alloc: Global, line: &str) -> Result<Vec<String>, AllocError> {
     Ok(words)
 }
 
-// What a line of words asks for. None where it is refused.
-fn asked(alloc: Global, line: &str) -> Option<Options> {
+// What a line of words asks for, with its files. None where it is refused.
+fn asked_with_files(alloc: Global, line: &str) -> Option<Asked> {
     let words = words_of(alloc, line).ok()?;
     options(alloc, words.as_slice()).ok()
+}
+
+// What a line of words asks for. None where it is refused.
+fn asked(alloc: Global, line: &str) -> Option<Options> {
+    Some(asked_with_files(alloc, line)?.options)
 }
 
 fn asks_for_run(alloc: Global, line: &str, threads: u64, pace: Pace, form: ReplyForm) -> bool {
@@ -87,6 +90,79 @@ fn what_is_asked_for(rt: HostRuntime) -> Result<(), Fail> {
     for (line, form, encoding) in shows {
         assert!(rt; asks_to_show(rt.alloc(), line, form, encoding), "{line}");
     }
+    Ok(())
+}
+
+// Whether a line of words names these files and this output.
+fn asks_for_files(alloc: Global, line: &str, files: &[&str], output: Option<&str>) -> bool {
+    let Some(asked) = asked_with_files(alloc, line) else {
+        return false;
+    };
+    let is_output = match (&asked.output, output) {
+        (Some(name), Some(wanted)) => name.as_str() == wanted,
+        (None, None) => true,
+        _ => false,
+    };
+    if !is_output || asked.files.len() != files.len() {
+        return false;
+    }
+    for at in 0..files.len() {
+        if asked.files[at].as_str() != files[at] {
+            return false;
+        }
+    }
+    true
+}
+
+#[test]
+fn what_files_are_asked_for(rt: HostRuntime) -> Result<(), Fail> {
+    let one: [&str; 1] = ["a"];
+    for line in [
+        "run a",
+        "run --json a --threads 4",
+        "show a",
+        "show a --sql",
+        "invert a",
+        "concat a",
+        "check a",
+    ] {
+        assert!(rt;
+            asks_for_files(rt.alloc(), line, one.as_slice(), None),
+            "{line}"
+        );
+    }
+    for line in [
+        "show -o b a",
+        "patchset a --output b",
+        "rebase a --output=b",
+        "summary a -o b",
+    ] {
+        assert!(rt;
+            asks_for_files(rt.alloc(), line, one.as_slice(), Some("b")),
+            "{line}"
+        );
+    }
+    let two: [&str; 2] = ["a", "-"];
+    for line in [
+        "concat a -",
+        "rebase --key-flags ones a -",
+        "check a -",
+        "summary a -",
+    ] {
+        assert!(rt;
+            asks_for_files(rt.alloc(), line, two.as_slice(), None),
+            "{line}"
+        );
+    }
+    let none: [&str; 0] = [];
+    for line in ["run", "shell", "show", "check", "concat"] {
+        assert!(rt;
+            asks_for_files(rt.alloc(), line, none.as_slice(), None),
+            "{line}"
+        );
+    }
+    assert!(rt; asked(rt.alloc(), "check a") == Some(Options::Check));
+    assert!(rt; asked(rt.alloc(), "summary") == Some(Options::Summary));
     Ok(())
 }
 
@@ -191,27 +267,33 @@ fn what_is_refused(rt: HostRuntime) -> Result<(), Fail> {
         "run --threads",
         "run --threads 2 --threads 3",
         "run --in-turn=yes",
-        "run --in-turn 2",
+        "run --in-turn 2 other",
         "shell --in-turn",
         "run -v=yes",
         "run -vv",
         "verbose",
-        "run file",
+        "run file other",
+        "run -o out file",
+        "show -o out",
+        "show file other",
+        "show --binary file",
+        "check --binary",
+        "summary -o",
         "shell file",
         "shell --threads 2",
         "show --threads 2",
         "show --key-flags ones",
         "show --sql --json",
         "run --binary",
-        "invert file",
+        "invert file other",
         "invert --threads 2",
         "invert --key-flags",
         "invert --key-flags both",
         "patchset --key-flags Places",
         "patchset --binary=yes",
-        "concat file",
+        "concat --binary file",
         "concat --key-flags Places",
-        "rebase file",
+        "rebase --binary file",
         "rebase --key-flags both",
     ];
     for line in lines {
@@ -245,6 +327,8 @@ fn help(rt: HostRuntime) -> Result<(), Fail> {
         ("help patchset", "--binary"),
         ("concat --help", "| changecap concat"),
         ("rebase --help", "| changecap rebase"),
+        ("check --help", "D1 Truncated at 8"),
+        ("summary --help", "-o, --output <OUT>"),
     ];
     for (line, part) in table {
         assert!(rt; is_explained(rt.alloc(), line, part), "{line}");

@@ -4,19 +4,26 @@
 //! over buffers.
 #![tactic(auto)]
 
-ghost use Rattle.cap_run.specs.Options.{IsThreadCount};
+ghost use Rattle.cap_command_line.specs.Options.{IsInRange};
+ghost use Rattle.cap_run.specs.Threads.{IsThreadCount};
 
+mod files;
+
+use crate::files::{FileFault, with_files};
+use cap_command_line::{Asked, Options, OptionsFault, options};
 use cap_run::{
-    NoGate, Options, OptionsFault, Pace, ReplyForm, RunFault, combine_blobs, convert_blob, options,
-    run_core, run_shell, run_workload, show_blob,
+    NoGate, Pace, ReplyForm, RunFault, combine_blobs, convert_blob, run_core, run_shell,
+    run_workload, show_blob,
 };
 use std::alloc::AllocError;
+use std::fmt::Display;
+use std::fs::Files;
 use std::io::{IsTerminal, Read, Write};
 use std::process::ExitCode;
 use std::rt::Env;
 use std::sync::Wait;
 use std::thread::Threads;
-use std::{env, io};
+use std::{env, fs, io};
 
 // The exit statuses: the input is refused, the command line is refused, or memory ran out or a read or write
 // failed.
@@ -104,6 +111,69 @@ fn run<R: Input + Print + Eprint + AllocGlobal + Threads + Wait + Sync>(
     report(rt, is_verbose, outcome)
 }
 
+// Runs the workload in the file, and gives the exit status.
+fn run_file<R: Files + Print + Eprint + AllocGlobal + Threads + Wait + Sync>(
+    rt: &R,
+    is_verbose: bool,
+    threads: u64,
+    pace: Pace,
+    form: ReplyForm,
+    name: &str,
+) -> u8
+    requires threads { IsThreadCount threads }
+{
+    let alloc = rt.alloc();
+    let mut reader = match fs::open(rt, name) {
+        Ok(file) => file,
+        Err(error) => return refuse(rt, name, &error),
+    };
+    let mut writer = io::writer(rt);
+    let outcome = if threads == 1 {
+        run_core(alloc, form, &mut reader, &mut writer)
+    } else {
+        let gate = &NoGate;
+        run_workload(
+            rt,
+            alloc,
+            gate,
+            threads,
+            pace,
+            form,
+            &mut reader,
+            &mut writer,
+        )
+    };
+    match outcome {
+        Err(fault) if fault.status() == REFUSED => refuse(rt, name, &fault),
+        Err(RunFault::Read) => refuse(rt, name, &"it cannot be read"),
+        outcome => report(rt, is_verbose, outcome),
+    }
+}
+
+// Prints why a file is refused, and gives the exit status.
+fn refuse(rt: &impl Eprint, name: &str, why: &impl Display) -> u8 {
+    match eprintln!(rt; "{name}: {why}") {
+        Ok(()) => REFUSED,
+        Err(_) => FAILED,
+    }
+}
+
+// Does what is asked for with files, and gives the exit status.
+fn run_on_files<R: Files + Input + Print + Eprint + AllocGlobal>(
+    rt: &R,
+    is_verbose: bool,
+    asked: &Asked,
+) -> u8 {
+    match with_files(rt, asked) {
+        Ok(()) => 0,
+        Err(FileFault::Refused(line)) => match eprintln!(rt; "{line}") {
+            Ok(()) => REFUSED,
+            Err(_) => FAILED,
+        },
+        Err(FileFault::Failed) => report(rt, is_verbose, Err(RunFault::Write)),
+    }
+}
+
 // Standard input at a terminal: each read is of a line, and has a prompt before it.
 #[derive(Drop)]
 struct Prompting<'a, I: Read + Drop, P: Eprint> {
@@ -144,11 +214,10 @@ fn shell<R: Input + Print + Eprint + AllocGlobal, E: Write>(
 
 // Does what the command line asks for, and gives the exit status. A shell writes the faults of its lines to
 // `faults`.
-fn run_program<R: Input + Print + Eprint + Env + AllocGlobal + Threads + Wait + Sync, E: Write>(
-    rt: &R,
-    faults: &mut E,
-    at_terminal: bool,
-) -> Result<u8, AllocError> {
+fn run_program<
+    R: Files + Input + Print + Eprint + Env + AllocGlobal + Threads + Wait + Sync,
+    E: Write,
+>(rt: &R, faults: &mut E, at_terminal: bool) -> Result<u8, AllocError> {
     let alloc = rt.alloc();
     let arguments = match env::args(rt) {
         Ok(arguments) => arguments,
@@ -157,27 +226,69 @@ fn run_program<R: Input + Print + Eprint + Env + AllocGlobal + Threads + Wait + 
     let words: Vec<String> = arguments.skip(1).collect(alloc)?;
     let is_verbose = asks_what_failed(words.as_slice());
     match options(alloc, words.as_slice()) {
-        Ok(
+        Ok(asked) => Ok(run_asked(rt, is_verbose, &asked, faults, at_terminal)),
+        Err(fault) => Ok(explain(rt, is_verbose, &fault)),
+    }
+}
+
+// Does what is asked for, and gives the exit status.
+fn run_asked<R: Files + Input + Print + Eprint + AllocGlobal + Threads + Wait + Sync, E: Write>(
+    rt: &R,
+    is_verbose: bool,
+    asked: &Asked,
+    faults: &mut E,
+    at_terminal: bool,
+) -> u8
+    requires range { IsInRange asked.now.options }
+{
+    match (asked.options, asked.files.first()) {
+        (
             Options::Run {
                 threads,
                 pace,
                 form,
             },
-        ) => Ok(run(rt, is_verbose, threads, pace, form)),
-        Ok(Options::Shell) => Ok(shell(rt, is_verbose, faults, at_terminal)),
-        Ok(Options::Show { form, encoding }) => {
+            Some(name),
+        ) => run_file(rt, is_verbose, threads, pace, form, name.as_str()),
+        (Options::Check | Options::Summary, _) | (_, Some(_)) => run_on_files(
+            rt, is_verbose, asked,
+        ),
+        (options, None) => run_on_input(rt, is_verbose, options, faults, at_terminal),
+    }
+}
+
+// Does what is asked for with standard input, and gives the exit status.
+fn run_on_input<R: Files + Input + Print + Eprint + AllocGlobal + Threads + Wait + Sync, E: Write>(
+    rt: &R,
+    is_verbose: bool,
+    options: Options,
+    faults: &mut E,
+    at_terminal: bool,
+) -> u8
+    requires range { IsInRange options }
+{
+    let alloc = rt.alloc();
+    match options {
+        Options::Run {
+            threads,
+            pace,
+            form,
+        } => run(rt, is_verbose, threads, pace, form),
+        Options::Shell | Options::Check | Options::Summary => {
+            shell(rt, is_verbose, faults, at_terminal)
+        }
+        Options::Show { form, encoding } => {
             let outcome = show_blob(alloc, form, encoding, &mut rt.reader(), &mut io::writer(rt));
-            Ok(report(rt, is_verbose, outcome))
+            report(rt, is_verbose, outcome)
         }
-        Ok(Options::Convert(conversion)) => {
+        Options::Convert(conversion) => {
             let outcome = convert_blob(alloc, conversion, &mut rt.reader(), &mut io::writer(rt));
-            Ok(report(rt, is_verbose, outcome))
+            report(rt, is_verbose, outcome)
         }
-        Ok(Options::Combine(combination)) => {
+        Options::Combine(combination) => {
             let outcome = combine_blobs(alloc, combination, &mut rt.reader(), &mut io::writer(rt));
-            Ok(report(rt, is_verbose, outcome))
+            report(rt, is_verbose, outcome)
         }
-        Err(fault) => Ok(explain(rt, is_verbose, &fault)),
     }
 }
 

@@ -1,9 +1,8 @@
 //! What the command line asks for.
 ghost use Rattle.std.specs.Prelude.{◌≡◌};
-ghost use Rattle.cap_run.specs.Options.{options_status};
+ghost use Rattle.cap_command_line.specs.Options.{options_status};
 
-use crate::{Combination, Conversion, Encoding, Form, Pace};
-use cap_replies::ReplyForm;
+use cap_run::{Combination, Conversion, Encoding, Form, Pace, ReplyForm};
 use thiserror::Error;
 
 /// What the program does.
@@ -20,6 +19,10 @@ pub enum Options {
     },
     /// Run each line of standard input as it is read.
     Shell,
+    /// Say whether the blobs are well formed.
+    Check,
+    /// Count the changes of the blobs.
+    Summary,
     /// Show the blob on standard input.
     Show {
         /// How it is shown.
@@ -31,6 +34,17 @@ pub enum Options {
     Convert(Conversion),
     /// Concatenate the blobs on standard input, or rebase the first of them over the others.
     Combine(Combination),
+}
+
+/// What the command line asks for, and where the input and the output are.
+#[derive(Debug, Drop)]
+pub struct Asked {
+    /// What the program does.
+    pub options: Options,
+    /// The names of the files that it reads in place of standard input, and `-` for that.
+    pub files: Vec<String>,
+    /// The file that it writes in place of standard output.
+    pub output: Option<String>,
 }
 
 /// Why the program ends without a run.

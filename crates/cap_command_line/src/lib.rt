@@ -1,0 +1,9 @@
+//! The command line of the program.
+#![tactic(auto)]
+
+mod command_line;
+mod help;
+mod program_options;
+
+pub use command_line::options;
+pub use program_options::{Asked, Options, OptionsFault};

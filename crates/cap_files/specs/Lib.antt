@@ -1,0 +1,3 @@
+pub mod FileBlob
+pub mod Place
+pub mod Summary
