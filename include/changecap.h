@@ -92,6 +92,31 @@ typedef struct changecap_fault {
 #define CHANGECAP_BAD_RECORD 9 /* a field that is defined, or not, against the rules */
 #define CHANGECAP_MIXED     10 /* a changeset's group after a patchset's, or the other way round */
 
+/* ---- Refusals ---- */
+
+/* Why the rules refuse a command, as E1 to E20 of docs/manual/rules.md: fault->kind where the status is REFUSED, and
+ * where it is FILTER. */
+#define CHANGECAP_E_TOO_LONG      1 /* a text or a blob has more than 1,000,000,000 bytes */
+#define CHANGECAP_E_BAD_SCHEMA    2 /* a table is to have no column, or more than 2,000 */
+#define CHANGECAP_E_WRONG_WIDTH   3 /* a row has more or fewer values than its table has columns */
+#define CHANGECAP_E_BAD_COLUMN    4 /* an update names a column outside the table, or one twice */
+#define CHANGECAP_E_DUPLICATE     5 /* another row has the primary key already */
+#define CHANGECAP_E_NO_ROW        6 /* no row has the key, or the id */
+#define CHANGECAP_E_IDS_SPENT     7 /* a row without a key is to be made, and id 2^63 - 1 was given */
+#define CHANGECAP_E_NO_TABLE      8 /* no table has the name */
+#define CHANGECAP_E_TABLE_EXISTS  9 /* a table has the name already */
+#define CHANGECAP_E_TOO_MANY     10 /* one more than a limit allows */
+#define CHANGECAP_E_STALE        11 /* another version, or what the transaction looked at has changed: begin again */
+#define CHANGECAP_E_BAD_FILTER   12 /* a text is no filter */
+#define CHANGECAP_E_TOO_DEEP     13 /* a filter has more than 32 levels or 1,000 nodes */
+#define CHANGECAP_E_INCOMPATIBLE 14 /* the saved table of a diff is missing, or has other columns */
+#define CHANGECAP_E_ABORTED      15 /* the answer to a conflict is CHANGECAP_ABORT */
+#define CHANGECAP_E_MISUSE       16 /* the answer is CHANGECAP_REPLACE where there is no row */
+#define CHANGECAP_E_BAD_NAME     17 /* a name is empty, longer than 255 bytes, or has a zero byte */
+#define CHANGECAP_E_NO_SESSION   18 /* no live session has the number */
+#define CHANGECAP_E_NO_DATABASE  19 /* no saved database has the name */
+#define CHANGECAP_E_NO_MARK      20 /* no savepoint has the mark, or it was undone */
+
 /* ---- Key flags ---- */
 
 /* What is written at each key column in the header of a group. SQLite's documentation says the first; its code writes
@@ -409,10 +434,9 @@ uint32_t changecap_meet(changecap_client *client, changecap_client *other);
  * another call has it, and may answer CHANGECAP_OVERTAKEN, with 0 in fault->kind and the number of events in fault->at.
  * All other calls touch the caller's handles alone, and wait for nothing.
  *
- * Where the status is REFUSED, fault->kind is the number of the refusal, 1 to 20 as in E1 to E20 of
- * docs/manual/rules.md, and fault->at is 0 unless said otherwise; changecap_call alone leaves it as
- * it was. Unless the status is OK or REFUSED the history is as it was. A name is 1 to 255 bytes of UTF-8 without a zero
- * byte. */
+ * Where the status is REFUSED, fault->kind is the number of the refusal, as CHANGECAP_E_NO_TABLE, and fault->at is 0
+ * unless said otherwise; changecap_call alone leaves the fault as it was. Unless the status is OK or REFUSED the
+ * history is as it was. A name is 1 to 255 bytes of UTF-8 without a zero byte. */
 
 /* Carries out the one command that the n bytes are, in the language of docs/manual/formats.md ("Workload text"), and
  * keeps the text of its reply until the client's next changecap_call that has one.
@@ -452,14 +476,14 @@ typedef struct changecap_report {
 /* Applies a changeset or a patchset, as sqlite3changeset_apply: data is the answer where a row has other values than
  * those before the change, notfound where there is no row, conflict where the key of an inserted row is in use. A
  * blob that is refused changes no table. It is read before the call asks for the state.
- *   OK (*report), REFUSED (fault->at is the number of the change, from 0), MALFORMED (*fault),
- *   MISUSE (no such answer), NOMEM, FULL. */
+ *   OK (*report), REFUSED (*fault: E_ABORTED, E_MISUSE, fault->at is the number of the change, from 0),
+ *   MALFORMED (*fault), MISUSE (no such answer), NOMEM, FULL. */
 uint32_t changecap_apply(changecap_client *client, const void *blob, size_t n, uint32_t data, uint32_t notfound,
                          uint32_t conflict, changecap_report *report, changecap_fault *fault);
 
 /* The same of what an iterator was opened on, wherever it stands. With OK it has the conflicts of this application
  * (changecap_iter_buffer), and else what it had.
- *   OK (*report), REFUSED (fault->at is the number of the change, from 0), MISUSE (no such answer), NOMEM, FULL. */
+ *   OK (*report), REFUSED (as above), MISUSE (no such answer), NOMEM, FULL. */
 uint32_t changecap_apply_iter(changecap_client *client, changecap_iter *it, uint32_t data, uint32_t notfound,
                               uint32_t conflict, changecap_report *report, changecap_fault *fault);
 
@@ -488,8 +512,8 @@ uint32_t changecap_session_attach_all(changecap_client *client, uint64_t session
  * sqlite3session_table_filter. The filter's text is that of docs/manual/formats.md ("Filter text"), as in
  * and(starts 'a',not is 'ab').
  *   OK, REFUSED, FILTER (*fault), MISUSE (the text is not UTF-8), NOMEM, FULL.
- * Of a text that is no filter fault->kind is 12, and fault->at is where the first token does not fit; or 13 where it
- * has more than 32 levels or 1,000 filters, and 0. */
+ * Of a text that is no filter fault->kind is CHANGECAP_E_BAD_FILTER, and fault->at is where the first token does not
+ * fit; or CHANGECAP_E_TOO_DEEP where it has more than 32 levels or 1,000 filters, and 0. */
 uint32_t changecap_session_filter(changecap_client *client, uint64_t session, const void *text, size_t n,
                                   changecap_fault *fault);
 
@@ -566,7 +590,7 @@ void changecap_capture_close(changecap_capture *capture);
 typedef struct changecap_batch { void *at; } changecap_batch;
 
 /* Open a closed batch, without operations. The second takes the version on which alone the batch may be committed: on
- * any other it is refused with 11.
+ * any other it is refused with CHANGECAP_E_STALE.
  *   OK, NOMEM. */
 uint32_t changecap_batch_open(changecap_batch *batch);
 uint32_t changecap_batch_open_at(changecap_batch *batch, uint64_t version);
@@ -583,8 +607,8 @@ void changecap_batch_close(changecap_batch *batch);
 /* Put an operation last in the batch. An insert takes a row of len bytes. An update and a delete take a key of m bytes;
  * or a row that has no key by its id, where that is not 0, and then m is 0. Whether there is such a table, row or
  * column is looked at when the batch is committed.
- *   OK, REFUSED (*fault: 10, the batch has 10,000 operations), MALFORMED (*fault, of the key or else of the rest),
- *   NOMEM, MISUSE (no such name or cause; the id is 0 and m as well; neither is 0). */
+ *   OK, REFUSED (*fault: E_TOO_MANY, the batch has 10,000 operations), MALFORMED (*fault, of the key or else of the
+ *   rest), NOMEM, MISUSE (no such name or cause; the id is 0 and m as well; neither is 0). */
 uint32_t changecap_insert(changecap_batch *batch, const void *table, size_t n, const void *row, size_t len,
                           uint32_t cause, changecap_fault *fault);
 uint32_t changecap_update(changecap_batch *batch, const void *table, size_t n, const void *key, size_t m, uint64_t id,
@@ -595,7 +619,8 @@ uint32_t changecap_delete(changecap_batch *batch, const void *table, size_t n, c
 /* Commits the batch: all of its operations, or none. Then it is as changecap_batch_open leaves it.
  *   OK (*version is the new version), REFUSED, NOMEM, FULL.
  * Where it is refused, fault->at is the number of the operation, from 0; of a transaction's batch that is refused with
- * 11 it is the number of the first item that has changed. Unless the status is OK the batch is as it was. */
+ * CHANGECAP_E_STALE it is the number of the first item that has changed. Unless the status is OK the batch is as it
+ * was. */
 uint32_t changecap_commit(changecap_client *client, changecap_batch *batch, uint64_t *version, changecap_fault *fault);
 
 /* Commits the batch, and opens a closed capture of the session, as changecap_commit and changecap_session_restart do
@@ -664,7 +689,7 @@ typedef struct changecap_rows { void *at; } changecap_rows;
  * where that is not 0, and then m is 0: one row or none. changecap_scan reads all rows, those with a key in the order
  * of their keys, and then the others by their ids; changecap_scan_from those with a key that is not below the given
  * one, at most limit of them.
- *   OK, REFUSED (*fault: 8, there is no such table), MALFORMED (*fault), NOMEM,
+ *   OK, REFUSED (*fault: E_NO_TABLE), MALFORMED (*fault), NOMEM,
  *   MISUSE (no such name; the id is 0 and m as well; neither is 0).
  * Unless the status is OK the rows stay closed. */
 uint32_t changecap_get(changecap_snapshot *snapshot, const void *table, size_t n, const void *key, size_t m,
@@ -698,7 +723,7 @@ void changecap_rows_close(changecap_rows *rows);
 /* ---- Transactions ---- */
 
 /* A transaction reads a snapshot as its own operations have left it. Its batch is accepted exactly if all that it
- * looked at is then as it was in the snapshot, and else refused with 11: begin again on a new snapshot.
+ * looked at is then as it was in the snapshot, and else refused with CHANGECAP_E_STALE: begin again on a new snapshot.
  *
  *     do{
  *       changecap_snapshot_open(&client, &snapshot);
@@ -710,7 +735,7 @@ void changecap_rows_close(changecap_rows *rows);
  *       changecap_end(&transaction, &batch);
  *       status = changecap_commit(&client, &batch, &version, &fault);
  *       changecap_batch_close(&batch);
- *     }while( status == CHANGECAP_REFUSED && fault.kind == 11 );
+ *     }while( status == CHANGECAP_REFUSED && fault.kind == CHANGECAP_E_STALE );
  */
 typedef struct changecap_transaction { void *at; } changecap_transaction;
 
@@ -722,8 +747,8 @@ uint32_t changecap_begin(changecap_snapshot *snapshot, changecap_transaction *tr
 void changecap_rollback(changecap_transaction *transaction);
 
 /* Make an operation. The arguments are those of changecap_insert, _update and _delete.
- *   OK, REFUSED (*fault: 10, there are 10,000 operations; or what a commit would be refused for), MALFORMED (*fault),
- *   MISUSE, NOMEM.
+ *   OK, REFUSED (*fault: E_TOO_MANY, there are 10,000 operations; or what a commit would be refused for),
+ *   MALFORMED (*fault), MISUSE, NOMEM.
  * Unless the status is OK the rows that the transaction reads are as they were. */
 uint32_t changecap_transaction_insert(changecap_transaction *transaction, const void *table, size_t n,
                                       const void *row, size_t len, uint32_t cause, changecap_fault *fault);
@@ -743,7 +768,7 @@ uint32_t changecap_transaction_scan(changecap_transaction *transaction, const vo
 
 /* Makes a savepoint, and goes back to one: all operations since are undone, later savepoints too, and the savepoint
  * itself stays.
- *   OK (*mark), REFUSED (*fault: 10, it has made 10,000 savepoints; 20, there is none of the mark), NOMEM. */
+ *   OK (*mark), REFUSED (*fault: E_TOO_MANY, it has made 10,000 savepoints; E_NO_MARK), NOMEM. */
 uint32_t changecap_savepoint(changecap_transaction *transaction, uint64_t *mark, changecap_fault *fault);
 uint32_t changecap_rollback_to(changecap_transaction *transaction, uint64_t mark, changecap_fault *fault);
 
@@ -755,7 +780,7 @@ uint32_t changecap_end(changecap_transaction *transaction, changecap_batch *batc
 
 /* An application of a changeset or a patchset on a snapshot that stops at each conflict, where the caller sees the
  * change and the present row, and answers. What it leaves is committed as what it looked at: accepted exactly if each
- * row that a change names is then as it was in the snapshot, and else refused with 11: begin again on a new snapshot.
+ * row that a change names is then as it was in the snapshot, and else refused with CHANGECAP_E_STALE: begin again.
  *
  *     do{
  *       changecap_snapshot_open(&client, &snapshot);
@@ -767,7 +792,7 @@ uint32_t changecap_end(changecap_transaction *transaction, changecap_batch *batc
  *       }
  *       status = changecap_apply_finish(&client, &application, &report, &fault);
  *       changecap_apply_close(&application);
- *     }while( status == CHANGECAP_REFUSED && fault.kind == 11 );
+ *     }while( status == CHANGECAP_REFUSED && fault.kind == CHANGECAP_E_STALE );
  */
 typedef struct changecap_application { void *at; } changecap_application;
 
@@ -809,28 +834,28 @@ uint32_t changecap_apply_present(changecap_application *application, void *out, 
 
 /* Answers the conflict with CHANGECAP_OMIT, CHANGECAP_REPLACE or CHANGECAP_ABORT, as changecap_apply does, and goes on
  * to the next one or to the end. After REFUSED and NOMEM it is over.
- *   OK, REFUSED (*fault: 15, the answer is CHANGECAP_ABORT; 16, CHANGECAP_REPLACE where there is no row; fault->at is
- *   the number of the change), MISUSE (no such answer; it stands at no conflict), NOMEM. */
+ *   OK, REFUSED (*fault: E_ABORTED, the answer is CHANGECAP_ABORT; E_MISUSE, CHANGECAP_REPLACE where there is no row;
+ *   fault->at is the number of the change), MISUSE (no such answer; it stands at no conflict), NOMEM. */
 uint32_t changecap_apply_answer(changecap_application *application, uint32_t answer, changecap_fault *fault);
 
 /* Answers the conflict with a row of the caller's own, a record: it stands there in place of the change, which counts
  * as omitted, and the application goes on.
- *   OK, REFUSED (*fault: 3, it has not the table's columns), MALFORMED (*fault), NOMEM,
+ *   OK, REFUSED (*fault: E_WRONG_WIDTH, it has not the table's columns), MALFORMED (*fault), NOMEM,
  *   MISUSE (it has another key than the change; the application stands at no conflict).
  * Unless the status is OK it stands where it stood, but that with NOMEM it may be over. */
 uint32_t changecap_apply_answer_row(changecap_application *application, const void *row, size_t n,
                                     changecap_fault *fault);
 
 /* Commits what the application left, once it is at the end: one event and one version. It may be made again.
- *   OK (*report), REFUSED (*fault: 11, fault->at is the number of the first item that has changed since the snapshot,
- *   in the batch of changecap_apply_end; 10, more than 10,000 rows have changed), MISUSE (it stands at a conflict, or
- *   is over), NOMEM, FULL. */
+ *   OK (*report), REFUSED (*fault: E_STALE, fault->at is the number of the first item that has changed since the
+ *   snapshot, in the batch of changecap_apply_end; E_TOO_MANY, more than 10,000 rows have changed), MISUSE (it stands
+ *   at a conflict, or is over), NOMEM, FULL. */
 uint32_t changecap_apply_finish(changecap_client *client, changecap_application *application, changecap_report *report,
                                 changecap_fault *fault);
 
 /* Opens a closed batch for changecap_commit that makes what the application left: an operation for each row that is not
  * as it was. What it looked at is the table and the row of each change.
- *   OK, REFUSED (*fault: 10, more than 10,000 rows have changed), MISUSE, NOMEM.
+ *   OK, REFUSED (*fault: E_TOO_MANY, more than 10,000 rows have changed), MISUSE, NOMEM.
  * Unless the status is OK the batch stays closed. */
 uint32_t changecap_apply_end(changecap_application *application, changecap_batch *batch, changecap_fault *fault);
 

@@ -50,7 +50,8 @@ static void captured_session(void){
   CHECK(made != NULL && is_hex((bytes){ made, len }, INSERT));
   free(made);
   changecap_capture_close(&capture);
-  CHECK(changecap_session_capture(&client, session + 1, &capture, &fault) == CHANGECAP_REFUSED && fault.kind == 18);
+  CHECK(changecap_session_capture(&client, session + 1, &capture, &fault) == CHANGECAP_REFUSED);
+  CHECK(fault.kind == CHANGECAP_E_NO_SESSION);
   changecap_close(&client);
 }
 
@@ -62,7 +63,7 @@ static uint32_t applied(changecap_client *client, const uint8_t *changeset, size
                         changecap_fault *fault){
   uint32_t status = changecap_apply(client, changeset, n, CHANGECAP_ABORT, CHANGECAP_ABORT, CHANGECAP_ABORT, report,
                                     fault);
-  if( status == CHANGECAP_REFUSED && fault->kind == 15 ) /* change fault->at met a conflict: nothing was changed */
+  if( status == CHANGECAP_REFUSED && fault->kind == CHANGECAP_E_ABORTED ) /* change fault->at met a conflict */
     status = changecap_apply(client, changeset, n, CHANGECAP_REPLACE, CHANGECAP_OMIT, CHANGECAP_REPLACE, report, fault);
   return status;
 }
@@ -85,7 +86,7 @@ static void applied_changesets(void){
   CHECK(applied(&client, insert.at, insert.n, &report, &fault) == CHANGECAP_OK);
   CHECK(report.applied == 1 && report.conflicts == 0 && fault.kind == 77);
   CHECK(applied(&client, insert.at, insert.n, &report, &fault) == CHANGECAP_OK);
-  CHECK(report.applied == 1 && report.conflicts == 1 && fault.kind == 15 && fault.at == 0);
+  CHECK(report.applied == 1 && report.conflicts == 1 && fault.kind == CHANGECAP_E_ABORTED && fault.at == 0);
   CHECK(applied(&client, update.at, update.n, &report, &fault) == CHANGECAP_OK && report.conflicts == 0);
   CHECK(applied(&client, update.at, update.n, &report, &fault) == CHANGECAP_OK && report.conflicts == 1);
   CHECK(applied(&client, (const uint8_t *)"T\x80", 2, &report, &fault) == CHANGECAP_MALFORMED && fault.kind == 3);
@@ -265,7 +266,7 @@ static uint32_t added(changecap_client *client, int64_t at, int64_t more, change
     if( status != CHANGECAP_OK ) return status;
     status = changecap_commit(client, &batch, &version, fault);
     changecap_batch_close(&batch);
-  }while( status == CHANGECAP_REFUSED && fault->kind == 11 );
+  }while( status == CHANGECAP_REFUSED && fault->kind == CHANGECAP_E_STALE );
   return status;
 }
 

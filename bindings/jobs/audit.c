@@ -116,7 +116,7 @@ static void *work(void *at){
       prepare(own, i, &batch);
       status = changecap_commit_captured(&own->client, &batch, own->session, &version, &capture, &fault);
       changecap_batch_close(&batch);
-    }while( status == CHANGECAP_REFUSED && fault.kind == 11 ); /* another thread was first: begin again */
+    }while( status == CHANGECAP_REFUSED && fault.kind == CHANGECAP_E_STALE ); /* another thread was first */
     OK(status);
     write_lines(own->number, version, &capture);
     changecap_capture_close(&capture);

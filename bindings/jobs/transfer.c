@@ -53,7 +53,7 @@ static void transfer(changecap_client *client, int from, int to, int64_t amount)
     OK(changecap_end(&t, &batch));
     status = changecap_commit(client, &batch, &version, &fault);
     changecap_batch_close(&batch);
-  }while( status == CHANGECAP_REFUSED && fault.kind == 11 ); /* the other thread was first */
+  }while( status == CHANGECAP_REFUSED && fault.kind == CHANGECAP_E_STALE ); /* the other thread was first */
   OK(status);
 }
 

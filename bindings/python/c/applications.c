@@ -5,7 +5,7 @@ static const changecap_fault no_fault;
 
 /* Takes the place of a refusal, where it is one of a change: 15 and 16 are. */
 static long long place_of(const changecap_fault *fault){
-  return fault->kind == 15 || fault->kind == 16 ? (long long)fault->at : -1;
+  return fault->kind == CHANGECAP_E_ABORTED || fault->kind == CHANGECAP_E_MISUSE ? (long long)fault->at : -1;
 }
 
 PyObject *snapshot_apply(snapshot *self, PyObject *const *args, Py_ssize_t count){

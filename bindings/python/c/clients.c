@@ -105,7 +105,7 @@ typedef struct applied {
 static PyObject *report_or_error(const applied *made){
   const changecap_report *it = &made->report;
   /* 15 and 16 are the refusals of a change. */
-  int is_of_change = made->fault.kind == 15 || made->fault.kind == 16;
+  int is_of_change = made->fault.kind == CHANGECAP_E_ABORTED || made->fault.kind == CHANGECAP_E_MISUSE;
   if( made->status != CHANGECAP_OK )
     return failed(made->status, &made->fault, is_of_change ? (long long)made->fault.at : -1, NULL);
   return Py_BuildValue("KKKKK", (unsigned long long)it->version, (unsigned long long)it->applied,
@@ -323,11 +323,17 @@ static PyObject *committed(commitment *made, PyObject *item){
   Py_XDECREF(made->capture);
   PyObject *detail = is_lost ? Py_BuildValue("{sK}", "version", (unsigned long long)made->version) : Py_XNewRef(item);
   if( is_lost && detail == NULL ) return NULL;
-  /* 11 and 18 are refusals of the whole batch. */
-  int has_place = made->is_judged && made->fault.kind != 11 && made->fault.kind != 18;
+  /* These two refuse the whole batch. */
+  uint32_t kind = made->fault.kind;
+  int has_place = made->is_judged && kind != CHANGECAP_E_STALE && kind != CHANGECAP_E_NO_SESSION;
   failed(made->status, &made->fault, has_place ? (long long)made->fault.at : -1, detail);
   Py_XDECREF(detail);
   return NULL;
+}
+
+/* Whether something has changed that a transaction, or an application, looked at. */
+static int is_stale(const commitment *made){
+  return made->status == CHANGECAP_REFUSED && made->fault.kind == CHANGECAP_E_STALE;
 }
 
 /* Puts the operations into a batch and commits it, without the GIL. */
@@ -420,7 +426,7 @@ static void commit_transaction(client *self, transaction *of, commitment *made, 
   pthread_mutex_unlock(&of->own.mutex);
   if( made->status == CHANGECAP_OK ) commit_batch(self, &batch, made);
   item->status = CHANGECAP_MISUSE;
-  if( made->status == CHANGECAP_REFUSED && made->fault.kind == 11 ) read_item(&batch, made->fault.at, item);
+  if( is_stale(made) ) read_item(&batch, made->fault.at, item);
   changecap_batch_close(&batch);
 }
 
@@ -454,7 +460,7 @@ static void finish_application(client *self, application *of, commitment *made, 
   if( made->status == CHANGECAP_OK ) made->status = changecap_apply_end(&of->handle, &batch, &made->fault);
   pthread_mutex_unlock(&of->own.mutex);
   if( made->status == CHANGECAP_OK ) commit_batch(self, &batch, made);
-  if( made->status == CHANGECAP_REFUSED && made->fault.kind == 11 ) read_item(&batch, made->fault.at, item);
+  if( is_stale(made) ) read_item(&batch, made->fault.at, item);
   changecap_batch_close(&batch);
 }
 

@@ -3,7 +3,7 @@ use crate::call::{done, done_at, done_with_records, taken};
 use crate::handle::Owned;
 use crate::record::{self, Record};
 use crate::refused::{Refused, RefusedChange};
-use crate::{ffi, Batch, Change, ChangesetIter, ConflictAction, Error, RebaseBuffer, Report, Result};
+use crate::{ffi, Batch, Change, ChangesetIter, ConflictAction, Error, RebaseBuffer, Refusal, Report, Result};
 use crate::{Snapshot, Value, ValueRef};
 use std::ops::Deref;
 
@@ -109,9 +109,6 @@ impl Deref for ChangesetItem {
         &self.change
     }
 }
-
-/// The refusals of an application that have the number of a change: E15 Aborted and E16 Misuse.
-const OF_A_CHANGE: [u32; 2] = [15, 16];
 
 /// An application on a snapshot, with an iterator over the changes of its blob.
 pub(crate) struct Application {
@@ -219,7 +216,7 @@ impl Application {
             ConflictAnswer::Action(action) => done_at(
                 // SAFETY: the handle is open as long as the application is there.
                 |fault| unsafe { ffi::changecap_apply_answer(at, action.number(), fault) },
-                |kind| OF_A_CHANGE.contains(&kind),
+                Refusal::is_of_a_change,
             ),
             ConflictAnswer::Row(values) => {
                 let mut row = Vec::new();

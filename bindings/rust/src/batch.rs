@@ -135,7 +135,7 @@ impl Batch {
         match call(self.handle.at(), &mut fault) {
             ffi::OK => Ok(()),
             status => {
-                let error = Error::of(status, fault, |kind| !OF_NO_OPERATION.contains(&kind));
+                let error = Error::of(status, fault, |code| !OF_NO_OPERATION.contains(&code));
                 Err(self.named(error, fault.at))
             }
         }
@@ -182,7 +182,7 @@ impl Batch {
 }
 
 /// The refusals of a commit that have no operation: E11 Stale and E18 NoSession.
-const OF_NO_OPERATION: [u32; 2] = [11, 18];
+const OF_NO_OPERATION: [Refusal; 2] = [Refusal::Stale, Refusal::NoSession];
 
 /// Puts an insert last in a batch or a transaction, by its call.
 ///

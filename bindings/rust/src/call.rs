@@ -1,16 +1,16 @@
 //! What a call answers, by its status and what it writes.
 use crate::ffi;
-use crate::{Error, Result};
+use crate::{Error, Refusal, Result};
 
 /// Makes a call that has a fault.
 pub(crate) fn done(call: impl FnOnce(&mut ffi::Fault) -> u32) -> Result<()> {
     done_at(call, |_| false)
 }
 
-/// The same of a call whose refusals of some numbers have the number of an operation or of a change.
+/// The same of a call of which some refusals have the number of an operation or of a change.
 pub(crate) fn done_at(
     call: impl FnOnce(&mut ffi::Fault) -> u32,
-    has_part: impl Fn(u32) -> bool,
+    has_part: impl Fn(Refusal) -> bool,
 ) -> Result<()> {
     let mut fault = ffi::Fault::default();
     match call(&mut fault) {

@@ -66,9 +66,6 @@ pub struct Report {
     pub skipped: u64,
 }
 
-/// The refusals of an applied blob that have the number of a change: E15 Aborted and E16 Misuse.
-const OF_A_CHANGE: [u32; 2] = [15, 16];
-
 /// A client of a server, which makes one call at a time. It is lent by the server, and goes back when it is
 /// dropped. It may go to another thread; each thread has one of its own. A call that asks for the state of
 /// the server waits while another client's has it.
@@ -297,7 +294,7 @@ impl Client {
     ) -> Result<Report> {
         let mut report = ffi::Report::default();
         self.with(|client| {
-            done_at(|fault| call(client, &mut report, fault), |kind| OF_A_CHANGE.contains(&kind))
+            done_at(|fault| call(client, &mut report, fault), Refusal::is_of_a_change)
         })?;
         let ffi::Report { version, applied, conflicts, omitted, skipped } = report;
         Ok(Report { version, applied, conflicts, omitted, skipped })

@@ -79,9 +79,9 @@ pub enum Error {
 pub type Result<T> = std::result::Result<T, Error>;
 
 impl Error {
-    /// Why a call that answered this status failed. The refusals of some numbers have the number of an
-    /// operation or of a change.
-    pub(crate) fn of(status: u32, fault: ffi::Fault, has_part: impl Fn(u32) -> bool) -> Error {
+    /// Why a call that answered this status failed. Some refusals have the number of an operation or of a
+    /// change.
+    pub(crate) fn of(status: u32, fault: ffi::Fault, has_part: impl Fn(Refusal) -> bool) -> Error {
         let place = Fault { kind: fault.kind, at: fault.at };
         match status {
             ffi::MALFORMED => Error::Malformed(place),
@@ -90,7 +90,7 @@ impl Error {
             ffi::KIND => Error::OtherKind,
             ffi::COLUMNS => Error::OtherColumns,
             ffi::REFUSED => match Refusal::of(fault.kind) {
-                Some(code) => Refused::error(code, has_part(fault.kind).then_some(fault.at)),
+                Some(code) => Refused::error(code, has_part(code).then_some(fault.at)),
                 None => Error::Misuse,
             },
             ffi::COMMAND => Error::Command(place),

@@ -33,6 +33,11 @@ macro_rules! refusals {
                 }
             }
 
+            /// Whether it is of a change of an applied blob, and has the number of that.
+            pub(crate) fn is_of_a_change(self) -> bool {
+                matches!(self, Refusal::Aborted | Refusal::Misuse)
+            }
+
             /// Its name.
             pub fn name(self) -> &'static str {
                 match self {

@@ -87,7 +87,7 @@ int main(void){
     RIGHT(changecap_snapshot_open(&tablet, &snapshot));
     status = apply_newest(&tablet, &snapshot, changeset, n, &report, &fault);
     changecap_snapshot_close(&snapshot);
-  }while( status == CHANGECAP_REFUSED && fault.kind == 11 ); /* another thread has changed one of the rows */
+  }while( status == CHANGECAP_REFUSED && fault.kind == CHANGECAP_E_STALE ); /* one of the rows has changed */
   RIGHT(status);
   printf("%llu of %llu changes that met a conflict are omitted\n", (unsigned long long)report.omitted,
          (unsigned long long)report.conflicts);

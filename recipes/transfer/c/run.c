@@ -51,7 +51,7 @@ static int64_t transfer(changecap_client *client, int64_t from, int64_t to, int6
     RIGHT(changecap_end(&transaction, &batch));
     status = changecap_commit(client, &batch, &version, &fault);
     changecap_batch_close(&batch);
-  }while( status == CHANGECAP_REFUSED && fault.kind == 11 );
+  }while( status == CHANGECAP_REFUSED && fault.kind == CHANGECAP_E_STALE );
   RIGHT(status);
   return moved;
 }

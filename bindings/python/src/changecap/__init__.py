@@ -26,18 +26,24 @@ except ImportError as _error:
 from ._blobs import (EXAMPLE, Blob, Change, Given, Rebaser, Row, RowId, Value, check, concat, invert, iterate,
                      iterate_pieces, json, patchset, rebase_buffer)
 from ._errors import Conflict, Error, Malformed, NoFilter, NotOneCommand, Refused, Uncaptured
-from ._numbers import (ABORT, BUSY, CASCADE, CLIENTS, COLUMNS, COMMAND, CONFLICT, DATA, DIRECT, DONE, FILTER, FULL,
-                       KEYS_ONES, KEYS_PLACES, KIND, MALFORMED, MISUSE, NOMEM, NOTFOUND, OK, OMIT, OVERTAKEN, PATCHSET,
-                       REFUSED, REPLACE, ROOM, ROW)
+from ._numbers import (ABORT, BUSY, CASCADE, CLIENTS, COLUMNS, COMMAND, CONFLICT, DATA, DIRECT, DONE, E_ABORTED,
+                       E_BAD_COLUMN, E_BAD_FILTER, E_BAD_NAME, E_BAD_SCHEMA, E_DUPLICATE, E_IDS_SPENT,
+                       E_INCOMPATIBLE, E_MISUSE, E_NO_DATABASE, E_NO_MARK, E_NO_ROW, E_NO_SESSION, E_NO_TABLE,
+                       E_STALE, E_TABLE_EXISTS, E_TOO_DEEP, E_TOO_LONG, E_TOO_MANY, E_WRONG_WIDTH, FILTER, FULL,
+                       KEYS_ONES, KEYS_PLACES, KIND, MALFORMED, MISUSE, NOMEM, NOTFOUND, OK, OMIT, OVERTAKEN,
+                       PATCHSET, REFUSED, REPLACE, ROOM, ROW)
 from ._server import Capture, Decide, Key, Operation, Report, Server, Session, Snapshot, Transaction
 
 __version__ = _changecap.VERSION
 __all__ = [
     "ABORT", "BUSY", "CASCADE", "CLIENTS", "COLUMNS", "COMMAND", "CONFLICT", "DATA", "DIRECT", "DONE", "EXAMPLE",
-    "FILTER", "FULL", "KEYS_ONES", "KEYS_PLACES", "KIND", "MALFORMED", "MISUSE", "NOMEM", "NOTFOUND", "OK", "OMIT",
-    "OVERTAKEN", "PATCHSET", "REFUSED", "REPLACE", "ROOM", "ROW", "Blob", "Capture", "Change", "Conflict", "Decide",
-    "Error", "Given", "Key", "Malformed",
-    "NoFilter", "NotOneCommand", "Operation", "Rebaser", "Refused", "Report", "Row", "RowId", "Server", "Session",
-    "Snapshot", "Transaction", "Uncaptured", "Value", "check", "concat", "invert", "iterate", "iterate_pieces", "json",
-    "patchset", "rebase_buffer",
+    "E_ABORTED", "E_BAD_COLUMN", "E_BAD_FILTER", "E_BAD_NAME", "E_BAD_SCHEMA", "E_DUPLICATE", "E_IDS_SPENT",
+    "E_INCOMPATIBLE", "E_MISUSE", "E_NO_DATABASE", "E_NO_MARK", "E_NO_ROW", "E_NO_SESSION", "E_NO_TABLE", "E_STALE",
+    "E_TABLE_EXISTS", "E_TOO_DEEP", "E_TOO_LONG", "E_TOO_MANY", "E_WRONG_WIDTH", "FILTER", "FULL", "KEYS_ONES",
+    "KEYS_PLACES", "KIND", "MALFORMED", "MISUSE", "NOMEM", "NOTFOUND", "OK", "OMIT", "OVERTAKEN", "PATCHSET", "REFUSED",
+    "REPLACE", "ROOM", "ROW",
+    "Blob", "Capture", "Change", "Conflict", "Decide", "Error", "Given", "Key", "Malformed", "NoFilter",
+    "NotOneCommand", "Operation", "Rebaser", "Refused", "Report", "Row", "RowId", "Server", "Session", "Snapshot",
+    "Transaction", "Uncaptured", "Value", "check", "concat", "invert", "iterate", "iterate_pieces", "json", "patchset",
+    "rebase_buffer",
 ]

@@ -6,7 +6,7 @@ from collections.abc import Mapping
 from typing import TYPE_CHECKING, Any
 
 from . import _changecap
-from ._numbers import COMMAND, FILTER, MALFORMED, REFUSED
+from ._numbers import COMMAND, E_STALE, FILTER, MALFORMED, REFUSED
 
 if TYPE_CHECKING:
     from ._blobs import Change, RowId, Value
@@ -15,7 +15,6 @@ if TYPE_CHECKING:
 NAMES = ("TooLong", "BadSchema", "WrongWidth", "BadColumn", "Duplicate", "NoRow", "IdsSpent", "NoTable", "TableExists",
          "TooMany", "Stale", "BadFilter", "TooDeep", "Incompatible", "Aborted", "Misuse", "BadName", "NoSession",
          "NoDatabase", "NoMark")
-_STALE = 11
 
 
 class Error(Exception):
@@ -137,7 +136,7 @@ class Conflict(Refused):
 
     def __init__(self, table: str | None = None, row: tuple[Value, ...] | RowId | None = None,
                  text: str | None = None) -> None:
-        super().__init__(_STALE, None, text)
+        super().__init__(E_STALE, None, text)
         self.table, self.row = table, row
 
 
@@ -161,7 +160,7 @@ def refused_reply(reply: str) -> Refused:
     if found is None:
         return Refused(0, None, reply)
     at, kind = found[1], int(found[2])
-    return Conflict(text=reply) if kind == _STALE else Refused(kind, None if at is None else int(at), reply)
+    return Conflict(text=reply) if kind == E_STALE else Refused(kind, None if at is None else int(at), reply)
 
 
 def error_of(status: int, kind: int, place: int, at: int, detail: Mapping[str, Any] | None) -> Error:
@@ -169,7 +168,7 @@ def error_of(status: int, kind: int, place: int, at: int, detail: Mapping[str, A
     if detail is not None and "version" in detail:
         return Uncaptured(status, detail["version"])
     if status == REFUSED:
-        if kind == _STALE:
+        if kind == E_STALE:
             return Conflict(**detail) if detail else Conflict()
         return Refused(kind, None if at < 0 else at)
     for failed, made in ((MALFORMED, Malformed), (COMMAND, NotOneCommand), (FILTER, NoFilter)):

@@ -1,4 +1,4 @@
-"""The numbers of include/changecap.h that callers meet: statuses, key flags, answers and causes."""
+"""The numbers of include/changecap.h that callers meet: statuses, key flags, answers, causes and refusals."""
 
 OK, MALFORMED, ROOM, NOMEM, PATCHSET, MISUSE, REFUSED, COMMAND, FULL, ROW, DONE = 0, 1, 2, 3, 4, 5, 6, 7, 8, 100, 101
 KIND, COLUMNS, FILTER, BUSY, OVERTAKEN, CLIENTS = 9, 10, 11, 12, 13, 14
@@ -6,3 +6,7 @@ KEYS_ONES, KEYS_PLACES = 0, 1
 OMIT, REPLACE, ABORT = 0, 1, 2
 DATA, NOTFOUND, CONFLICT = 1, 2, 3
 DIRECT, CASCADE = 0, 1
+E_TOO_LONG, E_BAD_SCHEMA, E_WRONG_WIDTH, E_BAD_COLUMN, E_DUPLICATE = 1, 2, 3, 4, 5
+E_NO_ROW, E_IDS_SPENT, E_NO_TABLE, E_TABLE_EXISTS, E_TOO_MANY = 6, 7, 8, 9, 10
+E_STALE, E_BAD_FILTER, E_TOO_DEEP, E_INCOMPATIBLE, E_ABORTED = 11, 12, 13, 14, 15
+E_MISUSE, E_BAD_NAME, E_NO_SESSION, E_NO_DATABASE, E_NO_MARK = 16, 17, 18, 19, 20
