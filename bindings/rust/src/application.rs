@@ -3,7 +3,9 @@ use crate::call::{done, done_at, done_with_records, taken};
 use crate::handle::Owned;
 use crate::record::{self, Record};
 use crate::refused::{Refused, RefusedChange};
-use crate::{ffi, Batch, Change, ChangesetIter, ConflictAction, Error, RebaseBuffer, Refusal, Report, Result};
+use crate::{
+    ffi, Batch, Change, ChangesetIter, ConflictAction, Error, RebaseBuffer, Refusal, Report, Result,
+};
 use crate::{Snapshot, Value, ValueRef};
 use std::ops::Deref;
 

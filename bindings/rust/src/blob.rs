@@ -1,7 +1,7 @@
 //! Whole blobs.
 use crate::call::{done, taken, text_of};
 use crate::ffi;
-use crate::{ChangesetIter, Error, Result};
+use crate::{Change, ChangesetIter, ConflictAction, Error, RebaseBuffer, Result};
 use std::io::{Read, Write};
 
 /// What is written at each key column: `01`, as SQLite's documentation says, or the place within the key, as
@@ -146,6 +146,30 @@ impl Changeset {
     /// The changes, in their order.
     pub fn iter(&self) -> Result<ChangesetIter> {
         ChangesetIter::start(&self.0)
+    }
+
+    /// The rebase buffer of an application elsewhere, as by SQLite, for a [`Rebaser`](crate::Rebaser): the
+    /// function answers of each change how it was answered, or `None` where it met no conflict.
+    ///
+    /// ```
+    /// use changecap::{Changeset, ConflictAction::Omit};
+    /// let insert = [0x54, 2, 1, 0, b't', 0, 0x12, 0, 1, 0, 0, 0, 0, 0, 0, 0, 1, 3, 1, b'x'];
+    /// let changeset = Changeset::from_bytes(&insert)?;
+    /// assert!(changeset.rebase_buffer(|_| None)?.is_empty());
+    /// assert!(!changeset.rebase_buffer(|change| change.pk()[0].then_some(Omit))?.is_empty());
+    /// # Ok::<(), changecap::Error>(())
+    /// ```
+    pub fn rebase_buffer(
+        &self,
+        mut answer: impl FnMut(&Change) -> Option<ConflictAction>,
+    ) -> Result<RebaseBuffer> {
+        let mut changes = self.iter()?;
+        while let Some(change) = changes.next() {
+            if let Some(answer) = answer(&change) {
+                changes.answer(answer)?;
+            }
+        }
+        changes.buffer()
     }
 }
 

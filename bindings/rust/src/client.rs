@@ -293,9 +293,7 @@ impl Client {
         call: impl FnOnce(&mut ffi::Client, &mut ffi::Report, &mut ffi::Fault) -> u32,
     ) -> Result<Report> {
         let mut report = ffi::Report::default();
-        self.with(|client| {
-            done_at(|fault| call(client, &mut report, fault), Refusal::is_of_a_change)
-        })?;
+        self.with(|client| done_at(|fault| call(client, &mut report, fault), Refusal::is_of_a_change))?;
         let ffi::Report { version, applied, conflicts, omitted, skipped } = report;
         Ok(Report { version, applied, conflicts, omitted, skipped })
     }

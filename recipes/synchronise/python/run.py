@@ -1,4 +1,5 @@
 """Three clients change the same rows and synchronise, in each order. Prints the rows that all of them have then."""
+# ---- A run ----
 from itertools import permutations
 
 from synchronise import Client, Hub

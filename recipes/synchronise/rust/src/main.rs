@@ -1,10 +1,79 @@
-//! Three clients change the same rows and synchronise, in each order. Prints the rows that all of them have
-//! then.
-mod sqlite;
-mod synchronise;
+//! Databases of SQLite that change the same rows get in step through a hub. ../../README.md says how.
+use changecap::ConflictAction::{Abort, Omit, Replace};
+use changecap::{Changeset, KeyFlags, Rebaser, Result, Row, Server, Session};
+use sqlite::{Conflict, Database}; // in conformance/rust; rusqlite has its calls, too
 
-use changecap::{Result, Row};
-use synchronise::{Client, Hub};
+/// A table server with a session for each client. Its calls are made one at a time.
+struct Hub {
+    server: Server,
+    sessions: Vec<Session>,
+}
+
+impl Hub {
+    /// Applies what a client has changed, unless others have changed something since its last pull.
+    fn push(&self, number: usize, changeset: &Changeset) -> Result<bool> {
+        let session = &self.sessions[number];
+        if !session.is_empty()? {
+            return Ok(false);
+        }
+        session.set_enabled(false)?;
+        self.server.client()?.apply(changeset, Abort, Abort, Abort)?;
+        session.set_enabled(true)?;
+        Ok(true)
+    }
+}
+
+/// A database, and what it has changed and the hub does not have yet.
+struct Client {
+    number: usize,
+    database: Database,
+    pending: Changeset,
+}
+
+impl Client {
+    /// Applies what others have changed since the last pull, and rebases what is pending.
+    fn pull(&mut self, hub: &Hub) -> Result<()> {
+        let remote = hub.sessions[self.number].restart()?.changeset(KeyFlags::Places)?;
+        self.database.execute("BEGIN IMMEDIATE"); // nobody writes between the capture and the application
+        let captured = Changeset::from_bytes(&self.database.end_session())?;
+        let made = self.database.apply(remote.as_bytes(), newest);
+        self.database.begin_session();
+        self.database.execute("COMMIT");
+        let buffer = remote.rebase_buffer(|change| {
+            let id = change.key().next().and_then(|value| value.as_i64())?;
+            let is_made = made.get(&(change.table_name().to_owned(), id))?;
+            Some(if *is_made { Replace } else { Omit })
+        })?;
+        let mut rebaser = Rebaser::new();
+        rebaser.configure(&buffer);
+        let pending = Changeset::concat(&self.pending, &captured, KeyFlags::Places)?;
+        self.pending = rebaser.rebase(&pending, KeyFlags::Places)?;
+        Ok(())
+    }
+
+    /// Pulls, and then pushes what is pending.
+    fn synchronise(&mut self, hub: &Hub) -> Result<()> {
+        self.pull(hub)?;
+        while !hub.push(self.number, &self.pending)? {
+            self.pull(hub)?; // others came between: what they have changed is applied, and rebased over, too
+        }
+        self.pending = Changeset::from_bytes(&[])?;
+        Ok(())
+    }
+}
+
+/// Whether the hub's change is made, of those that are in conflict: the newest write of a row stays, by the stamp
+/// in its last column, and a deletion in any case. Each write changes all columns. Of a row that is not there it
+/// cannot be made.
+fn newest(conflict: &Conflict) -> bool {
+    match (conflict.new(2), conflict.row(2)) {
+        (_, None) => false,
+        (Some(theirs), Some(ours)) => theirs > ours,
+        (None, Some(_)) => true,
+    }
+}
+
+// ---- A run ----
 
 /// Who writes which row, and when.
 const WRITES: [(usize, i64, i64); 12] = [
@@ -32,10 +101,26 @@ fn write(client: &Client, row: i64, text: &str, stamp: i64) {
     ));
 }
 
+fn open_hub(clients: usize) -> Result<Hub> {
+    let server = Server::open_in_memory()?;
+    server.client()?.create_table("t", &[true, false, false])?;
+    let sessions: Result<Vec<Session>> = (0..clients).map(|_| Session::new(&server)).collect();
+    let sessions = sessions?;
+    sessions.iter().try_for_each(|session| session.attach(Some("t")))?;
+    Ok(Hub { server, sessions })
+}
+
+fn open_client(number: usize) -> Result<Client> {
+    let mut database = Database::open();
+    database.execute("CREATE TABLE t(id INTEGER PRIMARY KEY, text, stamp)");
+    database.begin_session();
+    Ok(Client { number, database, pending: Changeset::from_bytes(&[])? })
+}
+
 /// The rows of the hub and of each client, as text, after they have synchronised in an order.
 fn run([first, second, third]: [usize; 3]) -> Result<Vec<String>> {
-    let hub = Hub::open(3)?;
-    let mut clients = (0..3).map(Client::open).collect::<Result<Vec<Client>>>()?;
+    let hub = open_hub(3)?;
+    let mut clients = (0..3).map(open_client).collect::<Result<Vec<Client>>>()?;
     (1..=4).for_each(|row| write(&clients[0], row, "first", 10));
     clients.iter_mut().try_for_each(|client| client.synchronise(&hub))?;
     for (number, row, stamp) in WRITES {

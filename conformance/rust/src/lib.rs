@@ -1,5 +1,6 @@
-//! SQLite with its session extension: the calls of its library that the recipe makes.
-use changecap::ConflictAction;
+//! SQLite with its session extension: the calls of its library that the recipe synchronise makes. rusqlite, which no
+//! build here asks a registry for, has most of them.
+use std::collections::HashMap;
 use std::ffi::{c_char, c_int, c_void, CStr, CString};
 use std::ptr::{null, null_mut};
 
@@ -44,17 +45,51 @@ unsafe extern "C" {
     fn sqlite3changeset_conflict(change: *mut c_void, column: c_int, value: *mut *mut c_void) -> c_int;
 }
 
-const DELETE: c_int = 9;
 const INSERT: c_int = 18;
-const NOT_FOUND: c_int = 2;
 
-/// A conflict: the change's table, the integer in its first column, which is the key, and the integers in the
-/// third column after the change, unless it is a deletion, and of the row, where there is one.
+/// A change that has met a conflict, as long as it is decided.
 pub struct Conflict {
-    pub table: String,
-    pub id: i64,
-    pub theirs: Option<i64>,
-    pub ours: Option<i64>,
+    change: *mut c_void,
+}
+
+impl Conflict {
+    /// The change's table.
+    pub fn table(&self) -> String {
+        // SAFETY: the name is there as long as the change.
+        unsafe { CStr::from_ptr(self.op().0) }.to_str().unwrap().to_owned()
+    }
+
+    /// The integer of a column of the row before the change, or of an inserted one.
+    pub fn key(&self, column: i32) -> i64 {
+        let of = if self.op().1 == INSERT { sqlite3changeset_new } else { sqlite3changeset_old };
+        self.integer(of, column).unwrap()
+    }
+
+    /// The integer of a column after the change. A deletion has none.
+    pub fn new(&self, column: i32) -> Option<i64> {
+        self.integer(sqlite3changeset_new, column)
+    }
+
+    /// The integer of a column of the row that is there, if one is.
+    pub fn row(&self, column: i32) -> Option<i64> {
+        self.integer(sqlite3changeset_conflict, column)
+    }
+
+    fn op(&self) -> (*const c_char, c_int) {
+        let (mut table, mut columns, mut op, mut indirect) = (null(), 0, 0, 0);
+        // SAFETY: the change is there, and places of this function.
+        let code =
+            unsafe { sqlite3changeset_op(self.change, &mut table, &mut columns, &mut op, &mut indirect) };
+        assert_eq!(code, 0);
+        (table, op)
+    }
+
+    fn integer(&self, call: OnValue, column: i32) -> Option<i64> {
+        let mut value = null_mut();
+        // SAFETY: the change is there, and a place of this function; the value is there where it is set.
+        let code = unsafe { call(self.change, column, &mut value) };
+        (code == 0 && !value.is_null()).then(|| unsafe { sqlite3_value_int64(value) })
+    }
 }
 
 /// A database in memory, and a session on all of its tables.
@@ -63,8 +98,8 @@ pub struct Database {
     session: *mut c_void,
 }
 
-/// What a callback makes of a conflict.
-type Answer<'a> = &'a mut dyn FnMut(Conflict) -> ConflictAction;
+/// What decides whether a change in conflict is made.
+type Decide<'a> = &'a mut dyn FnMut(&Conflict) -> bool;
 
 impl Database {
     pub fn open() -> Database {
@@ -109,15 +144,23 @@ impl Database {
         }
     }
 
-    /// Applies a changeset. The function answers each conflict, in the order of the changes.
-    pub fn apply(&self, changeset: &[u8], mut answer: impl FnMut(Conflict) -> ConflictAction) {
-        let mut answer: Answer = &mut answer;
-        let (context, n): (*mut Answer, _) = (&mut answer, changeset.len() as c_int);
+    /// Applies a changeset. The function says whether a change in conflict is made; what it said is answered, by
+    /// the table and the integer in the first column, which is the key.
+    pub fn apply(
+        &self,
+        changeset: &[u8],
+        is_made: impl Fn(&Conflict) -> bool,
+    ) -> HashMap<(String, i64), bool> {
+        let mut said = HashMap::new();
+        let mut decide: Decide =
+            &mut |conflict| *said.entry((conflict.table(), conflict.key(0))).or_insert(is_made(conflict));
+        let (context, n): (*mut Decide, _) = (&mut decide, changeset.len() as c_int);
         // SAFETY: the database is open, a slice, and the context is what `on_conflict` takes.
         let code = unsafe {
             sqlite3changeset_apply(self.at, n, changeset.as_ptr().cast(), null(), on_conflict, context.cast())
         };
         assert_eq!(code, 0);
+        said
     }
 }
 
@@ -148,26 +191,9 @@ unsafe extern "C" fn note_row(
     0
 }
 
-/// SQLite calls this with a change that has met a conflict, and an answer as its context.
-unsafe extern "C" fn on_conflict(answer: *mut c_void, kind: c_int, change: *mut c_void) -> c_int {
-    let (mut table, mut columns, mut op, mut indirect) = (null(), 0, 0, 0);
-    // SAFETY: the change is there as long as this runs, and places of this function.
-    unsafe {
-        assert_eq!(sqlite3changeset_op(change, &mut table, &mut columns, &mut op, &mut indirect), 0);
-        let integer = |call: OnValue, column| {
-            let mut value = null_mut();
-            assert_eq!(call(change, column, &mut value), 0);
-            sqlite3_value_int64(value)
-        };
-        let id = integer(if op == INSERT { sqlite3changeset_new } else { sqlite3changeset_old }, 0);
-        let theirs = (op != DELETE).then(|| integer(sqlite3changeset_new, 2));
-        let ours = (kind != NOT_FOUND).then(|| integer(sqlite3changeset_conflict, 2));
-        let table = CStr::from_ptr(table).to_str().unwrap().to_owned();
-        let conflict = Conflict { table, id, theirs, ours };
-        match (*answer.cast::<Answer>())(conflict) {
-            ConflictAction::Omit => 0,
-            ConflictAction::Replace => 1,
-            ConflictAction::Abort => 2,
-        }
-    }
+/// SQLite calls this with a change that has met a conflict, and what decides it as its context. OMIT is 0, and
+/// REPLACE 1.
+unsafe extern "C" fn on_conflict(decide: *mut c_void, _: c_int, change: *mut c_void) -> c_int {
+    // SAFETY: the context is what `apply` gives, and the change is there as long as this runs.
+    unsafe { c_int::from((*decide.cast::<Decide>())(&Conflict { change })) }
 }
