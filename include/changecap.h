@@ -275,7 +275,8 @@ uint32_t changecap_iter_old_record(changecap_iter *it, void *out, size_t room, s
 uint32_t changecap_iter_new_record(changecap_iter *it, void *out, size_t room, size_t *len);
 
 /* Notes that the change met a conflict with this answer, CHANGECAP_OMIT or CHANGECAP_REPLACE, in an application
- * elsewhere, as by sqlite3changeset_apply. Once for each such change, in order. changecap_apply_iter notes its own.
+ * elsewhere. Once for each such change, in order. changecap_apply_iter notes its own, and changecap_sqlite_apply of
+ * changecap_sqlite.h those of an application by SQLite.
  *   OK, MISUSE (there is no change, or no such answer), NOMEM. */
 uint32_t changecap_iter_answer(changecap_iter *it, uint32_t answer);
 

@@ -99,9 +99,9 @@ class Refused(Error):
     ...     try:
     ...         server.commit(("insert", "t", (1, "x")), ("delete", "t", (2,)))
     ...     except changecap.Refused as refused:
-    ...         print(refused.kind, refused.name, refused.at, "-", refused)
+    ...         print(refused.kind == changecap.E_NO_ROW, refused.name, refused.at, "-", refused)
     1
-    6 NoRow 1 - refused at 1: E6 NoRow
+    True NoRow 1 - refused at 1: E6 NoRow
     """
 
     def __init__(self, kind: int, at: int | None = None, text: str | None = None,
