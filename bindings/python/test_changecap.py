@@ -273,7 +273,7 @@ class Servers(unittest.TestCase):
                 del session
             with self.assertRaises(changecap.Refused) as raised:
                 server.call(f"isempty {number}")
-            self.assertEqual(raised.exception.kind, 18)
+            self.assertEqual(raised.exception.kind, changecap.E_NO_SESSION)
             cycle = [server.session()]
             cycle.append(cycle)
             number = cycle[0].number
@@ -283,7 +283,7 @@ class Servers(unittest.TestCase):
             kept = [server.session() for _ in range(64)]
             with self.assertRaises(changecap.Refused) as raised:
                 server.session()
-            self.assertEqual(raised.exception.kind, 10)
+            self.assertEqual(raised.exception.kind, changecap.E_TOO_MANY)
             kept.pop().drop()
             kept.append(server.session())
             self.assertTrue(all(it.is_empty() for it in kept))
