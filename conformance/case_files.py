@@ -16,9 +16,11 @@ TARGET = "-- target"
 LEFT_OUT = {
     "apply/update-that-changes-nothing": "an update without a modified field",
     "tables/names-are-compared-by-bytes": "names that differ in case only",
+    "limits/dropped-database-makes-room": "more attached databases than SQLite takes",
     "limits/saved-database-17-is-refused": "more attached databases than SQLite takes",
     "limits/session-65-is-refused": "a limit of the program",
     "limits/table-65-is-refused": "a limit of the program",
+    "sessions/sessions-are-listed": "SQLite does not list what a session attaches",
 }
 
 

@@ -163,7 +163,9 @@ class Maker:
 
     def apply(self):
         content = self.pick(self.blobs) if self.blobs and self.chance(0.6) else self.blob_by_hand()
-        self.add(f"apply x'{content.hex()}' {self.policy()}{self.pick((' report', ' buffer', ''))}")
+        quiet = ",".join(str(self.session()) for _ in range(self.random.randint(1, 2)))
+        word = f"applyquiet {quiet}" if self.chance(0.3) else "apply"
+        self.add(f"{word} x'{content.hex()}' {self.policy()}{self.pick((' report', ' buffer', ''))}")
 
     # Sessions
 
@@ -185,6 +187,9 @@ class Maker:
 
     def save(self):
         self.add(f"save {self.pick(('old', 'older'))}")
+
+    def databases(self):
+        self.add(self.pick(("databases", "databases", f"dropdatabase {self.pick(('old', 'older'))}")))
 
     def diff(self):
         saved = sorted(self.server.saved) if self.server.saved and self.chance(0.9) else ("old", "older")
@@ -215,8 +220,8 @@ class Maker:
     def step(self):
         """One line of any kind."""
         weights = {self.commit: 45, self.commit_at: 2, self.apply: 9, self.capture: 8, self.ask: 4, self.set_flag: 8,
-                   self.attach: 6, self.filter: 3, self.new_session: 3, self.save: 2, self.diff: 4, self.create: 3,
-                   self.restart: 3, self.read: 6, self.drop: 1}
+                   self.attach: 6, self.filter: 3, self.new_session: 3, self.save: 2, self.databases: 1,
+                   self.diff: 4, self.create: 3, self.restart: 3, self.read: 6, self.drop: 1}
         self.random.choices(list(weights), list(weights.values()))[0]()
 
     def finish(self):

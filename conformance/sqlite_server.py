@@ -325,6 +325,18 @@ class SqliteServer:
         self.saved[name] = database
         return "ok"
 
+    def do_dropdatabase(self, name):
+        if name not in self.saved:
+            raise Refusal("E19 NoDatabase")
+        self.connection.execute(f"DETACH {quoted(self.saved.pop(name))}")
+        return "ok"
+
+    def do_databases(self):
+        """The attached databases but for main and temp, in the order of the bytes of their names."""
+        attached = {row[1] for row in self.connection.execute("PRAGMA database_list")}
+        names = sorted(name for name, database in self.saved.items() if database in attached)
+        return [f"databases {len(names)}"] + [quoted(name) for name in names]
+
     # Sessions
 
     def do_session(self):
@@ -408,6 +420,17 @@ class SqliteServer:
         if more == "buffer":
             return [counts, buffer_line(content, applied.conflicts, skipped)]
         return [counts, *report_lines(content, applied.conflicts, skipped)] if more == "report" else counts
+
+    def do_applyquiet(self, quiet, *application):
+        """The same, with the quiet sessions disabled around it."""
+        enabled = [state for state in {self.state(number) for number in quiet} if state.session.enable()]
+        for state in enabled:
+            state.session.enable(False)
+        try:
+            return self.do_apply(*application)
+        finally:
+            for state in enabled:
+                state.session.enable(True)
 
     def apply(self, content, answers):
         """Applies the blob, and returns what is seen of that and the numbers of the groups that SQLite skipped."""

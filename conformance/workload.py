@@ -177,14 +177,25 @@ def application_of(tokens):
     return blob, *answers, None if tokens.is_done() else tokens.word("report", "buffer")
 
 
+def quiet_application_of(tokens):
+    quiet = [tokens.number()]
+    while tokens.has_sign(","):
+        quiet.append(tokens.number())
+    return quiet, *application_of(tokens)
+
+
 FORMS = {
     "create": lambda tokens: (tokens.word(), tokens.word()),
     "commit": lambda tokens: (None, ops_of(tokens)),
     "commitat": lambda tokens: (tokens.number(), ops_of(tokens)),
     "apply": application_of,
+    "applyquiet": quiet_application_of,
     "get": lambda tokens: (tokens.word(), row_of(tokens)),
     "scan": lambda tokens: (tokens.word(),),
     "save": lambda tokens: (tokens.word(),),
+    "dropdatabase": lambda tokens: (tokens.word(),),
+    "databases": lambda tokens: (),
+    "sessions": lambda tokens: (),
     "session": lambda tokens: (),
     "drop": lambda tokens: (tokens.number(),),
     "attach": lambda tokens: (tokens.number(), tokens.word()),

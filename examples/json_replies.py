@@ -93,6 +93,26 @@ def applied_text(members, command):
     return "\n".join(lines)
 
 
+def name_text(name):
+    return '"' + name.replace('"', '""') + '"'
+
+
+def on_text(flag):
+    return "on" if flag else "off"
+
+
+def session_text(session):
+    if list(session) != ["session", "enabled", "indirect", "empty", "tables"]:
+        raise ValueError(f"{session!r} is no session")
+    flags = f"enable {on_text(session['enabled'])} indirect {on_text(session['indirect'])}"
+    return " ".join([f"{session['session']} {flags} isempty {str(session['empty']).lower()}",
+                     *map(name_text, session["tables"])])
+
+
+def listed(word, items, text_of_item):
+    return "\n".join([f"{word} {len(items)}", *map(text_of_item, items)])
+
+
 def refused_text(members):
     at = members.optional("at", " at ")
     refusal = members.text("refusal")
@@ -110,9 +130,13 @@ def text_of(members, command):
         return applied_text(members, command)
     if kind == "session":
         return f"session {members.number('session')}"
+    if kind == "databases":
+        return listed("databases", members.take("databases", list), name_text)
+    if kind == "sessions":
+        return listed("sessions", members.objects("sessions"), session_text)
     if kind == "flag":
         is_on = members.take("flag", bool)
-        return str(is_on).lower() if command.split()[0] == "isempty" else "on" if is_on else "off"
+        return str(is_on).lower() if command.split()[0] == "isempty" else on_text(is_on)
     if kind == "refused":
         return refused_text(members)
     version = members.number("version")

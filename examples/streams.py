@@ -9,6 +9,7 @@ import contextlib
 import os
 import pty
 import resource
+import signal
 import subprocess
 import time
 from subprocess import PIPE
@@ -133,6 +134,22 @@ def at_a_terminal(suite):
     suite.note(found == (b"session 1\nsession 2\n", prompts, 0), "shell at a terminal", f"{found}")
 
 
+def interrupted_line(suite):
+    """Ctrl-C at a terminal takes a line away that is not ended, and does not end a shell in which it is ignored."""
+    terminal, given = pty.openpty()
+    with started(suite, ["shell"], stdin=given,
+                 preexec_fn=lambda: signal.signal(signal.SIGINT, signal.SIG_IGN)) as ran:
+        os.close(given)
+        os.write(terminal, b"session\n")
+        first = ran.stdout.readline()
+        ran.send_signal(signal.SIGINT)
+        os.write(terminal, b"dro\x03session\n\x04")
+        found = first, *ended(ran)
+    os.close(terminal)
+    wanted = b"session 1\n", b"session 2\n", b"changecap> " * 3 + b"\n", 0
+    suite.note(found == wanted, "an interrupted line", f"{found}")
+
+
 def words_that_are_no_text(suite):
     """A command line that is not UTF-8 is refused."""
     out, err, status = suite.run([b"\xff"], b"")
@@ -188,6 +205,7 @@ def check(suite, workload, replies):
     check_workloads(suite, ["shell"], workload, replies)
     line_by_line(suite, workload, replies)
     at_a_terminal(suite)
+    interrupted_line(suite)
     for word, printed in (("show", SHOWN), ("invert", INVERTED), ("patchset", PATCHED), ("concat", BLOB + b"\n"),
                           ("rebase", BLOB + b"\n")):
         check_blob(suite, word, printed)

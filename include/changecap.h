@@ -488,6 +488,16 @@ uint32_t changecap_apply(changecap_client *client, const void *blob, size_t n, u
 uint32_t changecap_apply_iter(changecap_client *client, changecap_iter *it, uint32_t data, uint32_t notfound,
                               uint32_t conflict, changecap_report *report, changecap_fault *fault);
 
+/* Creates the tables of a blob, and applies it to them with CHANGECAP_ABORT as each answer: what changecap_dump wrote
+ * of one history and is loaded into another gives the same tables. The blob is read, and the tables as they are are
+ * looked at, before anything is made: where one of its tables is there already, or a change is no INSERT of a new row,
+ * nothing is. It is a command for each table, and one for the rows: where memory runs out among them, or a command by
+ * changecap_try_create comes between, the tables that were created stay.
+ *   OK (*report), REFUSED (*fault; of an application fault->at is the number of the change, from 0),
+ *   MALFORMED (*fault), NOMEM, FULL. */
+uint32_t changecap_load(changecap_client *client, const void *blob, size_t n, changecap_report *report,
+                        changecap_fault *fault);
+
 /* ---- Sessions ---- */
 
 /* Sessions have numbers, from 1 on, which every client may use. */
@@ -666,6 +676,14 @@ uint32_t changecap_snapshot_open(changecap_client *client, changecap_snapshot *s
 /* Sets *version to that of the tables.
  *   OK. */
 uint32_t changecap_snapshot_version(changecap_snapshot *snapshot, uint64_t *version);
+
+/* Writes a table as a changeset, with an INSERT for each row that has a key, in the order of the keys: a table without
+ * rows as a group without changes. What is written of several tables, one behind the other, is one changeset. A row
+ * without a key has no place in a changeset, and is left out; of a table without key columns there are no bytes.
+ *   OK (*len), ROOM (*len), MISUSE (no such key_flags, no table of the name), NOMEM.
+ * Unless the status is OK, out is as it was. */
+uint32_t changecap_dump(changecap_snapshot *snapshot, const void *table, size_t n, uint32_t key_flags, void *out,
+                        size_t room, size_t *len);
 
 /* Closes the snapshot and frees what it alone has. A closed one stays closed. */
 void changecap_snapshot_close(changecap_snapshot *snapshot);
@@ -849,14 +867,13 @@ uint32_t changecap_apply_answer_row(changecap_application *application, const vo
 
 /* Commits what the application left, once it is at the end: one event and one version. It may be made again.
  *   OK (*report), REFUSED (*fault: E_STALE, fault->at is the number of the first item that has changed since the
- *   snapshot, in the batch of changecap_apply_end; E_TOO_MANY, more than 10,000 rows have changed), MISUSE (it stands
- *   at a conflict, or is over), NOMEM, FULL. */
+ *   snapshot, in the batch of changecap_apply_end), MISUSE (it stands at a conflict, or is over), NOMEM, FULL. */
 uint32_t changecap_apply_finish(changecap_client *client, changecap_application *application, changecap_report *report,
                                 changecap_fault *fault);
 
 /* Opens a closed batch for changecap_commit that makes what the application left: an operation for each row that is not
  * as it was. What it looked at is the table and the row of each change.
- *   OK, REFUSED (*fault: E_TOO_MANY, more than 10,000 rows have changed), MISUSE, NOMEM.
+ *   OK, MISUSE, NOMEM.
  * Unless the status is OK the batch stays closed. */
 uint32_t changecap_apply_end(changecap_application *application, changecap_batch *batch, changecap_fault *fault);
 
@@ -875,13 +892,17 @@ void changecap_apply_close(changecap_application *application);
 /* ---- Calls that do not wait ---- */
 
 /* Each is the call of its name without try_, but answers CHANGECAP_BUSY where another call has the state, and has
- * changed nothing then. They take no NULL. changecap_try_apply is changecap_apply_iter. */
+ * changed nothing then. They take no NULL. changecap_try_apply is changecap_apply_iter, and changecap_try_load is
+ * changecap_load of what an iterator was opened on; where it answers CHANGECAP_BUSY after its first command, the tables
+ * that it created stay. */
 uint32_t changecap_try_call(changecap_client *client, const void *text, size_t n, changecap_fault *fault);
 uint32_t changecap_try_create(changecap_client *client, const void *table, size_t n, const void *key, size_t columns,
                               uint64_t *version, changecap_fault *fault);
 uint32_t changecap_try_save(changecap_client *client, const void *database, size_t n, changecap_fault *fault);
 uint32_t changecap_try_apply(changecap_client *client, changecap_iter *it, uint32_t data, uint32_t notfound,
                              uint32_t conflict, changecap_report *report, changecap_fault *fault);
+uint32_t changecap_try_load(changecap_client *client, changecap_iter *it, changecap_report *report,
+                            changecap_fault *fault);
 uint32_t changecap_try_session_new(changecap_client *client, uint64_t *session, changecap_fault *fault);
 uint32_t changecap_try_session_drop(changecap_client *client, uint64_t session, changecap_fault *fault);
 uint32_t changecap_try_session_attach(changecap_client *client, uint64_t session, const void *table, size_t n,
@@ -961,6 +982,8 @@ CHANGECAP_END(application, changecap_apply_close)
   changecap_capture_changeset(capture, key_flags, changecap_room(out), room, len)
 #define changecap_capture_patchset(capture, key_flags, out, room, len) \
   changecap_capture_patchset(capture, key_flags, changecap_room(out), room, len)
+#define changecap_dump(snapshot, table, n, key_flags, out, room, len) \
+  changecap_dump(snapshot, changecap_bytes(table), n, key_flags, changecap_room(out), room, len)
 #define changecap_insert(batch, table, n, row, len, cause, fault) \
   changecap_insert(batch, changecap_bytes(table), n, changecap_bytes(row), len, cause, fault)
 #define changecap_update(batch, table, n, key, m, id, fields, len, cause, fault) \

@@ -2,6 +2,8 @@
 from html import escape
 
 LEFT, STEP, LANE, TOP, SESSION = 104, 80, 36, 62, 54
+# What stands on a call whose word is too long for its box.
+SHORT = {"commitat": "commit", "applyquiet": "apply", "dropdatabase": "drop"}
 LETTERS = {"insert": "I", "update": "U", "delete": "D", "diff": "?"}
 STYLE = """
 .drawing { font: 12px system-ui, sans-serif; --ink: #1c2430; --soft: #5d6b7c; --line: #c9d1db; --ground: #ffffff;
@@ -95,7 +97,7 @@ def call_marks(point, points, y):
         parts.append(f'<circle cx="{x}" cy="{TOP}" r="{6 if point.kind == "write" else 4}" class="dot {point.kind}"/>')
     if point.kind == "write":
         parts.append(text(x - 8, TOP - 8, f"v{point.version}", "soft", "end"))
-    word = "commit" if call.command.word == "commitat" else call.command.word
+    word = SHORT.get(call.command.word, call.command.word)
     parts += [rectangle(x - 36, y - 11, 72, 22, f"call {point.kind}", 'rx="5"'), text(x, y + 4, word)]
     return [f'<g class="point" data-at="{point.number}">{about}{"".join(parts)}</g>']
 

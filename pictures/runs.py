@@ -1,8 +1,8 @@
 """Runs: the calls of a run in the order of its one history.
 
 A run is read from a workload and the replies that `changecap run` has printed, as text or with --json, or from a file of
-JSON lines, as record.py writes them. Whatever it is read from, it is a list of `Call`: who wants another form of runs writes another
-function that answers one.
+JSON lines, as record.py writes them. Whatever it is read from, it is a list of `Call`: who wants another form of runs
+writes another function that answers one.
 """
 import copy
 import json
@@ -14,6 +14,8 @@ import workload
 from server import Server
 
 WORKER = re.compile(r" *@([0-9]+) ")
+# The first line of a reply that says how many lines follow.
+COUNTED = re.compile(r"(?:rows|sessions|databases) ([0-9]+)$")
 MOST_STEPS = 200_000
 
 
@@ -107,9 +109,10 @@ def replies_of(printed, commands):
         if at >= len(lines):
             raise NoRun(f"there are {at} lines of replies, and no reply to: {command.line}")
         first, at = at, at + 1
-        if lines[first].startswith("rows "):
-            at += int(lines[first][len("rows "):])
-        elif command.word == "apply" and lines[first].startswith("ok "):
+        counted = COUNTED.match(lines[first])
+        if counted:
+            at += int(counted[1])
+        elif command.word in ("apply", "applyquiet") and lines[first].startswith("ok "):
             while at < len(lines) and lines[at].startswith(("conflict ", "omitted ", "skipped ", "buffer ")):
                 at += 1
         yield "\n".join(lines[first:at])

@@ -67,6 +67,14 @@ def in_order(key):
     return [blob.order(value) for value in key]
 
 
+def on_off(flag):
+    return "on" if flag else "off"
+
+
+def quoted(name):
+    return '"' + name.replace('"', '""') + '"'
+
+
 @dataclass
 class Record:
     """What a session has of a key: the row before its first touch, or None, and whether all touches were indirect."""
@@ -207,6 +215,15 @@ class Server:
         self.saved[name] = {table: it.copy() for table, it in self.tables.items()}
         return "ok"
 
+    def do_dropdatabase(self, name):
+        if name not in self.saved:
+            raise Refusal(19)
+        del self.saved[name]
+        return "ok"
+
+    def do_databases(self):
+        return "\n".join([f"databases {len(self.saved)}", *map(quoted, sorted(self.saved, key=str.encode))])
+
     # ---- Sessions
 
     def do_session(self):
@@ -244,15 +261,23 @@ class Server:
     def do_enable(self, number, value):
         session = self.session(number)
         session.enabled = session.enabled if value == "ask" else value == "on"
-        return "on" if session.enabled else "off"
+        return on_off(session.enabled)
 
     def do_indirect(self, number, value):
         session = self.session(number)
         session.indirect = session.indirect if value == "ask" else value == "on"
-        return "on" if session.indirect else "off"
+        return on_off(session.indirect)
 
     def do_isempty(self, number):
         return "false" if any(self.session(number).records.values()) else "true"
+
+    def do_sessions(self):
+        lines = [f"sessions {len(self.sessions)}"]
+        for number, session in self.sessions.items():
+            flags = f"enable {on_off(session.enabled)} indirect {on_off(session.indirect)}"
+            tables = map(quoted, session.records)
+            lines.append(" ".join([f"{number} {flags} isempty {self.do_isempty(number)}", *tables]))
+        return "\n".join(lines)
 
     def do_diff(self, number, database, name):
         session, now = self.session(number), self.tables.get(name)
@@ -305,6 +330,18 @@ class Server:
         return reply
 
     # ---- Applying
+
+    def do_applyquiet(self, quiet, *application):
+        """The same, and these sessions record nothing of it."""
+        sessions = {number: self.session(number) for number in quiet}.values()
+        enabled = [session for session in sessions if session.enabled]
+        for session in enabled:
+            session.enabled = False
+        try:
+            return self.do_apply(*application)
+        finally:
+            for session in enabled:
+                session.enabled = True
 
     def do_apply(self, content, data, notfound, conflict, more):
         policy = {"data": data, "notfound": notfound, "conflict": conflict}

@@ -4,9 +4,9 @@ from dataclasses import dataclass, field
 from server import Server
 from workload import row_text, value_text
 
-READS = "get", "scan", "isempty"
+READS = "get", "scan", "isempty", "sessions", "databases"
 CAPTURES = "changeset", "patchset", "restart"
-WRITES = "create", "commit", "commitat", "apply"
+WRITES = "create", "commit", "commitat", "apply", "applyquiet"
 
 
 @dataclass

@@ -229,6 +229,21 @@ uint32_t changecap_apply(changecap_client *client, const void *blob, size_t n, u
   return status;
 }
 
+static uint32_t load_opened(changecap_client *client, changecap_iter *it, changecap_report *report,
+                            changecap_fault *fault){
+  RETURN_LOCKED(client, changecap_try_load(client, it, report, fault));
+}
+
+uint32_t changecap_load(changecap_client *client, const void *blob, size_t n, changecap_report *report,
+                        changecap_fault *fault){
+  changecap_iter it = CHANGECAP_CLOSED;
+  uint32_t status = changecap_iter_open(blob, n, &it, fault);
+  if( status != CHANGECAP_OK ) return status;
+  status = load_opened(client, &it, report, fault);
+  changecap_iter_close(&it);
+  return status;
+}
+
 uint32_t changecap_commit(changecap_client *client, changecap_batch *batch, uint64_t *version, changecap_fault *fault){
 #if CHANGECAP_COMBINE
   return posted_commit(client->shared, client, batch, version, fault);

@@ -228,6 +228,34 @@ static int64_t sum_of_rows(changecap_client *client){
   return sum;
 }
 
+/* ---- Dump and load ---- */
+
+/* Makes the table t of a history on another one. The dump is at most so long. */
+static uint32_t copied(changecap_client *client, changecap_client *copy, uint8_t *out, size_t room){
+  changecap_snapshot snapshot = CHANGECAP_CLOSED;
+  changecap_report report;
+  changecap_fault fault;
+  size_t len;
+  uint32_t status = changecap_snapshot_open(client, &snapshot);
+  if( status != CHANGECAP_OK ) return status;
+  status = changecap_dump(&snapshot, "t", 1, CHANGECAP_KEYS_PLACES, out, room, &len);
+  changecap_snapshot_close(&snapshot);
+  if( status == CHANGECAP_OK ) status = changecap_load(copy, out, len, &report, &fault);
+  return status;
+}
+
+static void copied_tables(void){
+  changecap_client client = with_table(), copy = CHANGECAP_CLOSED;
+  changecap_fault fault;
+  uint8_t out[64];
+  CHECK(changecap_open(&copy) == CHANGECAP_OK);
+  CHECK(changecap_call(&client, "commit insert t (1,7)", 21, &fault) == CHANGECAP_OK);
+  CHECK(copied(&client, &copy, out, sizeof out) == CHANGECAP_OK && sum_of_rows(&copy) == 7);
+  CHECK(copied(&client, &copy, out, sizeof out) == CHANGECAP_REFUSED);
+  changecap_close(&copy);
+  changecap_close(&client);
+}
+
 /* ---- Several threads ---- */
 
 /* Adds to the second column of a row, which it reads, in a transaction of its own. */
@@ -308,5 +336,6 @@ void test_examples(void){
   applied_changesets();
   read_blobs();
   rebased_changesets();
+  copied_tables();
   shared_history();
 }

@@ -377,6 +377,81 @@ static void refused_sessions(void){
   }
 }
 
+/* ---- Dumps ---- */
+
+/* An empty table with a key of two columns, and the row (1,'x') of the table t. */
+#define TABLES "54030100026500" INSERT
+
+/* The tables e and t as they are, dumped one behind the other. */
+static uint32_t dumped(changecap_client *client, uint32_t key_flags, bytes *to){
+  static const char *const table[] = { "e", "t" };
+  changecap_snapshot snapshot = CHANGECAP_CLOSED;
+  uint32_t status = changecap_snapshot_open(client, &snapshot);
+  size_t all = 0;
+  for(size_t i = 0; status == CHANGECAP_OK && i < sizeof table / sizeof *table; i++){
+    size_t len = 0;
+    status = changecap_dump(&snapshot, table[i], 1, key_flags, to->at + all, to->n - all, &len);
+    all += len;
+  }
+  changecap_snapshot_close(&snapshot);
+  to->n = all;
+  return status;
+}
+
+static uint32_t loaded(changecap_client *client, const char *hex, changecap_report *report, changecap_fault *fault){
+  bytes blob = of_hex(hex, strlen(hex));
+  uint32_t status = changecap_load(client, blob.at, blob.n, report, fault);
+  free(blob.at);
+  return status;
+}
+
+static void worked_dumps(void){
+  changecap_client client = CHANGECAP_CLOSED;
+  changecap_fault fault = { 77, 77 };
+  changecap_report report = { 77, 77, 77, 77, 77 };
+  uint8_t room[64];
+  bytes made = { room, sizeof room };
+  CHECK(changecap_open(&client) == CHANGECAP_OK);
+  CHECK(dumped(&client, CHANGECAP_KEYS_PLACES, &made) == CHANGECAP_MISUSE && made.n == 0);
+  CHECK(loaded(&client, DELETE, &report, &fault) == CHANGECAP_REFUSED && fault.kind == 15 && fault.at == 0);
+  CHECK(loaded(&client, "5480", &report, &fault) == CHANGECAP_MALFORMED && fault.kind == 3 && fault.at == 1);
+  CHECK(report.version == 77);
+  CHECK(loaded(&client, TABLES, &report, &fault) == CHANGECAP_OK && is_report(report, 3, 1, 0, 0, 0));
+  CHECK(called(&client, "scan e", &fault) == CHANGECAP_OK && replies(&client, "rows 0"));
+  CHECK(called(&client, "scan t", &fault) == CHANGECAP_OK && replies(&client, "rows 1\n(1,'x')"));
+  CHECK(loaded(&client, INSERT, &report, &fault) == CHANGECAP_REFUSED && fault.kind == 9);
+  made.n = 26;
+  CHECK(dumped(&client, CHANGECAP_KEYS_PLACES, &made) == CHANGECAP_ROOM && made.n == 27);
+  made.n = sizeof room;
+  CHECK(dumped(&client, CHANGECAP_KEYS_PLACES, &made) == CHANGECAP_OK && is_hex(made, TABLES));
+  made.n = sizeof room;
+  CHECK(dumped(&client, 7, &made) == CHANGECAP_MISUSE);
+  changecap_close(&client);
+}
+
+/* Each request for memory is refused in turn: what was created before one stays, and is named by what comes again. */
+static void refused_dumps(void){
+  for(long at = 0, granted = 0; !granted; at++){
+    changecap_client client = CHANGECAP_CLOSED;
+    changecap_fault fault = { 0, 0 };
+    changecap_report report;
+    uint8_t room[64];
+    bytes made = { room, sizeof room };
+    uint32_t status;
+    refuse_behind(at);
+    granted = 1;
+    AGAIN(changecap_open(&client));
+    AGAIN(loaded(&client, TABLES, &report, &fault));
+    CHECK(status == CHANGECAP_OK ? is_report(report, 3, 1, 0, 0, 0) : status == CHANGECAP_REFUSED && fault.kind == 9);
+    if( status == CHANGECAP_OK ){
+      AGAIN(dumped(&client, CHANGECAP_KEYS_PLACES, &made));
+      CHECK(status == CHANGECAP_OK && is_hex(made, TABLES));
+    }
+    granted = none_refused() && granted;
+    changecap_close(&client);
+  }
+}
+
 /* A blob is applied just where it has no fault; and refused where it is applied once more, or it has no changes. */
 void application_agrees(bytes blob, uint32_t wanted, changecap_fault fault){
   static const uint32_t omit = CHANGECAP_OMIT, abort = CHANGECAP_ABORT;
@@ -408,4 +483,6 @@ void test_server(void){
   worked_applications();
   worked_differences();
   refused_sessions();
+  worked_dumps();
+  refused_dumps();
 }

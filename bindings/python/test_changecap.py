@@ -75,6 +75,32 @@ class Servers(unittest.TestCase):
                     server.apply(blob, **words)
                 self.assertEqual(str(raised.exception), wanted)
 
+    def test_dumps(self):
+        with changecap.Server() as server, changecap.Server() as copy:
+            self.assertEqual(server.snapshot().dump(), b"")
+            with self.assertRaises(changecap.Error) as raised:
+                server.snapshot().dump("e")
+            self.assertEqual(raised.exception.status, changecap.MISUSE)
+            server.create_table("e", [True, False, True])
+            server.create_table("t", [True, False])
+            server.create_table("u", [False])
+            server.commit(("insert", "t", (1, "x")), ("insert", "t", (None, "y")), ("insert", "u", (1,)))
+            dump = server.snapshot().dump("e", "t", "u")
+            self.assertEqual(dump, bytes.fromhex("54030100026500") + INSERT)
+            self.assertEqual(server.snapshot().dump("e", key_flags=changecap.KEYS_ONES)[:5].hex(), "5403010001")
+            self.assertEqual(copy.load(dump), changecap.Report(3, 1, 0, 0, 0))
+            self.assertEqual((copy.snapshot().dump("e", "t"), copy.scan("e")), (dump, []))
+            self.assertEqual([row.values for row in copy.scan("t")], [(1, "x")])
+        with changecap.Server() as server:
+            for blob, wanted in ((DELETE, "refused at 0: E15 Aborted: delete of t (1,)"), (b"T\x80", "fault D3 at 1")):
+                with self.assertRaises(changecap.Error) as raised:
+                    server.load(blob)
+                self.assertEqual(str(raised.exception), wanted)
+            server.load(INSERT)
+            with self.assertRaises(changecap.Refused) as raised:
+                server.load(INSERT)
+            self.assertEqual(str(raised.exception), "refused: E9 TableExists")
+
     def test_batches_and_rows(self):
         with changecap.Server() as server:
             server.create_table("t", [True, False])
@@ -666,6 +692,16 @@ class Examples(unittest.TestCase):
             server.commit(("update", "t", (1,), {1: "z"}), ("delete", "t", changecap.RowId(1)), base=version)
             rows = [row.values for row in server.scan("t")]
         self.assertEqual(rows, [(1, "z")])
+
+    def test_a_copy_of_the_tables(self):
+        with changecap.Server() as server:
+            server.create_table("t", [True, False])
+            server.commit(("insert", "t", (1, "x")))
+            dump = server.snapshot().dump("t")
+            with changecap.Server() as copy:
+                copy.load(dump)
+                rows = [row.values for row in copy.scan("t")]
+        self.assertEqual(rows, [(1, "x")])
 
     def test_threads(self):
         def add(transaction):

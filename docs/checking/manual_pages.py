@@ -79,7 +79,7 @@ def faults_of_calls(sources, text_of):
 
 def faults_of_completions(sources, everything):
     """The commands and the options that a completion lacks."""
-    commands = re.findall(r"^  (run|shell|show|invert|patchset|concat|rebase) ", everything, re.M)
+    commands = re.findall(r"^  (run|shell|show|check|summary|invert|patchset|concat|rebase) ", everything, re.M)
     for name in sorted(os.listdir(f"{sources.root}/{COMPLETIONS}")):
         with open(f"{sources.root}/{COMPLETIONS}/{name}", encoding="utf-8") as file:
             text = file.read()

@@ -9,9 +9,9 @@ _changecap() {
     done
     case $command in
         '') words='run shell show check summary invert patchset concat rebase --version' ;;
-        run) words='--threads --in-turn --json' ;;
-        shell) words='' ;;
-        show) words='--sql --json --binary --output' ;;
+        run) words='--threads --in-turn --json --explain --progress --no-progress' ;;
+        shell) words='--file --explain' ;;
+        show) words='--sql --json --jsonl --columns --binary --output' ;;
         check | summary) words='--output' ;;
         invert | patchset | concat | rebase) words='--binary --key-flags --output' ;;
         *) return ;;
@@ -19,12 +19,15 @@ _changecap() {
     words="$words --verbose --help"
     case $before in
         --key-flags) words='places ones' ;;
-        --threads) words='' ;;
-        -o | --output) words='' ;;
+        --threads | --columns) words='' ;;
+        -o | --output | -f | --file) words='' ;;
     esac
     # shellcheck disable=SC2207 # no word has a space
     COMPREPLY=($(compgen -W "$words" -- "$word"))
-    if [[ $command && $command != shell && $before != --key-flags && $before != --threads ]]; then
+    if [[ $command == shell && $before != -f && $before != --file ]]; then
+        return
+    fi
+    if [[ $command && $before != --key-flags && $before != --threads && $before != --columns ]]; then
         # shellcheck disable=SC2207 # a name with a space is left to the caller
         COMPREPLY+=($(compgen -f -- "$word"))
     fi

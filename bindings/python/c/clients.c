@@ -132,6 +132,17 @@ static PyObject *client_apply(client *self, PyObject *const *args, Py_ssize_t co
   return report_or_error(&made);
 }
 
+/* Takes a blob, whose tables are made. */
+static PyObject *client_load(client *self, PyObject *given){
+  applied made = { 0, 0, 0, CHANGECAP_OK, { 0, 0, 0, 0, 0 }, { 0, 0 } };
+  PyObject *blob = content_of(given);
+  if( blob == NULL ) return NULL;
+  CALL(self, made.status, changecap_load(&self->handle, PyBytes_AS_STRING(blob), (size_t)PyBytes_GET_SIZE(blob),
+                                         &made.report, &made.fault));
+  Py_DECREF(blob);
+  return report_or_error(&made);
+}
+
 /* Applies what changes are of, without the GIL. They are locked before the client, here alone. */
 static void apply_changes(client *self, changes *of, applied *made){
   pthread_mutex_lock(&of->own.mutex);
@@ -492,6 +503,7 @@ static PyMethodDef client_methods[] = {
   { "call", (PyCFunction)client_call, METH_O, NULL },
   { "create", FAST(create) },
   { "save", (PyCFunction)client_save, METH_O, NULL },
+  { "load", (PyCFunction)client_load, METH_O, NULL },
   { "apply", FAST(apply) },
   { "apply_changes", FAST(apply_changes) },
   { "apply_finish", (PyCFunction)client_apply_finish, METH_O, NULL },

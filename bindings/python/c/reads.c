@@ -51,6 +51,14 @@ static int take_question(PyObject *const *args, Py_ssize_t count, question *to){
     PyEval_RestoreThread(saved); \
   }while( 0 )
 
+/* The bytes that a call wrote, or the error of its status. Frees them. */
+static PyObject *bytes_written(uint32_t status, arena *out, size_t len){
+  PyObject *made = status == CHANGECAP_OK ? PyBytes_FromStringAndSize((char *)out->at, (Py_ssize_t)len)
+                                          : failed(status, &no_fault, -1, NULL);
+  arena_free(out);
+  return made;
+}
+
 /* ---- Snapshots ---- */
 
 static PyObject *ask_snapshot(snapshot *self, PyObject *const *args, Py_ssize_t count, asked what){
@@ -92,6 +100,21 @@ static PyObject *snapshot_begin(snapshot *self, PyObject *Py_UNUSED(none)){
   return failed(status, &no_fault, -1, NULL);
 }
 
+/* Takes a table and the key flags, and writes the table. */
+static PyObject *snapshot_dump(snapshot *self, PyObject *const *args, Py_ssize_t count){
+  arena out = { NULL, 0, 0 };
+  uint32_t flags, status;
+  size_t len = 0;
+  text table;
+  if( !has_arguments(count, 2) || !text_of(args[0], &table) || !word_of(args[1], &flags) ) return NULL;
+  PyThreadState *saved = enter(self);
+  if( self->handle.at == NULL ) status = CLOSED;
+  else WRITTEN(status, &out, FIRST_ROOM, len, changecap_dump(&self->handle, table.at, table.n, flags, out.at, out.room,
+                                                          &len));
+  leave(self, saved);
+  return bytes_written(status, &out, len);
+}
+
 static PyObject *snapshot_close(snapshot *self, PyObject *Py_UNUSED(none)){
   CLOSE(self, changecap_snapshot_close);
   Py_RETURN_NONE;
@@ -106,6 +129,7 @@ static PyMethodDef snapshot_methods[] = {
   { "scan", (PyCFunction)(void (*)(void))snapshot_scan, METH_FASTCALL, NULL },
   { "scan_from", (PyCFunction)(void (*)(void))snapshot_scan_from, METH_FASTCALL, NULL },
   { "version", (PyCFunction)snapshot_version, METH_NOARGS, NULL },
+  { "dump", (PyCFunction)(void (*)(void))snapshot_dump, METH_FASTCALL, NULL },
   { "begin", (PyCFunction)snapshot_begin, METH_NOARGS, NULL },
   { "apply", (PyCFunction)(void (*)(void))snapshot_apply, METH_FASTCALL, NULL },
   { "close", (PyCFunction)snapshot_close, METH_NOARGS, NULL },
@@ -234,10 +258,7 @@ static PyObject *written(capture *self, PyObject *key_flags, writing_call call){
   if( self->handle.at == NULL ) status = CLOSED;
   else WRITTEN(status, &out, FIRST_ROOM, len, call(&self->handle, flags, out.at, out.room, &len));
   leave(self, saved);
-  PyObject *made = status == CHANGECAP_OK ? PyBytes_FromStringAndSize((char *)out.at, (Py_ssize_t)len)
-                                          : failed(status, &no_fault, -1, NULL);
-  arena_free(&out);
-  return made;
+  return bytes_written(status, &out, len);
 }
 
 static uint32_t write_changeset(changecap_capture *of, uint32_t key_flags, void *out, size_t room, size_t *len){

@@ -168,6 +168,30 @@ impl Client {
         Ok(version)
     }
 
+    /// Creates the tables of a blob, and applies it to them: what [`Snapshot::dump`](crate::Snapshot::dump) wrote
+    /// of one server and is loaded into another gives the same tables. Refused where one of its tables is there
+    /// already, or a change is no INSERT of a new row, and then nothing is made.
+    ///
+    /// ```
+    /// use changecap::{Error, KeyFlags, Refusal, Server};
+    /// let client = Server::open_in_memory()?.client()?;
+    /// let insert = [0x54, 2, 1, 0, b't', 0, 0x12, 0, 1, 0, 0, 0, 0, 0, 0, 0, 1, 3, 1, b'x'];
+    /// assert_eq!(client.load(insert)?.applied, 1);
+    /// let dump = client.snapshot()?.dump(&["t"], KeyFlags::Places)?;
+    /// assert_eq!(dump.as_bytes(), insert);
+    /// let again = client.load(&dump);
+    /// assert!(matches!(again, Err(Error::Refused(why)) if why.code == Refusal::TableExists));
+    /// # Ok::<(), changecap::Error>(())
+    /// ```
+    pub fn load(&self, blob: impl AsRef<[u8]>) -> Result<Report> {
+        let blob = blob.as_ref();
+        // SAFETY: the client is open, and no other call has it. A slice, and places of the call.
+        self.applied(|client, report, fault| unsafe {
+            ffi::changecap_load(client, blob.as_ptr(), blob.len(), report, fault)
+        })
+        .map_err(|error| named(error, blob))
+    }
+
     /// Applies a changeset or a patchset: what is done where a row differs, where it is missing, and where
     /// its key is in use. A blob that is refused changes nothing, and the refusal names the change.
     pub fn apply(
@@ -224,8 +248,7 @@ impl Client {
     ///
     /// The blob is applied to a snapshot and committed as a transaction that looked at each row that a change
     /// names, so that no call of another thread comes between. Where one of those has changed it is applied
-    /// again, up to [`TRIES`] times. At most 10,000 rows change: more are refused with
-    /// [`Refusal::TooMany`](crate::Refusal::TooMany).
+    /// again, up to [`TRIES`] times.
     ///
     /// ```
     /// use changecap::{ConflictAction::{Abort, Omit, Replace}, ConflictAnswer, Server, ValueRef};

@@ -251,6 +251,13 @@ unsafe extern "C" {
         report: *mut Report,
         fault: *mut Fault,
     ) -> u32;
+    pub fn changecap_load(
+        client: *mut Client,
+        blob: *const u8,
+        n: usize,
+        report: *mut Report,
+        fault: *mut Fault,
+    ) -> u32;
     pub fn changecap_apply_iter(
         client: *mut Client,
         iter: *mut Handle,
@@ -405,6 +412,15 @@ unsafe extern "C" {
     pub fn changecap_snapshot_open(client: *mut Client, snapshot: *mut Handle) -> u32;
     pub fn changecap_snapshot_version(snapshot: *mut Handle, version: *mut u64) -> u32;
     pub fn changecap_snapshot_close(snapshot: *mut Handle);
+    pub fn changecap_dump(
+        snapshot: *mut Handle,
+        table: *const u8,
+        n: usize,
+        key_flags: u32,
+        out: *mut u8,
+        room: usize,
+        len: *mut usize,
+    ) -> u32;
     pub fn changecap_get(
         snapshot: *mut Handle,
         table: *const u8,

@@ -1,8 +1,9 @@
 //! Snapshots of the tables.
+use crate::call::taken;
 use crate::handle::Owned;
 use crate::params::record_of;
 use crate::row::{get, scan};
-use crate::{ffi, Params, Result, Row, RowName, Rows, Transaction};
+use crate::{ffi, Changeset, KeyFlags, Params, Result, Row, RowName, Rows, Transaction};
 
 /// The tables as they were at one point of the history. A snapshot stays as it is, whatever is committed,
 /// outlasts its server, and is read without waiting. Another thread may have it, one at a time.
@@ -57,6 +58,23 @@ impl Snapshot {
             let (at, table) = (self.handle.at(), table.as_ptr());
             ffi::changecap_scan_from(at, table, n, key.as_ptr(), key.len(), limit, rows, fault)
         })
+    }
+
+    /// These tables as one changeset, with an INSERT for each row that has a key, for
+    /// [`Client::load`](crate::Client::load). A table without rows is in it; a table without key columns and a row
+    /// without a key have no place in a changeset, and are not. [`Error::Misuse`](crate::Error::Misuse) where there
+    /// is no table of a name.
+    pub fn dump(&self, tables: &[&str], key_flags: KeyFlags) -> Result<Changeset> {
+        let mut all = Vec::new();
+        for table in tables {
+            // SAFETY: the handle is open as long as the snapshot is there, a slice, and the buffer of this call.
+            all.append(&mut taken(256, |out, len, _| unsafe {
+                let (name, at, room) = (table.as_ptr(), out.as_mut_ptr(), out.len());
+                let snapshot = self.handle.at();
+                ffi::changecap_dump(snapshot, name, table.len(), key_flags.number(), at, room, len)
+            })?);
+        }
+        Ok(Changeset(all))
     }
 
     /// Begins a transaction on the snapshot.

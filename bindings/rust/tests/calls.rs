@@ -527,6 +527,22 @@ fn commits_with_their_captures() {
 }
 
 #[test]
+fn dumps() {
+    let server = Server::open_in_memory().unwrap();
+    let client = server.client().unwrap();
+    let tables = of_hex(&["54030100026500", INSERT].concat());
+    let dump = |tables| client.snapshot().unwrap().dump(tables, KeyFlags::Places);
+    assert!(dump(&[]).unwrap().as_bytes().is_empty());
+    assert!(matches!(dump(&["t"]), Err(Error::Misuse)));
+    assert_eq!(refusal_of(client.load(of_hex(DELETE))), (Refusal::Aborted, Some(0)));
+    assert_eq!(client.load(&tables).unwrap().applied, 1);
+    assert_eq!(rows_of(&client, "t"), [vec![Value::Integer(1), Value::Text("x".into())]]);
+    assert_eq!(dump(&["e", "t"]).unwrap().as_bytes(), tables);
+    assert!(rows_of(&client, "e").is_empty());
+    assert_eq!(refusal_of(client.load(&tables)), (Refusal::TableExists, None));
+}
+
+#[test]
 fn applications() {
     let target = Server::open_in_memory().unwrap().client().unwrap();
     target.create_table("t", &[true, false]).unwrap();

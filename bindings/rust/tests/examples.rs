@@ -33,6 +33,23 @@ fn a_session_and_the_inverse_of_its_changeset() {
     assert!(Changeset::concat(&changeset, &inverse, KeyFlags::Places).unwrap().as_bytes().is_empty());
 }
 
+/// A server with the tables of another.
+fn copied(server: &Server) -> Result<Server> {
+    let dump = server.client()?.snapshot()?.dump(&["t"], KeyFlags::Places)?;
+    let copy = Server::open_in_memory()?;
+    copy.client()?.load(&dump)?;
+    Ok(copy)
+}
+
+#[test]
+fn a_copy_of_the_tables() {
+    let server = with_table().unwrap();
+    let client = server.client().unwrap();
+    client.apply(INSERT, ConflictAction::Abort, ConflictAction::Abort, ConflictAction::Abort).unwrap();
+    let rows = copied(&server).unwrap().client().unwrap().snapshot().unwrap().scan("t").unwrap();
+    assert_eq!(rows.count(), 1);
+}
+
 /// Applies a changeset where nothing is in the way, and else by other answers.
 fn applied(client: &Client, changeset: &[u8]) -> Result<Report> {
     use ConflictAction::{Abort, Omit, Replace};

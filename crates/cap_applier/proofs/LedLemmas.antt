@@ -1,6 +1,6 @@
 -- The transaction of an application leaves what the application left.
 use Rattle.std.proofs.Common.{◌≡◌, ◌⊎◌, inl, inr, ⊎_elim, ◌↔◌, ℕ, Bool, true, false, cond, Option, Some, None, Result, Ok, Err, List, [], ◌∷◌, ◌++◌, drop, length, map, refl, sym, ap, subst, ◌∙◌, Less, Equal, Greater, arith}
-use Rattle.std.specs.Prelude.{IfOk, ◌+◌, nat_lt, option_and_then}
+use Rattle.std.specs.Prelude.{IfOk, ◌+◌, option_and_then}
 use Rattle.std.specs.Ordering.{is_eq, is_lt}
 use Rattle.std.specs.declared.cmp.Ordering.{Ordering}
 use Rattle.std.specs.Cmp.{IsTotalOrder, tied_itself}
@@ -15,7 +15,6 @@ use Rattle.cap_value.specs.Memory.{AnswersUnlessMemory, LeavesUnlessMemory}
 use Rattle.cap_value.specs.declared.memory.Fault.{Fault}
 use Rattle.cap_value.specs.declared.memory.Fault.TheVariants.{Refused, OutOfMemory}
 use Rattle.cap_value.specs.declared.refusal.Refusal.{Refusal}
-use Rattle.cap_value.specs.declared.refusal.Refusal.TheVariants.{TooMany}
 use Rattle.cap_row.specs.Fields.{Fields}
 use Rattle.cap_row.specs.Key.{fields_cmp, fields_cmp-Equal, fields_cmp_total, fields_eq, fields_eq_decides, key_of}
 use Rattle.cap_row.specs.Row.{are_columns, columns_of, row_with}
@@ -35,12 +34,13 @@ use Rattle.cap_database.specs.declared.op.Op.{Op as Change}
 use Rattle.cap_database.specs.declared.op.Action.TheVariants.{Insert, Update, Delete}
 use Rattle.cap_database.proofs.KeptKeyLemmas.{row-found}
 use Rattle.cap_database.proofs.KeptLemmas.{each-found, each-put}
-use Rattle.cap_txn.specs.Batch.{refused_push}
-use Rattle.cap_txn.specs.Calls.{done}
+use Rattle.cap_txn.specs.Calls.{answer_to, done}
 use Rattle.cap_txn.specs.Calls as calls
 use Rattle.cap_txn.specs.Standing.{IsStanding, Leaves}
-use Rattle.cap_txn.specs.Transaction.{TxnState, begin_traced, traced}
-use Rattle.cap_txn.specs.Workspace.{WorkspaceState, after_op, op_made, op_unless}
+use Rattle.cap_txn.specs.Transaction.{IsAnswered, TxnState, begin_traced, traced}
+use Rattle.cap_txn.specs.Workspace.{WorkspaceState, after_op, op_made}
+use Rattle.cap_txn.specs.declared.look.Answer.TheVariants.{Done}
+use Rattle.cap_txn.specs.declared.look.Asked.{Asked}
 use Rattle.cap_txn.specs.declared.look.Asked.TheVariants.{Op, Get}
 use Rattle.cap_txn.proofs.StandingLemmas.{begin-stands, op-stands}
 use Rattle.cap_apply.specs.Apply.{and_then, with_row}
@@ -89,19 +89,10 @@ module _ {K X : Type 0} (R : K → K → Ordering) (o : IsTotalOrder R) where
         | Greater ↦ λ p. ap (λ r. cond (is_eq r) (Some e.1) (get R (take_entry R es k) k)) p ∙ taken-out es k (second (below_all R e.0 es) (is_sorted R es) s)
       ] refl
 
--- ---- a transaction has too many operations
-
-many : (b : Bool) (why : Refusal) → cond b None (Some TooMany) ≡ Some why → why ≡ TooMany
-many true why is = cc
-many false why is = sym (same_Some TooMany why is)
-
 not-both : {X : Type 0} (o : Option X) (x : X) → o ≡ None → o ≡ Some x → ⊥
 not-both o x none some = let e : None ≡ Some x = sym none ∙ some in cc
 
 module _ {A : Type 0} where
-  only_many : (txn : TxnState A) (why : Refusal) → refused_push txn.standing.ops ≡ Some why → why ≡ TooMany
-  only_many txn why is = many (nat_lt (length txn.standing.ops) 10000) why is
-
   every_column : (from : ℕ) (row : Fields A) → enumerate_from from row ≡ assigned_from from (map Some row)
   every_column from [] = refl
   every_column from (value ∷ row) = ap (λ r. (from, value) ∷ r) (every_column (from + 1) row)
@@ -144,7 +135,7 @@ module _ {A : Type 0} where
 
   abbrev LedTo : Tables A → Tables A → List ℕ → Fields A → Result (TxnState A) Refusal → Type 0
   LedTo left before name key (Ok txn) = Led left before name key txn.standing.database
-  LedTo left before name key (Err why) = why ≡ TooMany
+  LedTo left before name key (Err why) = ⊥
 
   -- under the key is what was put there
   put-at : (tables : Tables A) (name : List ℕ) (table : TableState A) (key : Fields A) → IsRising table → (after : Option (Fields A)) → row_at (put_entry bytes_cmp tables name (with_row table key after)) name key ≡ after
@@ -155,7 +146,7 @@ module _ {A : Type 0} where
       ap (option_and_then (λ (t : TableState A). get fields_cmp t.keyed key)) (get_put bytes_cmp name (with_row table key (Some row)) (tied_itself nat_list_cmp_total name) tables)
       ∙ get_put fields_cmp key row (tied_itself fields_cmp_total key) table.keyed
 
-  -- an operation that puts the row that was left under the key, or takes the row out, unless there are too many
+  -- an operation that puts the row that was left under the key, or takes the row out
   module _ (left : Tables A) (txn : TxnState A) (same : SameOthers left txn.standing.database) (each : EachRises txn.standing.database) (name : List ℕ) (key : Fields A) (table : TableState A)
       (there : table_of txn.standing.database name ≡ Some table) (after : Option (Fields A)) (is_left : row_at left name key ≡ after) (rises : IsRising (with_row table key after))
       (action : Action A) (acts : act table action ≡ Ok (with_row table key after)) where
@@ -176,20 +167,15 @@ module _ {A : Type 0} where
         → LedTo left D name key (made_in name (Some action) txn)
     told r is h = subst (λ x. LedTo left D name key (unless_refused (done x) (record (traced txn (Op its_op)) { standing = calls.unless_refused txn.standing x }))) (sym is) h
 
-    unless : (o : Option Refusal) → refused_push txn.standing.ops ≡ o → LedTo left D name key (made_in name (Some action) txn)
-    unless (Some why) is = told (Err why) (ap (λ o. op_unless o txn.standing its_op) is) (only_many txn why is)
-    unless None is =
-        told (Ok (record txn.standing { database = put; ops = txn.standing.ops ++ its_op ∷ [] }))
-        (ap (λ o. op_unless o txn.standing its_op) is ∙ ap (op_made txn.standing its_op) steps)
+    made-led : LedTo left D name key (made_in name (Some action) txn)
+    made-led =
+        told (Ok (record txn.standing { database = put; ops = txn.standing.ops ++ its_op ∷ [] })) (ap (op_made txn.standing its_op) steps)
         (record {
           at = put-at D name table key (each-found IsRising D name table each there) after ∙ sym is_left;
           beside = λ other its apart. put_stays D name table there key after other its apart;
           others = λ other. put-others D name table there key after other ∙ same other;
           each = each-put IsRising D name (with_row table key after) each rises;
         })
-
-    made-led : LedTo left D name key (made_in name (Some action) txn)
-    made-led = unless (refused_push txn.standing.ops) refl
 
   module _ (left : Tables A) (lefts : EachRises left) (txn : TxnState A) (same : SameOthers left txn.standing.database) (each : EachRises txn.standing.database) (name : List ℕ) (key : Fields A) where
     abbrev now : Tables A
@@ -247,7 +233,7 @@ module _ {A : Type 0} where
   AllLed left before rows (Ok txn) =
       ((name : List ℕ) (key : Fields A) → (row_at txn.standing.database name key ≡ row_at left name key) ⊎ ((row_at txn.standing.database name key ≡ row_at before name key) × (IsAmong name key rows → ⊥)))
       × SameOthers left txn.standing.database
-  AllLed left before rows (Err why) = why ≡ TooMany
+  AllLed left before rows (Err why) = ⊥
 
   module _ (left : Tables A) (lefts : EachRises left) where
     one-more : (before : Tables A) (row : List ℕ × Fields A) (rows : List (List ℕ × Fields A)) (mid : Tables A) → Led left before row.0 row.1 mid → (r : Result (TxnState A) Refusal) → AllLed left mid rows r → AllLed left before (row ∷ rows) r
@@ -280,6 +266,15 @@ module _ {A : Type 0} where
         go further (Err why) h = h
         go further (Ok after) h = one-more txn.standing.database row rows after.standing.database h (rows_led left rows after) (further after h.others h.each)
 
+  -- ---- one operation
+
+  -- what a call that was answered leaves
+  pub made-answered : (r : Result (Unit {0}) (Fault Refusal)) (call : Asked A) (old new : TxnState A) → IsAnswered (λ _. Done) r call old new
+      → LeavesUnlessMemory r (unless_refused (answer_to old.standing call) (traced old call)) new
+  made-answered (Ok x) call old new h = ap (λ a. unless_refused a (traced old call)) (sym h.0) ∙ ap Ok (sym h.1)
+  made-answered (Err (Refused why)) call old new h = ap (λ a. unless_refused a (traced old call)) (sym h.0)
+  made-answered (Err OutOfMemory) call old new h = tt
+
   -- ---- a loop over the rows
 
   module _ (left : Tables A) (rows : List (List ℕ × Fields A)) (i : ℕ) (row : List ℕ × Fields A) (front : drop i rows ≡ row ∷ drop (i + 1) rows) (txn : TxnState A) where
@@ -304,14 +299,10 @@ module _ {A : Type 0} where
   made-base txn op base is (Ok after) = is
   made-base txn op base is (Err why) = tt
 
-  on-base : (txn : WorkspaceState A) (op : Change A) (base : SnapshotState A) → txn.base ≡ base → (o : Option Refusal) → IfOk (op_unless o txn op) (λ next. next.base ≡ base)
-  on-base txn op base is (Some why) = tt
-  on-base txn op base is None = made-base txn op base is (step txn.database op)
-
   made-stands : (base : SnapshotState A) (name : List ℕ) (o : Option (Action A)) (txn : TxnState A) → StandsOn base txn → IfOk (made_in name o txn) (StandsOn base)
   made-stands base name None txn h = h
   made-stands base name (Some action) txn h =
-      go (after_op txn.standing (directly name action)) (op-stands txn.standing (directly name action) h.0) (on-base txn.standing (directly name action) base h.1 (refused_push txn.standing.ops))
+      go (after_op txn.standing (directly name action)) (op-stands txn.standing (directly name action) h.0) (made-base txn.standing (directly name action) base h.1 (step txn.standing.database (directly name action)))
     where
       go : (r : Result (WorkspaceState A) Refusal) → IfOk r IsStanding → IfOk r (λ next. next.base ≡ base)
           → IfOk (unless_refused (done r) (record (traced txn (Op (directly name action))) { standing = calls.unless_refused txn.standing r })) (StandsOn base)
@@ -346,8 +337,8 @@ module _ {A : Type 0} where
         others = h.1;
       }
 
-  pub refused-many : (base : SnapshotState A) (s : ApplierState A) (why : Refusal) → EachRises base.database → EachRises s.progress.applied.database → KeepsTo base.database s → transaction_of base s ≡ Err why → why ≡ TooMany
-  refused-many base s why each lefts keeps is =
+  pub never-refused : (base : SnapshotState A) (s : ApplierState A) (why : Refusal) → EachRises base.database → EachRises s.progress.applied.database → KeepsTo base.database s → transaction_of base s ≡ Err why → ⊥
+  never-refused base s why each lefts keeps is =
       subst (AllLed s.progress.applied.database base.database (looked_at s.filter s.blob)) is (all-led base s each lefts keeps)
 
   pub accepted-on : (base : SnapshotState A) (s : ApplierState A) (txn : TxnState A) → transaction_of base s ≡ Ok txn → Leaves base.database txn.standing.ops txn.standing.database

@@ -192,7 +192,7 @@ impl<A: AllocHandle> Applier<A> {
 
     /// A transaction on the snapshot with which the application began, which makes what is applied so far: it
     /// looks at each row that a change names, of the tables that the filter accepts, and has one operation for
-    /// each that is not as it was. Refused with `TooMany` where there are more than `cap_txn::OPS_MAX` of those.
+    /// each that is not as it was, however many. On the snapshot with which it began it is never refused.
     pub fn transaction(&self, snapshot: &Snapshot<A>) -> Result<Txn<A>, Fault<Refusal>>
         ensures { AnswersUnlessMemory result (transaction_of snapshot.now self.now) }
     {

@@ -80,7 +80,7 @@ fn make_action<A: AllocHandle>(
                 cause: Cause::Direct,
                 action,
             };
-            txn.op(op)
+            txn.op_without_limit(op)
         }
         None => Ok(()),
     }

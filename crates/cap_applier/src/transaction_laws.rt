@@ -1,7 +1,6 @@
 //! Laws of applications that are committed as transactions. The functions do nothing when they run.
 ghost use Rattle.std.specs.Prelude.{◌≡◌, Err, IfOk, Ok, Option};
 ghost use Rattle.cap_value.specs.declared.refusal.Refusal.{Refusal};
-ghost use Rattle.cap_value.specs.declared.refusal.Refusal.TheVariants.{TooMany};
 ghost use Rattle.cap_row.specs.Fields.{Fields};
 ghost use Rattle.cap_filter.specs.Rule.{Rule};
 ghost use Rattle.cap_codec.specs.declared.read.Contents.{Contents};
@@ -30,7 +29,7 @@ pub fn applications_keep_to_the_rows_that_they_look_at<A: AllocHandle>()
 {}
 
 /// The transaction of an application leaves the tables with the rows that the application left, by operations
-/// that are all accepted on the snapshot. It is refused for nothing but too many operations.
+/// that are all accepted on the snapshot. It is never refused, however many operations it has.
 pub fn a_transaction_leaves_what_the_application_left<A: AllocHandle>()
     ensures rows { (base : SnapshotState A) (s : ApplierState A) (txn : TxnState A)
         → EachRises base.database → EachRises s.progress.applied.database → KeepsTo base.database s
@@ -39,5 +38,5 @@ pub fn a_transaction_leaves_what_the_application_left<A: AllocHandle>()
         → transaction_of base s ≡ Ok txn → Leaves base.database txn.standing.ops txn.standing.database }
     ensures refused { (base : SnapshotState A) (s : ApplierState A) (why : Refusal)
         → EachRises base.database → EachRises s.progress.applied.database → KeepsTo base.database s
-        → transaction_of base s ≡ Err why → why ≡ TooMany }
+        → transaction_of base s ≡ Err why → ⊥ }
 {}

@@ -1,7 +1,7 @@
 -- What a call leaves with its caller, by the answer of the library's call. Each status that the header does
 -- not name for an output leaves it as it was.
 use Rattle.std.specs.Prelude.{◌≡◌, ℕ, Bool, Option, Some, None, Result, Ok, Err}
-use Rattle.std.specs.Prelude.{if◌then◌else◌}
+use Rattle.std.specs.Prelude.{[], if◌then◌else◌}
 use Rattle.std.specs.Result.{result_unwrap_or}
 use Rattle.cap_value.specs.declared.memory.Fault.{Fault}
 use Rattle.cap_value.specs.declared.memory.Fault.TheVariants as stop
@@ -138,5 +138,5 @@ module _ {X : Type 0} where
 -- What an iterator was opened on is applied, or misuse where the policy means nothing.
 abbrev pub AppliesBy : Option Policy → IterState → IterState → ConnectionState → ConnectionState →
     Result Applied (Fault ConnectionFault) → Type 0
-AppliesBy (Some policy) before after old new answer = Applies policy before after old new answer
+AppliesBy (Some policy) before after old new answer = Applies policy [] before after old new answer
 AppliesBy None before after old new answer = (answer ≡ misused) × (new ≡ old) × (after ≡ before)

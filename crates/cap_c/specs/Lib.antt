@@ -4,6 +4,7 @@ pub mod Batch
 pub mod Bits
 pub mod Captured
 pub mod Client
+pub mod Dumped
 pub mod Fault
 pub mod Handle
 pub mod Items

@@ -20,6 +20,7 @@ mod client_handle;
 mod concat;
 mod decoder_calls;
 mod decoder_handle;
+mod dumps;
 mod fault;
 mod held;
 mod items;

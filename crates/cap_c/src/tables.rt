@@ -13,6 +13,7 @@ use crate::iter_handle::{self, IterHandle};
 use crate::numbers::policy_of;
 use cap_apply::Policy;
 use cap_connection::{Applied, BlobIter, Connection, ConnectionFault};
+use cap_core::QuietSessions;
 use cap_value::Fault;
 use std::alloc::Global;
 
@@ -115,7 +116,7 @@ fn apply(
     ensures { AppliesBy policy it.old it.new connection.old connection.new result }
 {
     match policy {
-        Some(policy) => connection.apply(alloc, it, policy),
+        Some(policy) => connection.apply(alloc, it, policy, QuietSessions::none(alloc)),
         None => Err(Fault::Refused(ConnectionFault::Misuse)),
     }
 }

@@ -186,7 +186,7 @@ module _ {A : Type 0} where
       on = ap (λ t. unwrap_or (cond t (Some true) None) (is_enabled session (reverse h))) (same_number session)
 
       steady : IsSteady session (f ∷ later) start
-      steady = (on, refl, (on, refl, (on, refl, (on, refl, tt))))
+      steady = ((on, refl), refl, ((on, refl), refl, ((on, refl), refl, ((on, refl), refl, tt))))
 
       -- the two captures are read back, and have a concatenation
       module _ (reads : ReadsBack A) (law : IsOneCapture A) (writable : IsWritable (Changes one.changes)) (writable' : IsWritable (Changes two.changes)) where

@@ -66,7 +66,7 @@ module _ {A : Type 0} where
       no_write (command.Restart number) is = refl
       no_write (command.CreateTable name schema) is = cc
       no_write (command.Commit batch) is = cc
-      no_write (command.Apply blob policy) is = cc
+      no_write (command.Apply blob policy quiet) is = cc
       no_write _ is = refl
 
   pub sooner-none : (first later : Option (Option (Fields A))) → sooner first later ≡ None → (first ≡ None) × (later ≡ None)

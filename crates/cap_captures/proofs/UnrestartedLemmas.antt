@@ -1,10 +1,11 @@
 -- A session that has captures in place of its restarts captures in the end what it would over its restarts.
-use Rattle.std.proofs.Common.{◌≡◌, ℕ, ◌+◌, Bool, true, false, cond, Option, Some, None, Result, List, [], ◌∷◌, ◌++◌, ◌&&◌, ◌||◌, suc, length, map, refl, sym, ap, subst, ◌∙◌, nat_eq}
+use Rattle.std.proofs.Common.{◌≡◌, ℕ, ◌+◌, Bool, true, false, cond, Option, Some, None, Result, List, [], ◌∷◌, ◌++◌, ◌&&◌, ◌||◌, suc, length, map, refl, sym, ap, ap₂, subst, ◌∙◌, nat_eq}
 use Rattle.std.specs.Prelude.{filter}
 use Rattle.std.specs.Option.{option_map, unwrap_or}
 use Rattle.std.specs.List.{enumerate_from, filter_map}
 use Rattle.cap_database.specs.Read.{row_at}
 use Rattle.cap_database.specs.Snapshot.{SnapshotState}
+use Rattle.cap_database.specs.Tables.{Tables}
 use Rattle.cap_database.specs.declared.change.Change.{Change}
 use Rattle.cap_compare.specs.declared.difference.Difference.{Difference}
 use Rattle.cap_session.specs.Recording.{is_cascade}
@@ -14,8 +15,8 @@ use Rattle.cap_core.specs.declared.command.Command.TheVariants as command
 use Rattle.cap_core.specs.declared.event.Event.{Event}
 use Rattle.cap_core.specs.Capture.{changes_of, session_changes}
 use Rattle.cap_core.specs.Diff.{diff}
-use Rattle.cap_core.specs.Flags.{asks_enabled, asks_for_all, asks_indirect, filter_set, is_enabled, is_indirect, last_filter, later, rule, rule_by, wants_all}
-use Rattle.cap_core.specs.History.{effect_of, event_effect, is_write, main, name_saved, save_under, saved, snapshot, version}
+use Rattle.cap_core.specs.Flags.{asks_enabled, asks_for_all, asks_indirect, filter_set, is_enabled, is_indirect, is_quiet, last_filter, later, rule, rule_by, wants_all}
+use Rattle.cap_core.specs.History.{Databases, effect_of, event_effect, is_write, main, saved, saved_after, snapshot, version}
 use Rattle.cap_core.specs.Outcome.{Effect, Refused, no_effect, outcome}
 use Rattle.cap_core.specs.Past.{Past, is_accepted}
 use Rattle.cap_core.specs.Restarts.{touches_over}
@@ -33,19 +34,20 @@ module _ {A : Type 0} (session : ℕ) where
   record IsAlike (c d : Command A) : Type 0 where
     made : (now : SnapshotState A) → outcome now c ≡ outcome now d
     writes : is_write c ≡ is_write d
-    names : name_saved c ≡ name_saved d
+    saves : (tables : Tables A) (databases : Databases A) → saved_after c tables databases ≡ saved_after d tables databases
     enables : asks_enabled session c ≡ asks_enabled session d
     indirects : asks_indirect session c ≡ asks_indirect session d
     filters : filter_set session c ≡ filter_set session d
     wants : asks_for_all session c ≡ asks_for_all session d
     attaches : names_attached session c ≡ names_attached session d
     diffs : (past : Past A) → diff_by session c past ≡ diff_by session d past
+    quiets : is_quiet session c ≡ is_quiet session d
 
   itself : (c : Command A) → IsAlike c c
-  itself c = record { made = λ now. refl; writes = refl; names = refl; enables = refl; indirects = refl; filters = refl; wants = refl; attaches = refl; diffs = λ past. refl }
+  itself c = record { made = λ now. refl; writes = refl; saves = λ tables databases. refl; enables = refl; indirects = refl; filters = refl; wants = refl; attaches = refl; diffs = λ past. refl; quiets = refl }
 
   captured : (number : ℕ) → IsAlike (command.Restart number) (command.Capture number)
-  captured number = record { made = λ now. refl; writes = refl; names = refl; enables = refl; indirects = refl; filters = refl; wants = refl; attaches = refl; diffs = λ past. refl }
+  captured number = record { made = λ now. refl; writes = refl; saves = λ tables databases. refl; enables = refl; indirects = refl; filters = refl; wants = refl; attaches = refl; diffs = λ past. refl; quiets = refl }
 
   alike : (c : Command A) → IsAlike c (without_restart session c)
   alike (command.Restart number) = elim (nat_eq number session) as (λ b. IsAlike (command.Restart number) (cond b (command.Capture number) (command.Restart number))) [
@@ -87,8 +89,8 @@ module _ {A : Type 0} (session : ℕ) where
         (λ i. cond (told i) (effect_of (same.tables i) (outcome (record { version = same.versions i; database = same.tables i }) x.command)) (no_effect (same.tables i)))
         ∙ ap (λ (o : Result (Effect A) Refused). cond (is_accepted y.reply) (effect_of (main q) o) (no_effect (main q))) (does.made (snapshot q))
 
-    changes-same : event_changes x p ≡ event_changes y q
-    changes-same = ap (λ (e : Effect A). enumerate_from 0 e.changes) effect-same
+    changes-same : event_changes session x p ≡ event_changes session y q
+    changes-same = λ i. enumerate_from 0 (cond (does.quiets i) [] (effect-same i).changes)
 
     diffs-same : event_diff session x p ≡ event_diff session y q
     diffs-same = λ i. cond (told i) ((diff-same p q same x.command ∙ does.diffs q) i) None
@@ -133,7 +135,7 @@ module _ {A : Type 0} (session : ℕ) where
       count = ap (λ (n : ℕ). suc n) same.count;
       tables = ap (λ (e : Effect A). e.database) effect-same;
       versions = λ i. cond (told i && does.writes i) (same.versions i + 1) (same.versions i);
-      databases = λ i. cond (told i) (save_under (does.names i) (same.tables i) (same.databases i)) (same.databases i);
+      databases = λ i. cond (told i) ((ap₂ (saved_after x.command) same.tables same.databases ∙ does.saves (main q) (saved q)) i) (same.databases i);
       enabled = λ i. cond (told i) (unwrap_or (does.enables i) (same.enabled i)) (same.enabled i);
       indirect = λ i. cond (told i) (unwrap_or (does.indirects i) (same.indirect i)) (same.indirect i);
       filters = λ i. cond (told i) (later (does.filters i) (same.filters i)) (same.filters i);

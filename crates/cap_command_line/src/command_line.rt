@@ -3,13 +3,15 @@ ghost use Rattle.std.specs.Prelude.{IfOk};
 ghost use Rattle.cap_command_line.specs.Options.{IsInRange};
 
 use crate::help::{
-    ABOUT, BINARY_HELP, BINARY_INPUT_HELP, CHECK_ABOUT, CHECK_EXAMPLE, CONCAT_ABOUT,
-    CONCAT_EXAMPLE, EXAMPLE, FILE_HELP, FILES_HELP, IN_TURN_HELP, INVERT_ABOUT, INVERT_EXAMPLE,
-    JSON_HELP, KEY_FLAGS, KEY_FLAGS_HELP, LANGUAGE, OUTPUT_HELP, PATCHSET_ABOUT, PATCHSET_EXAMPLE,
-    REBASE_ABOUT, REBASE_EXAMPLE, REPLY_JSON_HELP, RUN_ABOUT, SHELL_ABOUT, SHELL_EXAMPLE,
-    SHOW_ABOUT, SHOW_EXAMPLE, SQL_HELP, SUMMARY_ABOUT, SUMMARY_EXAMPLE, THREADS_HELP, VERBOSE_HELP,
+    ABOUT, BINARY_HELP, BINARY_INPUT_HELP, CHECK_ABOUT, CHECK_EXAMPLE, COLUMNS_HELP, CONCAT_ABOUT,
+    CONCAT_EXAMPLE, EXAMPLE, EXPLAIN_HELP, FILE_HELP, FILES_HELP, IN_TURN_HELP, INVERT_ABOUT,
+    INVERT_EXAMPLE, JSON_HELP, JSON_LINES_HELP, KEY_FLAGS, KEY_FLAGS_HELP, LANGUAGE,
+    NO_PROGRESS_HELP, OUTPUT_HELP, PATCHSET_ABOUT, PATCHSET_EXAMPLE, PROGRESS_HELP, REBASE_ABOUT,
+    REBASE_EXAMPLE, REPLY_JSON_HELP, RUN_ABOUT, SHELL_ABOUT, SHELL_EXAMPLE, SHELL_EXPLAIN_HELP,
+    SHELL_FILE_HELP, SHOW_ABOUT, SHOW_EXAMPLE, SQL_HELP, SUMMARY_ABOUT, SUMMARY_EXAMPLE,
+    THREADS_HELP, VERBOSE_HELP,
 };
-use crate::{Asked, Options, OptionsFault};
+use crate::{Asked, Manner, Options, OptionsFault};
 use cap_blob::Target;
 use cap_codec::KeyFlags;
 use cap_run::{
@@ -40,7 +42,7 @@ fn command_line<'a>(alloc: Global) -> Result<Command<'a>, AllocError> {
 fn with_workloads<'a>(alloc: Global, command: Command<'a>) -> Result<Command<'a>, AllocError> {
     command
         .subcommand(run_command(alloc)?)?
-        .subcommand(shell_command(alloc))
+        .subcommand(shell_command(alloc)?)
 }
 
 // Adds what looks at blobs.
@@ -76,30 +78,62 @@ fn run_command<'a>(alloc: Global) -> Result<Command<'a>, AllocError> {
         .help(THREADS_HELP)
         .value_parser(value_parser!(u64).range(1..=THREADS_MAX as i64))
         .default_value("1");
-    Command::new(alloc, "run")
+    let command = Command::new(alloc, "run")
         .about(RUN_ABOUT)
         .after_help(LANGUAGE)
         .arg(threads)?
         .arg(flag(alloc, "in-turn", IN_TURN_HELP))?
-        .arg(flag(alloc, "json", REPLY_JSON_HELP))?
+        .arg(flag(alloc, "json", REPLY_JSON_HELP))?;
+    with_explanations(alloc, command)
+}
+
+// Adds what is said of a run on standard error, and its file.
+fn with_explanations<'a>(alloc: Global, command: Command<'a>) -> Result<Command<'a>, AllocError> {
+    let progress = flag(alloc, "progress", PROGRESS_HELP).conflicts_with("no-progress")?;
+    command
+        .arg(flag(alloc, "explain", EXPLAIN_HELP))?
+        .arg(progress)?
+        .arg(flag(alloc, "no-progress", NO_PROGRESS_HELP))?
         .arg(file(alloc))
 }
 
-fn shell_command<'a>(alloc: Global) -> Command<'a> {
+fn shell_command<'a>(alloc: Global) -> Result<Command<'a>, AllocError> {
+    let file = Arg::new(alloc, "FILE")
+        .short('f')
+        .long("file")
+        .value_name("FILE")
+        .help(SHELL_FILE_HELP);
     Command::new(alloc, "shell")
         .about(SHELL_ABOUT)
         .after_help(SHELL_EXAMPLE)
+        .arg(file)?
+        .arg(flag(alloc, "explain", SHELL_EXPLAIN_HELP))
 }
 
 fn show_command<'a>(alloc: Global) -> Result<Command<'a>, AllocError> {
-    Command::new(alloc, "show")
+    let command = Command::new(alloc, "show")
         .about(SHOW_ABOUT)
         .after_help(SHOW_EXAMPLE)
         .arg(binary(alloc, BINARY_INPUT_HELP)?)?
-        .arg(flag(alloc, "sql", SQL_HELP).conflicts_with("json")?)?
-        .arg(flag(alloc, "json", JSON_HELP))?
         .arg(output(alloc)?)?
-        .arg(file(alloc))
+        .arg(file(alloc))?;
+    with_forms(alloc, command)
+}
+
+// Adds how a blob is shown.
+fn with_forms<'a>(alloc: Global, command: Command<'a>) -> Result<Command<'a>, AllocError> {
+    let lines = flag(alloc, "jsonl", JSON_LINES_HELP).conflicts_with("json")?;
+    let columns = Arg::new(alloc, "columns")
+        .long("columns")
+        .value_name("T=NAME,..")
+        .help(COLUMNS_HELP)
+        .action(ArgAction::Append);
+    let sql = flag(alloc, "sql", SQL_HELP).conflicts_with("json")?;
+    command
+        .arg(sql)?
+        .arg(flag(alloc, "json", JSON_HELP))?
+        .arg(lines.conflicts_with("sql")?)?
+        .arg(columns)
 }
 
 fn look_command<'a>(
@@ -176,8 +210,10 @@ fn flag<'a>(alloc: Global, word: &'a str, help: &'a str) -> Arg<'a> {
 ///
 /// `run` runs a workload, on N threads with `--threads N`, N from 1 to 63, and otherwise on one; with
 /// `--in-turn` its lines are called one after the other, and with `--json` replies are JSON objects. `shell`
-/// runs each line as it is read. `show` shows a blob as text, with `--sql` as SQL, or with `--json` as JSON,
-/// `check` says whether one is well formed, and `summary` counts its changes. `invert` and `patchset` convert
+/// runs each line as it is read, behind those of the file that `-f` is before. Both say with `--explain` what a
+/// fault means, and `run` with `--progress` how far it is. `show` shows a blob as text, with `--sql` as SQL, with
+/// `--json` as JSON, or with `--jsonl` as JSON with a change a line; `--columns` gives names to columns. `check`
+/// says whether one is well formed, and `summary` counts its changes. `invert` and `patchset` convert
 /// one, `concat` concatenates several, and `rebase` rebases one over others, with key flags by places, or by
 /// ones with `--key-flags ones`. A blob is given and written as hex digits, or with `--binary` as its bytes.
 /// Other words are names of files, and `-o` is before that of the output. `-v` or `--verbose` among the words
@@ -205,6 +241,7 @@ fn asked_for(alloc: Global, matches: &ArgMatches) -> Result<Asked, AllocError>
             options: Options::Shell,
             files: Vec::new(alloc),
             output: None,
+            manner: Manner::new(alloc),
         }),
     }
 }
@@ -214,26 +251,39 @@ fn asked_by(alloc: Global, word: &str, found: &ArgMatches) -> Result<Asked, Allo
     ensures range { IfOk result (λ asked. IsInRange asked.options) }
 {
     let options = options_of(word, found);
-    let has_files = word != "shell";
-    let files = if has_files {
-        names(alloc, found.get_strs("FILE"))?
-    } else {
-        Vec::new(alloc)
-    };
-    let has_output = has_files && word != "run";
-    let output = if has_output {
-        name(alloc, found.get_str("output"))?
-    } else {
-        None
-    };
+    let files = names(alloc, found.get_strs("FILE"))?;
+    let output = name(alloc, found.get_str("output"))?;
+    let manner = manner(alloc, found)?;
     Ok(Asked {
         options,
         files,
         output,
+        manner,
     })
 }
 
-// The names of files.
+// What is said and shown. A command without one of these options is as one to which it is not given.
+fn manner(alloc: Global, found: &ArgMatches) -> Result<Manner, AllocError> {
+    let columns = names(alloc, found.get_strs("columns"))?;
+    Ok(Manner {
+        is_lines: found.get_flag("jsonl"),
+        columns,
+        explains: found.get_flag("explain"),
+        progress: progress(found),
+    })
+}
+
+fn progress(found: &ArgMatches) -> Option<bool> {
+    if found.get_flag("progress") {
+        Some(true)
+    } else if found.get_flag("no-progress") {
+        Some(false)
+    } else {
+        None
+    }
+}
+
+// What the words for an option or for files are.
 fn names(alloc: Global, found: Option<&[&str]>) -> Result<Vec<String>, AllocError> {
     let mut names = Vec::new(alloc);
     let Some(found) = found else {
@@ -324,7 +374,7 @@ fn key_flags(matches: &ArgMatches) -> KeyFlags {
 }
 
 fn form(matches: &ArgMatches) -> Form {
-    if matches.get_flag("json") {
+    if matches.get_flag("json") || matches.get_flag("jsonl") {
         Form::Json
     } else if matches.get_flag("sql") {
         Form::Sql

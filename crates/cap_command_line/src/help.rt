@@ -57,6 +57,11 @@ pub(crate) const SQL_HELP: &str =
 
 pub(crate) const JSON_HELP: &str = "Print a JSON array with an object for each change";
 
+pub(crate) const JSON_LINES_HELP: &str = "Print a JSON object for each change, on a line each";
+
+pub(crate) const COLUMNS_HELP: &str =
+    "The names of the columns of table T, with commas between them; for each table once";
+
 pub(crate) const BINARY_INPUT_HELP: &str = "The input is the bytes themselves, not hex digits";
 
 pub(crate) const BINARY_HELP: &str = "Input and output are the bytes themselves, not hex digits";
@@ -71,13 +76,27 @@ pub(crate) const THREADS_HELP: &str =
 
 pub(crate) const REPLY_JSON_HELP: &str = "Print each reply as a JSON object on a line";
 
+pub(crate) const EXPLAIN_HELP: &str =
+    "Say on standard error what a fault or a refusal means, and show where the line has it";
+
+pub(crate) const PROGRESS_HELP: &str =
+    "Show on standard error how many lines were printed, as a terminal does that shows nothing else";
+
+pub(crate) const NO_PROGRESS_HELP: &str = "Show no progress";
+
+pub(crate) const SHELL_EXPLAIN_HELP: &str =
+    "Say on standard error what a fault or a refusal means, as a terminal does";
+
+pub(crate) const SHELL_FILE_HELP: &str = "Run the lines of a file before those of standard input";
+
 pub(crate) const IN_TURN_HELP: &str =
     "Let workers call in the order of the lines, one after the other";
 
 pub(crate) const VERBOSE_HELP: &str =
     "Say on standard error what failed where the exit status is 3";
 
-pub(crate) const LANGUAGE: &str =
+/// The commands of a workload, with an example of each.
+pub const LANGUAGE: &str =
     "A workload has one command a line. Empty lines and lines that begin with # are ignored.
 
 Tables:
@@ -87,8 +106,11 @@ Tables:
   get T REF           read a row: get t key(1)
   scan T              read all rows: scan t
   save B              save all tables under a name: save old
+  databases           list what is saved
+  dropdatabase B      drop a saved database: dropdatabase old
 Sessions:
   session             make a session, which records changes; its reply has its number
+  sessions            list the sessions, with their flags and tables
   drop S              end a session: drop 1
   attach S T          let a session record changes to a table: attach 1 t
   attachall S         let it attach each table that changes: attachall 1
@@ -107,6 +129,8 @@ Changes:
                       apply x'5402..' omit omit replace
   .. D N C report     print each conflict too, each omitted change and each skipped group
   .. D N C buffer     print its buffer too, which `changecap rebase` reads
+  applyquiet S,.. ..  the same, of which the sessions S,.. record nothing:
+                      applyquiet 1,2 x'5402..' omit omit replace
 
 OP is insert T (V,..), update T REF set I = V , .. or delete T REF; cascade before it marks it as
 indirect. REF is key(V,..), or loose N for the row without a key that has the number N. V is null, 1,
@@ -129,7 +153,14 @@ prints
     ok version 2
 of which the second line is on standard error. A line that is refused changes nothing, and the next one is
 read. A line that begins with @K is run as any other. At a terminal there is a prompt on standard error.
-The end of the input ends the shell, with status 0.";
+The end of the input ends the shell, with status 0.
+
+These lines are for the shell itself:
+  help [WORD]         print the commands, or what that says of a word: help commit
+  .read FILE          run the lines of a file
+  quit                end the shell
+
+With history and keys to edit a line: rlwrap changecap shell";
 
 pub(crate) const SHOW_EXAMPLE: &str =
     "The digits may be of either case and end with a line feed. For example
@@ -144,6 +175,9 @@ With --sql it prints
     COMMIT;
 and with --json
     [{\"table\":\"t\",\"op\":\"insert\",\"indirect\":false,\"key\":[\"c0\"],\"new\":{\"c0\":1,\"c1\":\"x\"}}]
+With --jsonl each object has a line. With --columns t=id,name the columns have these names in place of c0 and
+c1, here with --sql:
+    INSERT INTO \"t\"(\"id\",\"name\") VALUES(1,'x');
 An undefined field is left out of both, and a blob in JSON is {\"blob\":\"00ff\"}.";
 
 pub(crate) const INVERT_EXAMPLE: &str =
@@ -194,7 +228,7 @@ pub(crate) const SUMMARY_ABOUT: &str = "Count the changes of blobs, table by tab
 pub(crate) const SUMMARY_EXAMPLE: &str = "For example
     echo 5402010074001200010000000000000001030178 | changecap summary -
 prints
-    t: inserts 1, updates 0, deletes 0, indirect 0";
+    t: inserts 1, updates 0, deletes 0, indirect 0, bytes 20";
 
 pub(crate) const FILE_HELP: &str =
     "The file that is read, or - for standard input; a blob in it is hex digits or bytes";

@@ -6,4 +6,5 @@ mod help;
 mod program_options;
 
 pub use command_line::options;
-pub use program_options::{Asked, Options, OptionsFault};
+pub use help::LANGUAGE;
+pub use program_options::{Asked, Manner, Options, OptionsFault};

@@ -3,6 +3,7 @@ ghost use Rattle.std.specs.Prelude.{◌≡◌};
 ghost use Rattle.cap_command_line.specs.Options.{options_status};
 
 use cap_run::{Combination, Conversion, Encoding, Form, Pace, ReplyForm};
+use std::alloc::Global;
 use thiserror::Error;
 
 /// What the program does.
@@ -45,6 +46,33 @@ pub struct Asked {
     pub files: Vec<String>,
     /// The file that it writes in place of standard output.
     pub output: Option<String>,
+    /// What it says and shows besides.
+    pub manner: Manner,
+}
+
+/// What is said and shown besides.
+#[derive(Debug, Drop)]
+pub struct Manner {
+    /// Whether a blob that is shown as JSON has a line for each change.
+    pub is_lines: bool,
+    /// The names of columns, for each table `T=NAME,..`.
+    pub columns: Vec<String>,
+    /// Whether faults and refusals are explained on standard error.
+    pub explains: bool,
+    /// Whether the progress of a run is shown on standard error. None leaves that to the program.
+    pub progress: Option<bool>,
+}
+
+impl Manner {
+    /// That of a command line without such options.
+    pub fn new(alloc: Global) -> Self {
+        Manner {
+            is_lines: false,
+            columns: Vec::new(alloc),
+            explains: false,
+            progress: None,
+        }
+    }
 }
 
 /// Why the program ends without a run.

@@ -2,6 +2,7 @@ mod ApplicationLemmas
 mod CallLemmas
 pub mod Crossing
 mod OneCommandLemmas
+mod LoadLemmas
 mod PositionLemmas
 mod RecordLemmas
 mod ReplyLemmas

@@ -50,11 +50,11 @@ abbrev pub SetsFilter : ℕ → List ℕ → ConnectionState → ConnectionState
 SetsFilter session text old new = Means (IsUtf8 text) (Reads (filter_of text) fault.NoFilter
     (λ filter. RunsMade nothing_in (command.SetFilter session filter) old new) old new) old new
 
--- The contents of the iterator are applied, and it has the conflicts that its changes met. Where nothing was
--- applied it is as it was.
-pub record Applies (policy : Policy) (before after : IterState) (old new : ConnectionState)
+-- The contents of the iterator are applied, and these sessions stay as they are. It has the conflicts that its
+-- changes met. Where nothing was applied it is as it was.
+pub record Applies (policy : Policy) (quiet : List ℕ) (before after : IterState) (old new : ConnectionState)
     (result : Result Applied (Fault ConnectionFault)) : Type 0 where
-  pub applied : Runs outcome_in (command.Apply before.contents policy) old new
+  pub applied : Runs outcome_in (command.Apply before.contents policy quiet) old new
       (result_map_both (λ made. (made, after.conflicts)) (λ why. why) result)
   pub kept : after ≡ record before { conflicts = after.conflicts }
   pub conflicts_kept : OnErr result (after.conflicts ≡ before.conflicts)

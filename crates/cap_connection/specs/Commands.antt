@@ -1,5 +1,5 @@
 -- The commands that apply a blob, and those that capture.
-use Rattle.std.specs.Prelude.{◌≡◌, ◌⊎◌, ℕ, Option, Some, None}
+use Rattle.std.specs.Prelude.{◌≡◌, ◌⊎◌, ℕ, List, Option, Some, None}
 use Rattle.std.specs.Global.{Global}
 use Rattle.cap_codec.specs.declared.read.Contents.{Contents}
 use Rattle.cap_apply.specs.declared.policy.Policy.{Policy}
@@ -8,11 +8,12 @@ use Rattle.cap_core.specs.declared.command.Command.TheVariants.{Apply, Capture, 
 
 -- a blob is applied
 abbrev pub IsApply : Command Global → Type 0
-IsApply command = (contents : Contents Global) × (policy : Policy) × (command ≡ Apply contents policy)
+IsApply command =
+    (contents : Contents Global) × (policy : Policy) × (quiet : List ℕ) × (command ≡ Apply contents policy quiet)
 
 -- the blob that is applied
 abbrev pub blob_in : Command Global → Option (Contents Global)
-blob_in (Apply contents policy) = Some contents
+blob_in (Apply contents policy quiet) = Some contents
 blob_in _ = None
 
 -- a session is captured

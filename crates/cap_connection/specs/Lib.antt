@@ -8,6 +8,7 @@ pub mod Connection
 pub mod Decoder
 pub mod Fields
 pub mod Iter
+pub mod Loads
 pub mod OneCommand
 pub mod Positions
 pub mod Replies

@@ -265,7 +265,6 @@ impl Application {
 
     /// The batch that makes what it left, once it is at the end; before, that is misuse. It is accepted exactly
     /// where each row that a change names is as it was in the snapshot, of the tables that the filter accepts.
-    /// Refused with `TooMany` where more rows have changed than a batch has operations.
     pub fn batch(&self) -> Result<Batch<Global>, Fault<ApplicationFault>>
         ensures batch { AnswersUnlessMemory result (batch_left self.now) }
         // On the snapshot its operations are accepted, and leave the rows that the application left.

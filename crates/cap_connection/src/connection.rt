@@ -26,7 +26,7 @@ use crate::replies::{
 };
 use cap_apply::{Policy, Report};
 use cap_codec::Contents;
-use cap_core::{Command, Reply};
+use cap_core::{Command, QuietSessions, Reply};
 use cap_database::Snapshot;
 use cap_filter::TableFilter;
 use cap_hub::{Client, JoinFault};
@@ -203,18 +203,21 @@ impl Connection {
     }
 
     /// Applies the changeset or the patchset of an iterator (sqlite3changeset_apply), wherever it stands. It
-    /// then has the conflicts of this application. Where nothing was applied it is as it was.
+    /// then has the conflicts of this application. Where nothing was applied it is as it was. The quiet
+    /// sessions record none of its changes.
     pub fn apply(
         &mut self,
         alloc: Global,
         it: &mut BlobIter,
         policy: Policy,
+        quiet: QuietSessions<Global>,
     ) -> Result<Applied, Fault<ConnectionFault>>
-        ensures { Applies policy it.old it.new self.old self.new result }
+        ensures { Applies policy quiet it.old it.new self.old self.new result }
     {
         let command = Command::Apply {
             blob: it.take_contents(alloc),
             policy,
+            quiet,
         };
         let answer = self.run_applied(&command);
         it.put_contents(contents_of(command));
@@ -418,7 +421,10 @@ impl Connection {
         }
     }
 
-    fn run_number(&mut self, command: &Command<Global>) -> Result<u64, Fault<ConnectionFault>>
+    pub(crate) fn run_number(
+        &mut self,
+        command: &Command<Global>,
+    ) -> Result<u64, Fault<ConnectionFault>>
         ensures runs { Runs number_in command.now self.old self.new result }
         // The same of a command whose arguments took memory.
         ensures made { RunsMade number_in command.now self.old self.new result }

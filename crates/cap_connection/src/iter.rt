@@ -78,6 +78,13 @@ impl BlobIter {
         }
     }
 
+    // What it goes over.
+    pub(crate) fn contents(&self) -> &Contents<Global>
+        ensures { result.now ≡ self.now.contents }
+    {
+        &self.contents
+    }
+
     // Takes the contents out, for a command. Takes no memory.
     pub(crate) fn take_contents(&mut self, alloc: Global) -> Contents<Global>
         ensures taken { result ≡ self.old.contents }

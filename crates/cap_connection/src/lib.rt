@@ -12,6 +12,7 @@ mod iter;
 mod iter_fields;
 mod iter_position;
 mod iter_record;
+mod load;
 mod one_command;
 mod printer;
 mod replies;

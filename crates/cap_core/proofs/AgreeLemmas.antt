@@ -1,21 +1,20 @@
 -- Pasts that leave the same of a session: what comes after leaves the same of it, and its captures are the same.
-use Rattle.std.proofs.Common.{◌≡◌, ℕ, suc, zero, ◌+◌, Bool, true, false, cond, Some, None, Ok, List, [], ◌∷◌, ◌++◌, ◌&&◌, ◌||◌, not, refl, sym, ap, ap₂, ◌∙◌, arith, nat_eq, nat_le, nat_lt}
+use Rattle.std.proofs.Common.{◌≡◌, ℕ, suc, zero, ◌+◌, Bool, true, false, cond, Some, None, List, [], ◌∷◌, ◌++◌, ◌&&◌, ◌||◌, not, refl, sym, ap, ap₂, ◌∙◌, arith, nat_eq, nat_le, nat_lt}
 use Rattle.std.proofs.lemmas.Bool.Decides.{nat_tests}
 use Rattle.std.specs.Map.{lookup}
-use Rattle.cap_database.specs.Snapshot.{SnapshotState}
 use Rattle.cap_session.specs.Sessions.{session_numbered}
 use Rattle.cap_core.specs.declared.command.Command.{Command}
 use Rattle.cap_core.specs.declared.command.Command.TheVariants as command
 use Rattle.cap_core.specs.declared.event.Event.{Event}
 use Rattle.cap_core.specs.Answer.{answer, capture_reply, session_answer, state_after}
 use Rattle.cap_core.specs.Flags.{drops, is_dropped, makes_session, session_named, sessions_made}
-use Rattle.cap_core.specs.History.{effect_of, event_effect, is_write, main, name_saved, save_under, saved, snapshot, version}
-use Rattle.cap_core.specs.Outcome.{no_effect, outcome}
+use Rattle.cap_core.specs.History.{effect_of, event_effect, is_write, main, saved, saved_after, snapshot, version}
+use Rattle.cap_core.specs.Outcome.{no_effect}
 use Rattle.cap_core.specs.Past.{Past, is_accepted}
 use Rattle.cap_core.specs.Session.{session_of, sessions}
-use Rattle.cap_core.proofs.NumberLemmas.{apart_numbers, equal_numbers, numbered, passing, unequal_numbers}
-use Rattle.cap_core.proofs.SessionLemmas.{and_false, cond-same, flags-elsewhere, session-quiet, session-refused, silent-elsewhere, speaks_to}
-use Rattle.cap_core.proofs.FlagLemmas.{session-of-command, session_after_command}
+use Rattle.cap_core.proofs.NumberLemmas.{apart_numbers, equal_numbers, is_number, numbered, passing, same_some, unequal_numbers}
+use Rattle.cap_core.proofs.SessionLemmas.{and_false, cond-same, flags-elsewhere, session-quiet, session-refused, silent-elsewhere, speaks_to, to_session}
+use Rattle.cap_core.proofs.FlagLemmas.{session-of-command, session_after}
 
 inside_first : (a number : ℕ) → (nat_le a number && nat_lt number (a + 0)) ≡ false
 inside_first a number = grind (arith, nat_tests)
@@ -25,12 +24,6 @@ inside_here a n = grind (arith, nat_tests)
 
 inside_later : (a n number : ℕ) → nat_eq number a ≡ false → (nat_le (a + 1) number && nat_lt number (a + 1 + n)) ≡ (nat_le a number && nat_lt number (a + suc n))
 inside_later a n number apart = grind (arith, nat_tests)
-
-same_some : (m n : ℕ) → Some m ≡ Some n → m ≡ n
-same_some m n is = cc
-
-none_some : (n : ℕ) → None ≡ Some n → ⊥
-none_some n is = cc
 
 module _ {X : Type 0} (p : ℕ → Bool) (f : ℕ → X) where
   -- what is found under a number: it passes, and is among the numbers
@@ -88,11 +81,11 @@ module _ {A : Type 0} where
       record {
         mains = λ i. (event_effect (snapshots i) event).database;
         versions = λ i. cond (accepted && is_write event.command) (agree.versions i + 1) (agree.versions i);
-        saves = λ i. cond accepted (save_under (name_saved event.command) (agree.mains i) (agree.saves i)) (agree.saves i);
+        saves = λ i. cond accepted (saved_after event.command (agree.mains i) (agree.saves i)) (agree.saves i);
         session = elim accepted as (λ b. accepted ≡ b → session_of (event ∷ past) number ≡ session_of (event ∷ other) number) [
           | true ↦ λ is.
               session-of-command past event number is
-              ∙ (λ i. session_after_command number event.command (snapshots i) (agree.saves i) (agree.session i))
+              ∙ (λ i. session_after number event.command (snapshots i) (agree.saves i) (agree.session i))
               ∙ sym (session-of-command other event number is)
           | false ↦ λ is. session-refused number event past is ∙ agree.session ∙ sym (session-refused number event other is)
         ] refl;
@@ -106,48 +99,24 @@ module _ {A : Type 0} where
 
   -- ---- a command to another session
 
-  record IsToAnother (number : ℕ) (c : Command A) : Type 0 where
-    writes : is_write c ≡ false
-    saves : name_saved c ≡ None
-    makes : makes_session c ≡ false
-    drops : drops number c ≡ false
-    speaks : speaks_to number c ≡ false
-    leaves : (now : SnapshotState A) → outcome now c ≡ Ok (no_effect now.database)
-
-  to_another : (number one : ℕ) → (number ≡ one → ⊥) → (c : Command A) → session_named c ≡ Some one → IsToAnother number c
-  to_another number one apart (command.DropSession other) is =
-      record { writes = refl; saves = refl; makes = refl; drops = apart_numbers other number (λ e. apart (e ∙ same_some other one is)); speaks = refl; leaves = λ _. refl }
-  to_another number one apart (command.Attach other name) is =
-      record { writes = refl; saves = refl; makes = refl; drops = refl; speaks = apart_numbers other number (λ e. apart (e ∙ same_some other one is)); leaves = λ _. refl }
-  to_another number one apart (command.AttachAll other) is =
-      record { writes = refl; saves = refl; makes = refl; drops = refl; speaks = apart_numbers other number (λ e. apart (e ∙ same_some other one is)); leaves = λ _. refl }
-  to_another number one apart (command.SetFilter other filter) is =
-      record { writes = refl; saves = refl; makes = refl; drops = refl; speaks = apart_numbers other number (λ e. apart (e ∙ same_some other one is)); leaves = λ _. refl }
-  to_another number one apart (command.Enable other asked) is =
-      record { writes = refl; saves = refl; makes = refl; drops = refl; speaks = apart_numbers other number (λ e. apart (e ∙ same_some other one is)); leaves = λ _. refl }
-  to_another number one apart (command.Indirect other asked) is =
-      record { writes = refl; saves = refl; makes = refl; drops = refl; speaks = apart_numbers other number (λ e. apart (e ∙ same_some other one is)); leaves = λ _. refl }
-  to_another number one apart (command.Diff other from name) is =
-      record { writes = refl; saves = refl; makes = refl; drops = refl; speaks = apart_numbers other number (λ e. apart (e ∙ same_some other one is)); leaves = λ _. refl }
-  to_another number one apart (command.Restart other) is =
-      record { writes = refl; saves = refl; makes = refl; drops = refl; speaks = apart_numbers other number (λ e. apart (e ∙ same_some other one is)); leaves = λ _. refl }
-  to_another number one apart (command.IsEmpty other) is = record { writes = refl; saves = refl; makes = refl; drops = refl; speaks = refl; leaves = λ _. refl }
-  to_another number one apart (command.Capture other) is = record { writes = refl; saves = refl; makes = refl; drops = refl; speaks = refl; leaves = λ _. refl }
-  to_another number one apart _ is = absurd (none_some one is)
+  drops-apart : (number one : ℕ) → (number ≡ one → ⊥) → (c : Command A) → session_named c ≡ Some one → drops number c ≡ false
+  drops-apart number one apart (command.DropSession other) is = apart_numbers other number (λ e. apart (e ∙ same_some other one is))
+  drops-apart number one apart _ is = refl
 
   pub agree-apart : (number one : ℕ) (past : Past A) (event : Event A) → session_named event.command ≡ Some one → (number ≡ one → ⊥) → Agree number past (event ∷ past)
   agree-apart number one past event named apart =
       let accepted = is_accepted event.reply in
-      let other = to_another number one apart event.command named in
+      let other = to_session event.command one named in
+      let speaks : speaks_to number event.command ≡ false = ap (is_number number) named ∙ apart_numbers one number apart in
       let quiet : event_effect (snapshot past) event ≡ no_effect (main past) =
       ap (λ r. cond accepted (effect_of (main past) r) (no_effect (main past))) (other.leaves (snapshot past)) ∙ cond-same accepted (no_effect (main past)) in
       record {
         mains = sym (ap (λ e. e.database) quiet);
         versions = sym (ap (λ b. cond (accepted && b) (version past + 1) (version past)) other.writes ∙ ap (λ b. cond b (version past + 1) (version past)) (and_false accepted));
-        saves = sym (ap (λ name. cond accepted (save_under name (main past) (saved past)) (saved past)) other.saves ∙ cond-same accepted (saved past));
-        session = sym (session-quiet number event past (silent-elsewhere number event past other.speaks) (flags-elsewhere number event past other.speaks) (ap (λ e. e.changes) quiet));
+        saves = sym (ap (λ databases. cond accepted databases (saved past)) (other.saves (main past) (saved past)) ∙ cond-same accepted (saved past));
+        session = sym (session-quiet number event past (silent-elsewhere number event past speaks) (flags-elsewhere number event past speaks) (ap (λ e. e.changes) quiet));
         made = sym (ap (λ b. cond (accepted && b) (sessions_made past + 1) (sessions_made past)) other.makes ∙ ap (λ b. cond b (sessions_made past + 1) (sessions_made past)) (and_false accepted));
-        dropped = sym (ap (λ b. (accepted && b) || is_dropped past number) other.drops ∙ ap (λ b. b || is_dropped past number) (and_false accepted));
+        dropped = sym (ap (λ b. (accepted && b) || is_dropped past number) (drops-apart number one apart event.command named) ∙ ap (λ b. b || is_dropped past number) (and_false accepted));
       }
 
   -- ---- captures

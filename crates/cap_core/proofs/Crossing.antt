@@ -3,6 +3,7 @@ use denote.RattleType.{RattleType}
 use denote.Enum.Enum.{Enum}
 use denote.Enum.Declared.{shape, variants}
 use denote.Param.Send.{EachSend, EachSync, IsSend, IsSync, Frees, enum_send, enum_sync, recorded_send, recorded_sync, sendable}
+use Rattle.std.proofs.CrossingOver.{crosses}
 use Rattle.std.specs.declared.alloc.Allocator as allocator
 use Rattle.std.specs.declared.clone.Clone as clone
 use Rattle.cap_value.specs.declared.memory.AllocHandle as handle
@@ -17,14 +18,18 @@ use Rattle.cap_session.proofs.Crossing.{session_send, session_sync, sessions_sen
 use Rattle.cap_codec.proofs.read.Contents.TheSendSync as contents
 use Rattle.cap_apply.proofs.policy.Policy.TheSendSync as policy
 use Rattle.cap_apply.proofs.report.Report.TheSendSync as report
+use Rattle.cap_core.proofs.quiet.QuietSessions.TheSendSync as quiet
 use Rattle.cap_core.specs.contracts.capture.Capture as Capture
 use Rattle.cap_core.specs.contracts.server.Core as Core
 use Rattle.cap_core.specs.contracts.command.Command as Command
+use Rattle.cap_core.specs.contracts.listed_session.ListedSession as ListedSession
+use Rattle.cap_core.specs.contracts.names.NameList as NameList
 use Rattle.cap_core.specs.contracts.reply.Reply as Reply
+use Rattle.cap_core.specs.contracts.session_list.SessionList as SessionList
 
-ruleset sends = (name.the_send, schema.the_send, batch_send, contents.the_field_send, policy.the_field_send, filter_send, sendable)
+ruleset sends = (name.the_send, schema.the_send, batch_send, contents.the_field_send, policy.the_field_send, quiet.the_send, filter_send, sendable)
 
-ruleset syncs = (name.the_sync, schema.the_sync, batch_sync, contents.the_field_sync, policy.the_field_sync, filter_sync, sendable)
+ruleset syncs = (name.the_sync, schema.the_sync, batch_sync, contents.the_field_sync, policy.the_field_sync, quiet.the_sync, filter_sync, sendable)
 
 module _ (A : RattleType) (h : handle.Ghosts A.Denot) (a : allocator.Ghosts A.Denot) (c : clone.Ghosts A.Denot)
     (al : IsSend A) (ay : IsSync A) (frees : Frees a a.dealloc_token) where
@@ -71,7 +76,16 @@ module _ (A : RattleType) (h : handle.Ghosts A.Denot) (a : allocator.Ghosts A.De
                               search sends depth 20,
                               (
                                 search sends depth 20,
-                                (search sends depth 20, tt),
+                                (
+                                  search sends depth 20,
+                                  (
+                                    search sends depth 20,
+                                    (
+                                      search sends depth 20,
+                                      (search sends depth 20, tt),
+                                    ),
+                                  ),
+                                ),
                               ),
                             ),
                           ),
@@ -122,7 +136,16 @@ module _ (A : RattleType) (h : handle.Ghosts A.Denot) (a : allocator.Ghosts A.De
                               search syncs depth 20,
                               (
                                 search syncs depth 20,
-                                (search syncs depth 20, tt),
+                                (
+                                  search syncs depth 20,
+                                  (
+                                    search syncs depth 20,
+                                    (
+                                      search syncs depth 20,
+                                      (search syncs depth 20, tt),
+                                    ),
+                                  ),
+                                ),
                               ),
                             ),
                           ),
@@ -149,8 +172,26 @@ module _ (A : RattleType) (h : handle.Ghosts A.Denot) (a : allocator.Ghosts A.De
   pub command_field_sync : IsSync (Command.the_field A h a c).row
   command_field_sync = enum_sync (shape (Command.the_type A h a c)) variants_sync
 
+  names_send : IsSend (NameList.the_row A a)
+  names_send = search (name.the_send, sendable, crosses) depth 20
+
+  names_sync : IsSync (NameList.the_row A a)
+  names_sync = search (name.the_sync, sendable, crosses) depth 20
+
+  listed_send : IsSend (ListedSession.the_row A a)
+  listed_send = search (names_send, sendable) depth 20
+
+  listed_sync : IsSync (ListedSession.the_row A a)
+  listed_sync = search (names_sync, sendable) depth 20
+
+  sessions_listed_send : IsSend (SessionList.the_row A a)
+  sessions_listed_send = search (listed_send, sendable, crosses) depth 20
+
+  sessions_listed_sync : IsSync (SessionList.the_row A a)
+  sessions_listed_sync = search (listed_sync, sendable, crosses) depth 20
+
   pub reply_send : IsSend (Reply.the_row A h a c)
-  reply_send = search (report.the_send, snapshot_send, capture_send, refusal.the_field_send, sendable) depth 40 fits 100000
+  reply_send = search (report.the_send, snapshot_send, capture_send, names_send, sessions_listed_send, refusal.the_field_send, sendable) depth 40 fits 100000
 
   pub reply_sync : IsSync (Reply.the_row A h a c)
-  reply_sync = search (report.the_sync, snapshot_sync, capture_sync, refusal.the_field_sync, sendable) depth 40 fits 100000
+  reply_sync = search (report.the_sync, snapshot_sync, capture_sync, names_sync, sessions_listed_sync, refusal.the_field_sync, sendable) depth 40 fits 100000

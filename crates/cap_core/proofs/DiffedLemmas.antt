@@ -1,7 +1,7 @@
 -- A capture after a diff, applied to the database that was compared with, gives main's rows of the table.
-use Rattle.std.proofs.Common.{◌≡◌, ℕ, Bool, true, false, cond, Option, Some, None, Result, Ok, Err, List, [], ◌∷◌, ◌++◌, ◌&&◌, ◌||◌, map, refl, sym, ap, ap₂, subst, ◌∙◌, nat_eq}
+use Rattle.std.proofs.Common.{◌≡◌, ℕ, Bool, true, false, cond, Option, Some, None, Result, Ok, Err, List, [], ◌∷◌, ◌++◌, ◌&&◌, ◌||◌, map, refl, sym, ap, ap₂, subst, ◌∙◌}
 use Rattle.std.specs.Prelude.{is_some, option_and_then}
-use Rattle.std.specs.Option.{option_map}
+use Rattle.std.specs.Option.{option_map, unwrap_or}
 use Rattle.std.proofs.Math.Bool.{or-true}
 use Rattle.std.specs.Ordering.{eq_by_cmp}
 use Rattle.std.specs.FinMap.Entries.{find-put}
@@ -20,9 +20,9 @@ use Rattle.cap_database.specs.Tables.{AreRising, Tables, schema_of, table_of}
 use Rattle.cap_compare.specs.Compare.{AreDifferences, compare, differences, image_at, image_of}
 use Rattle.cap_compare.specs.declared.difference.Difference.{Difference}
 use Rattle.cap_session.specs.declared.record.Record.{Record}
-use Rattle.cap_session.specs.Recording.{touch_table, touches_found}
+use Rattle.cap_session.specs.Recording.{record_commit, touch_table, touches_found}
 use Rattle.cap_session.specs.Records.{Records, Touch as RowTouch, record_after, touch, with_touches}
-use Rattle.cap_session.specs.Session.{AttachedTables, SessionState, attach, attach_all, attached, enabled_as, indirect_as, is_listed, record_of, restart, set_filter, records_of as attached_records}
+use Rattle.cap_session.specs.Session.{AttachedTables, SessionState, attach, is_listed, record_of, records_of as attached_records}
 use Rattle.cap_session.specs.Sessions.{session_numbered}
 use Rattle.cap_core.specs.declared.command.Command.{Command}
 use Rattle.cap_core.specs.declared.command.Command.TheVariants as command
@@ -30,18 +30,18 @@ use Rattle.cap_core.specs.declared.event.Event.{Event}
 use Rattle.cap_core.specs.Answer.{answer, diffed, session_answer, state_after}
 use Rattle.cap_core.specs.Diff.{compared as all_found, diff, diff_from, diff_to}
 use Rattle.cap_core.specs.AppliedCapture.{AreQuiet, GivesRows, HoldsImages, IsDiffed, renews}
-use Rattle.cap_core.specs.Flags.{is_indirect}
+use Rattle.cap_core.specs.Flags.{changes_shown, is_indirect}
 use Rattle.cap_core.specs.History.{Databases, effect_of, event_effect, is_write, main, saved, snapshot}
-use Rattle.cap_core.specs.Outcome.{no_effect, outcome}
+use Rattle.cap_core.specs.Outcome.{Effect, Refused, no_effect, outcome}
 use Rattle.cap_core.specs.Past.{Past, is_accepted}
 use Rattle.cap_core.specs.Session.{session_of, sessions}
-use Rattle.cap_core.specs.Transition.{compared}
+use Rattle.cap_core.specs.Transition.{compared, session_left}
 use Rattle.cap_core.proofs.AppliedCaptureLemmas.{found-rising}
 use Rattle.cap_core.proofs.KeyedLemmas.{ordered}
 use Rattle.cap_core.proofs.NumberLemmas.{same_number}
-use Rattle.cap_core.proofs.SessionLemmas.{and_false, record_commit-nothing, session-refused}
+use Rattle.cap_core.proofs.SessionLemmas.{and_false, record_commit-nothing, session-refused, shown-none, speaks_to}
 use Rattle.cap_core.proofs.SmallLemmas.{either_false, other_false}
-use Rattle.cap_core.proofs.FlagLemmas.{session-of-command, session_after_command}
+use Rattle.cap_core.proofs.FlagLemmas.{session-of-command, session_after}
 use Rattle.cap_core.proofs.TouchedLemmas.{fields_same, get-find, put_entry-put, tied}
 
 no-write : (accepted writes renewed : Bool) → (accepted && (writes || renewed)) ≡ false → (accepted && writes) ≡ false
@@ -159,7 +159,7 @@ module _ {A : Type 0} where
   leaves-tables : (now : SnapshotState A) (c : Command A) → is_write c ≡ false → outcome now c ≡ Ok (no_effect now.database)
   leaves-tables now (command.CreateTable name schema) is = cc
   leaves-tables now (command.Commit batch) is = cc
-  leaves-tables now (command.Apply blob policy) is = cc
+  leaves-tables now (command.Apply blob policy quiet) is = cc
   leaves-tables now _ is = refl
 
   pub quiet-effect : (past : Past A) (event : Event A) → (is_accepted event.reply && is_write event.command) ≡ false → event_effect (snapshot past) event ≡ no_effect (main past)
@@ -169,31 +169,23 @@ module _ {A : Type 0} where
         | false ↦ λ _. refl
       ] quiet
 
-  -- what a session has of a key, where the command does not write or renew it
+  -- what a session has of a key stays, where a command to it does not renew it
+  left-records : (session : ℕ) (c : Command A) (tables : Tables A) (databases : Databases A) (s : SessionState A) (name : List ℕ) (key : Fields A) → speaks_to session c ≡ true → renews session c ≡ false
+      → record_of (unwrap_or (session_left tables databases c s) s).tables name key ≡ record_of s.tables name key
+  left-records session (command.Attach other table) tables databases s name key speaks renewed = record-attach table s.tables name key
+  left-records session (command.Diff other from table) tables databases s name key speaks renewed = cc
+  left-records session (command.Restart other) tables databases s name key speaks renewed = cc
+  left-records session _ tables databases s name key speaks renewed = refl
+
+  -- the same of any command that does not write
   record-after-command : (session : ℕ) (c : Command A) (now : SnapshotState A) (databases : Databases A) (s : SessionState A) (name : List ℕ) (key : Fields A) → is_write c ≡ false → renews session c ≡ false
-      → record_of (session_after_command session c now databases s).tables name key ≡ record_of s.tables name key
-  record-after-command session (command.Attach other table) now databases s name key writes renewed =
-      elim (nat_eq other session) as (λ b. record_of (cond b (attached table s) s).tables name key ≡ record_of s.tables name key) [ true ↦ record-attach table s.tables name key | false ↦ refl ]
-  record-after-command session (command.AttachAll other) now databases s name key writes renewed =
-      elim (nat_eq other session) as (λ b. record_of (cond b (attach_all s) s).tables name key ≡ record_of s.tables name key) [ true ↦ refl | false ↦ refl ]
-  record-after-command session (command.SetFilter other filter) now databases s name key writes renewed =
-      elim (nat_eq other session) as (λ b. record_of (cond b (set_filter filter s) s).tables name key ≡ record_of s.tables name key) [ true ↦ refl | false ↦ refl ]
-  record-after-command session (command.Enable other asked) now databases s name key writes renewed =
-      elim (nat_eq other session) as (λ b. record_of (cond b (enabled_as asked s) s).tables name key ≡ record_of s.tables name key) [ true ↦ refl | false ↦ refl ]
-  record-after-command session (command.Indirect other asked) now databases s name key writes renewed =
-      elim (nat_eq other session) as (λ b. record_of (cond b (indirect_as asked s) s).tables name key ≡ record_of s.tables name key) [ true ↦ refl | false ↦ refl ]
-  record-after-command session (command.Diff other from table) now databases s name key writes renewed =
-      ap (λ b. record_of (cond b (compared table (diff now.database databases from table) s) s).tables name key) renewed
-  record-after-command session (command.Restart other) now databases s name key writes renewed = ap (λ b. record_of (cond b (restart s) s).tables name key) renewed
-  record-after-command session (command.CreateTable table schema) now databases s name key writes renewed = cc
-  record-after-command session (command.Commit batch) now databases s name key writes renewed = cc
-  record-after-command session (command.Apply blob policy) now databases s name key writes renewed = cc
-  record-after-command session command.Read now databases s name key writes renewed = ap (λ t. record_of t.tables name key) (record_commit-nothing now.database s)
-  record-after-command session (command.SaveAs table) now databases s name key writes renewed = ap (λ t. record_of t.tables name key) (record_commit-nothing now.database s)
-  record-after-command session command.NewSession now databases s name key writes renewed = ap (λ t. record_of t.tables name key) (record_commit-nothing now.database s)
-  record-after-command session (command.DropSession other) now databases s name key writes renewed = ap (λ t. record_of t.tables name key) (record_commit-nothing now.database s)
-  record-after-command session (command.IsEmpty other) now databases s name key writes renewed = ap (λ t. record_of t.tables name key) (record_commit-nothing now.database s)
-  record-after-command session (command.Capture other) now databases s name key writes renewed = ap (λ t. record_of t.tables name key) (record_commit-nothing now.database s)
+      → record_of (session_after session c now databases s).tables name key ≡ record_of s.tables name key
+  record-after-command session c now databases s name key writes renewed =
+      let commit : Result (Effect A) Refused → SessionState A = λ r. record_commit now.database (changes_shown session c (effect_of now.database r).changes) s in
+      elim (speaks_to session c) as (λ b. speaks_to session c ≡ b → record_of (cond b (unwrap_or (session_left now.database databases c s) s) (commit (outcome now c))).tables name key ≡ record_of s.tables name key) [
+        | true ↦ λ speaks. left-records session c now.database databases s name key speaks renewed
+        | false ↦ λ _. ap (λ r. record_of (commit r).tables name key) (leaves-tables now c writes) ∙ ap (λ changes. record_of (record_commit now.database changes s).tables name key) (shown-none session c [] refl) ∙ ap (λ t. record_of t.tables name key) (record_commit-nothing now.database s)
+      ] refl
 
   quiet-record : (session : ℕ) (past : Past A) (event : Event A) (name : List ℕ) (key : Fields A) → (is_accepted event.reply && (is_write event.command || renews session event.command)) ≡ false
       → record_of (session_of (event ∷ past) session).tables name key ≡ record_of (session_of past session).tables name key
@@ -303,8 +295,8 @@ module _ {A : Type 0} where
     unfolding before after found
     after-is =
         ap (λ s. s.tables) (session-of-command past event session d.accepted
-        ∙ ap (λ c. session_after_command session c (snapshot past) (saved past) (session_of past session)) d.diffs
-        ∙ ap (λ b. cond b (compared name (diff (main past) (saved past) d.from name) (session_of past session)) (session_of past session)) (same_number session)
+        ∙ ap (λ c. session_after session c (snapshot past) (saved past) (session_of past session)) d.diffs
+        ∙ ap (λ b. cond b (compared name (diff (main past) (saved past) d.from name) (session_of past session)) (record_commit (main past) [] (session_of past session))) (same_number session)
         ∙ ap (λ r. compared name r (session_of past session)) made.is)
 
     none-before : (other : List ℕ) (key : Fields A) → record_of (attach name before) other key ≡ None

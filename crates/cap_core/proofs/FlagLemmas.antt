@@ -15,19 +15,19 @@ use Rattle.cap_core.specs.declared.event.Event.{Event}
 use Rattle.cap_core.specs.declared.command.Command.{Command}
 use Rattle.cap_core.specs.declared.command.Command.TheVariants as command
 use Rattle.cap_core.specs.declared.reply.Reply.{Reply}
-use Rattle.cap_core.specs.declared.reply.Reply.TheVariants.{Applied, Capture, Done, Flag, Refused, Snapshot, Written, Session as SessionMade}
+use Rattle.cap_core.specs.declared.reply.Reply.TheVariants.{Done, Refused}
 use Rattle.cap_core.specs.Answer.{event_by}
 use Rattle.cap_core.specs.Diff.{diff}
-use Rattle.cap_core.specs.Flags.{is_enabled, is_indirect, last_filter, later, rule as rule_of, rule_by, wants_all}
+use Rattle.cap_core.specs.Flags.{changes_shown, is_enabled, is_indirect, last_filter, later, rule as rule_of, rule_by, session_named, wants_all}
 use Rattle.cap_core.specs.History.{Databases, effect_of, event_effect, main, saved, snapshot}
 use Rattle.cap_core.specs.Outcome.{outcome}
 use Rattle.cap_core.specs.Past.{Past, is_accepted}
 use Rattle.cap_core.specs.Session.{records_of, session_of}
 use Rattle.cap_core.specs.Touch.{Attaching, attach_list, attaching_at, attachings, changes_touch, diff_touches, event_diff, first_of_each, found_in, names_compared, touch_found, touches, touches_of}
-use Rattle.cap_core.specs.Transition.{compared}
+use Rattle.cap_core.specs.Transition.{compared, session_left}
 use Rattle.cap_core.proofs.HistoryLemmas.{attach-named, first_of_each-push, map-map, push_name, table_names, table_names-append, tables_with, touches_of-append}
-use Rattle.cap_core.proofs.SessionLemmas.{IsSilent, cond-same, flags-elsewhere, kept, kept-none, same_session, session-elsewhere, session-quiet, silent-elsewhere, speaks_to, tables-quiet}
-use Rattle.cap_core.proofs.NumberLemmas.{equal_numbers, same_number}
+use Rattle.cap_core.proofs.SessionLemmas.{IsElsewhere, IsSilent, cond-same, flags-apart, kept, kept-none, same_session, session-elsewhere, session-quiet, silent-apart, speaks_to, tables-quiet, to_session}
+use Rattle.cap_core.proofs.NumberLemmas.{named_number, same_number, same_some}
 use Rattle.cap_core.proofs.TouchedLemmas.{records_of-append, records_of-none, told}
 use Rattle.std.specs.Cmp.Lexicographic.{nat_list_eq_equiv}
 
@@ -161,83 +161,52 @@ module _ {A : Type 0} where
 
   -- ---- any command that was accepted
 
-  -- what the command makes of a session, by the tables before it and the session as it was
-  abbrev pub session_after_command : ℕ → Command A → SnapshotState A → Databases A → SessionState A → SessionState A
-  session_after_command number (command.Attach other name) now saved session = cond (nat_eq other number) (attached name session) session
-  session_after_command number (command.AttachAll other) now saved session = cond (nat_eq other number) (attach_all session) session
-  session_after_command number (command.SetFilter other filter) now saved session = cond (nat_eq other number) (set_filter filter session) session
-  session_after_command number (command.Enable other asked) now saved session = cond (nat_eq other number) (enabled_as asked session) session
-  session_after_command number (command.Indirect other asked) now saved session = cond (nat_eq other number) (indirect_as asked session) session
-  session_after_command number (command.Diff other from name) now saved session = cond (nat_eq other number) (compared name (diff now.database saved from name) session) session
-  session_after_command number (command.Restart other) now saved session = cond (nat_eq other number) (restart session) session
-  session_after_command number c now saved session = record_commit now.database (effect_of now.database (outcome now c)).changes session
-
   abbrev done : Command A → Event A
   done c = event_by 0 c Done
 
-  -- a command to one session leaves another as it is
-  apart-session : (past : Past A) (c : Command A) (number : ℕ) → speaks_to number c ≡ false → (event_effect (snapshot past) (done c)).changes ≡ [] → session_of past number ≡ session_of (done c ∷ past) number
-  apart-session past c number apart none = sym (session-quiet number (done c) past (silent-elsewhere number (done c) past apart) (flags-elsewhere number (done c) past apart) none)
-
-  -- a command to a session, where it is to this one and where it is not
-  either-session : (past : Past A) (c : Command A) (other number : ℕ) (change : SessionState A → SessionState A)
-      → (other ≡ number → change (session_of past number) ≡ session_of (done c ∷ past) number) → (nat_eq other number ≡ false → session_of past number ≡ session_of (done c ∷ past) number)
-      → session_of (done c ∷ past) number ≡ cond (nat_eq other number) (change (session_of past number)) (session_of past number)
-  either-session past c other number change here apart =
-      elim (nat_eq other number) as (λ b. nat_eq other number ≡ b → session_of (done c ∷ past) number ≡ cond b (change (session_of past number)) (session_of past number)) [
-        | true ↦ λ is. sym (here (equal_numbers other number is))
-        | false ↦ λ is. sym (apart is)
-      ] refl
-
   -- a command of the same session
   same_command : (past : Past A) (c : ℕ → Command A) (change : SessionState A → SessionState A) → ((number : ℕ) → change (session_of past number) ≡ session_of (done (c number) ∷ past) number)
-      → (other number : ℕ) → other ≡ number → change (session_of past number) ≡ session_of (done (c other) ∷ past) number
-  same_command past c change here other number is = here number ∙ ap (λ k. session_of (done (c k) ∷ past) number) (sym is)
+      → (other number : ℕ) → Some other ≡ Some number → session_of (done (c other) ∷ past) number ≡ change (session_of past number)
+  same_command past c change here other number is = ap (λ k. session_of (done (c k) ∷ past) number) (same_some other number is) ∙ sym (here number)
 
-  done-session : (past : Past A) (number : ℕ) (c : Command A) → session_of (done c ∷ past) number ≡ session_after_command number c (snapshot past) (saved past) (session_of past number)
-  done-session past number (command.Attach other name) =
-      either-session past (command.Attach other name) other number (attached name) (same_command past (λ k. command.Attach k name) (attached name) (λ k. attach-here past 0 k name) other number)
-      (λ apart. apart-session past (command.Attach other name) number apart refl)
-  done-session past number (command.AttachAll other) =
-      either-session past (command.AttachAll other) other number attach_all (same_command past command.AttachAll attach_all (λ k. attach_all-here past 0 k) other number)
-      (λ apart. apart-session past (command.AttachAll other) number apart refl)
-  done-session past number (command.SetFilter other filter) =
-      either-session past (command.SetFilter other filter) other number (set_filter filter) (same_command past (λ k. command.SetFilter k filter) (set_filter filter) (λ k. filter-here past 0 k filter) other number)
-      (λ apart. apart-session past (command.SetFilter other filter) number apart refl)
-  done-session past number (command.Enable other asked) =
-      either-session past (command.Enable other asked) other number (enabled_as asked) (same_command past (λ k. command.Enable k asked) (enabled_as asked) (λ k. enabled-here past 0 k asked) other number)
-      (λ apart. apart-session past (command.Enable other asked) number apart refl)
-  done-session past number (command.Indirect other asked) =
-      either-session past (command.Indirect other asked) other number (indirect_as asked) (same_command past (λ k. command.Indirect k asked) (indirect_as asked) (λ k. indirect-here past 0 k asked) other number)
-      (λ apart. apart-session past (command.Indirect other asked) number apart refl)
-  done-session past number (command.Diff other from name) =
-      let change : SessionState A → SessionState A = compared name (diff (main past) (saved past) from name) in
-      either-session past (command.Diff other from name) other number change (same_command past (λ k. command.Diff k from name) change (λ k. compared-here past 0 k from name) other number)
-      (λ apart. apart-session past (command.Diff other from name) number apart refl)
-  done-session past number (command.Restart other) =
-      either-session past (command.Restart other) other number restart (same_command past command.Restart restart (λ k. restart-here past 0 k) other number)
-      (λ apart. apart-session past (command.Restart other) number apart refl)
-  done-session past number (command.CreateTable name schema) = session-elsewhere number (done (command.CreateTable name schema)) past refl
-  done-session past number (command.Commit batch) = session-elsewhere number (done (command.Commit batch)) past refl
-  done-session past number (command.Apply blob policy) = session-elsewhere number (done (command.Apply blob policy)) past refl
-  done-session past number command.Read = session-elsewhere number (done command.Read) past refl
-  done-session past number (command.SaveAs name) = session-elsewhere number (done (command.SaveAs name)) past refl
-  done-session past number command.NewSession = session-elsewhere number (done command.NewSession) past refl
-  done-session past number (command.DropSession other) = session-elsewhere number (done (command.DropSession other)) past refl
-  done-session past number (command.IsEmpty other) = session-elsewhere number (done (command.IsEmpty other)) past refl
-  done-session past number (command.Capture other) = session-elsewhere number (done (command.Capture other)) past refl
+  -- a command to the session: one that is not named leaves it as it is
+  here : (past : Past A) (number : ℕ) (c : Command A) → session_named c ≡ Some number
+      → session_of (done c ∷ past) number ≡ unwrap_or (session_left (main past) (saved past) c (session_of past number)) (session_of past number)
+  here past number (command.Attach other name) = same_command past (λ k. command.Attach k name) (attached name) (λ k. attach-here past 0 k name) other number
+  here past number (command.AttachAll other) = same_command past command.AttachAll attach_all (λ k. attach_all-here past 0 k) other number
+  here past number (command.SetFilter other filter) = same_command past (λ k. command.SetFilter k filter) (set_filter filter) (λ k. filter-here past 0 k filter) other number
+  here past number (command.Enable other asked) = same_command past (λ k. command.Enable k asked) (enabled_as asked) (λ k. enabled-here past 0 k asked) other number
+  here past number (command.Indirect other asked) = same_command past (λ k. command.Indirect k asked) (indirect_as asked) (λ k. indirect-here past 0 k asked) other number
+  here past number (command.Diff other from name) = same_command past (λ k. command.Diff k from name) (compared name (diff (main past) (saved past) from name)) (λ k. compared-here past 0 k from name) other number
+  here past number (command.Restart other) = same_command past command.Restart restart (λ k. restart-here past 0 k) other number
+  here past number c = λ is.
+      let apart : IsElsewhere number past c = record { enabled = refl; indirect = refl; filter = refl; all = refl; attached = refl; compared = refl; restarts = refl } in
+      session-quiet number (done c) past (silent-apart number (done c) past apart) (flags-apart number (done c) past apart)
+      (let quiet = to_session c number is in ap (λ r. (effect_of (main past) r).changes) (quiet.leaves (snapshot past)))
+
+  -- what the command makes of a session, by the tables and the saved databases before it and the session as it was
+  abbrev pub session_after : ℕ → Command A → SnapshotState A → Databases A → SessionState A → SessionState A
+  session_after number c now saved session =
+      cond (speaks_to number c) (unwrap_or (session_left now.database saved c session) session) (record_commit now.database (changes_shown number c (effect_of now.database (outcome now c)).changes) session)
+
+  done-session : (past : Past A) (number : ℕ) (c : Command A) → session_of (done c ∷ past) number ≡ session_after number c (snapshot past) (saved past) (session_of past number)
+  done-session past number c =
+      elim (speaks_to number c) as (λ b. speaks_to number c ≡ b → session_of (done c ∷ past) number
+      ≡ cond b (unwrap_or (session_left (main past) (saved past) c (session_of past number)) (session_of past number)) (record_commit (main past) (changes_shown number c (effect_of (main past) (outcome (snapshot past) c)).changes) (session_of past number))) [
+        | true ↦ λ is. here past number c (named_number number (session_named c) is)
+        | false ↦ λ is. session-elsewhere number (done c) past is
+      ] refl
 
   -- a session depends on no reply, but on whether the command was accepted
   done-reply : (past : Past A) (by : ℕ) (c : Command A) (reply : Reply A) (number : ℕ) → is_accepted reply ≡ true → session_of (event_by by c reply ∷ past) number ≡ session_of (done c ∷ past) number
-  done-reply past by c Done number accepted = refl
-  done-reply past by c (Written made) number accepted = refl
-  done-reply past by c (Applied made report) number accepted = refl
-  done-reply past by c (SessionMade made) number accepted = refl
-  done-reply past by c (Snapshot taken) number accepted = refl
-  done-reply past by c (Flag flag) number accepted = refl
-  done-reply past by c (Capture capture) number accepted = refl
   done-reply past by c (Refused at why) number accepted = cc
+  done-reply past by c _ number accepted = refl
+
+  -- a command to the session
+  pub session-here : (past : Past A) (by number : ℕ) (c : Command A) (reply : Reply A) → is_accepted reply ≡ true → session_named c ≡ Some number
+      → session_of (event_by by c reply ∷ past) number ≡ unwrap_or (session_left (main past) (saved past) c (session_of past number)) (session_of past number)
+  session-here past by number c reply accepted named = done-reply past by c reply number accepted ∙ here past number c named
 
   pub session-of-command : (past : Past A) (event : Event A) (number : ℕ) → is_accepted event.reply ≡ true
-      → session_of (event ∷ past) number ≡ session_after_command number event.command (snapshot past) (saved past) (session_of past number)
+      → session_of (event ∷ past) number ≡ session_after number event.command (snapshot past) (saved past) (session_of past number)
   session-of-command past event number accepted = done-reply past event.by event.command event.reply number accepted ∙ done-session past number event.command

@@ -18,7 +18,7 @@ use Rattle.cap_session.specs.declared.rule.AutomaticRule.{AutomaticRule}
 use Rattle.cap_session.specs.Recording.{attach_by, is_cascade, touches_of as told_by}
 use Rattle.cap_session.specs.Records.{Records}
 use Rattle.cap_session.specs.Session.{AttachedTables, accepts_by, attach}
-use Rattle.cap_core.specs.Flags.{is_enabled, is_indirect, rule as rule_of}
+use Rattle.cap_core.specs.Flags.{changes_shown, is_enabled, is_indirect, rule as rule_of}
 use Rattle.cap_core.specs.History.{event_effect, main, snapshot}
 use Rattle.cap_core.specs.Past.{Past, is_accepted}
 use Rattle.cap_core.specs.Touch.{Attaching, Touch, attach_list, attaching_at, attaching_by, attachings, changes_touch, diff_touches, event_changes, event_diff, event_touches, first_of_each, is_in_time, is_recorded, names_attached, names_compared, restarts, touch_found, touch_of, touches, touches_of}
@@ -258,14 +258,14 @@ module _ {A : Type 0} where
       let test : Attaching → Bool = λ moment. nat_lt moment.event k in
       let by_command = cond (is_accepted event.reply) (map (attaching_at (length past) 0) (names_attached session event.command)) [] in
       let by_diff = map (attaching_at (length past) 0) (names_compared (event_diff session event past)) in
-      let by_changes = filter_map (attaching_by session past) (event_changes event past) in
+      let by_changes = filter_map (attaching_by session past) (event_changes session event past) in
       let commanded : list_all test by_command ≡ true =
       elim (is_accepted event.reply) as (λ b. list_all test (cond b (map (attaching_at (length past) 0) (names_attached session event.command)) []) ≡ true) [
         | true ↦ all_attached (length past) k lt (names_attached session event.command)
         | false ↦ refl
       ] in
       let compared : list_all test by_diff ≡ true = all_attached (length past) k lt (names_compared (event_diff session event past)) in
-      let changed : list_all test by_changes ≡ true = all_by_changes session past k lt 0 (event_effect (snapshot past) event).changes in
+      let changed : list_all test by_changes ≡ true = all_by_changes session past k lt 0 (changes_shown session event.command (event_effect (snapshot past) event).changes) in
       list_all-append test (attachings session past) (by_command ++ by_diff ++ by_changes)
       ∙ both (list_all test (attachings session past)) _ (attachings-earlier session k past (omega arith))
       (list_all-append test (by_command ++ by_diff) by_changes
@@ -291,7 +291,7 @@ module _ {A : Type 0} where
       let before = attachings session past in
       let by_command = cond (is_accepted event.reply) (map (attaching_at (length past) 0) (names_attached session event.command)) [] in
       let by_diff = map (attaching_at (length past) 0) (names_compared (event_diff session event past)) in
-      let by_changes = filter_map (attaching_by session past) (event_changes event past) in
+      let by_changes = filter_map (attaching_by session past) (event_changes session event past) in
       let now : is_among name (table_names (before ++ (by_command ++ by_diff ++ by_changes))) ≡ false = sym (is_among-first_of_each name (table_names (before ++ (by_command ++ by_diff ++ by_changes)))) ∙ absent in
       let parts : (xs ys : List Attaching) → is_among name (table_names (xs ++ ys)) ≡ (is_among name (table_names xs) || is_among name (table_names ys)) =
       λ xs ys. ap (is_among name) (table_names-append xs ys) ∙ list_any-append (bytes_eq name) (table_names xs) (table_names ys) in
@@ -300,7 +300,7 @@ module _ {A : Type 0} where
       let said_none = either_false (is_among name (table_names (by_command ++ by_diff))) _ (sym (parts (by_command ++ by_diff) by_changes) ∙ others_none) in
       let diff_none : is_among name (table_names by_diff) ≡ false = other_false (is_among name (table_names by_command)) _ (sym (parts by_command by_diff) ∙ said_none) in
       let changed : touches_of name (changes_touch session event past) ≡ [] =
-      elim (is_enabled session past) as (λ b. touches_of name (cond b (filter (is_recorded (attachings session (event ∷ past))) (filter_map (touch_of session past) (event_changes event past))) []) ≡ []) [
+      elim (is_enabled session past) as (λ b. touches_of name (cond b (filter (is_recorded (attachings session (event ∷ past))) (filter_map (touch_of session past) (event_changes session event past))) []) ≡ []) [
         | true ↦ none_of (attachings session (event ∷ past)) name now _
         | false ↦ refl
       ] in

@@ -28,10 +28,11 @@ use Rattle.cap_database.specs.declared.cause.Cause.TheVariants.{Direct}
 use Rattle.cap_session.specs.declared.record.Record.{Record}
 use Rattle.cap_session.specs.Recording.{touches_of as told_by}
 use Rattle.cap_session.specs.Records.{Records, record_after, touch as with_touch, with_touches}
+use Rattle.cap_core.specs.declared.command.Command.{Command}
 use Rattle.cap_core.specs.declared.event.Event.{Event}
 use Rattle.cap_core.specs.Answer.{State, answer, state_after, write_reply}
 use Rattle.cap_core.specs.Capture.{change_now, group_of, session_changes, table_changes}
-use Rattle.cap_core.specs.Flags.{is_indirect}
+use Rattle.cap_core.specs.Flags.{changes_shown, is_indirect}
 use Rattle.cap_core.specs.History.{effect_of, event_effect, main, snapshot}
 use Rattle.cap_core.specs.Insert.{HasChange, IsInsertOfAbsent, changes_by_key, insert_of}
 use Rattle.cap_core.specs.Outcome.{Effect, Refused as Why, commit_unless, made, no_effect, outcome}
@@ -229,6 +230,7 @@ module _ {A : Type 0} where
     rows-are : rows ≡ put_entry fields_cmp (records_of touched) key (record { image = None; indirect = false })
     rows-are =
         kept-on session event past silent is.enabled name is.attached
+        ∙ ap (λ (c : Command A). with_touches (records_of touched) (told_by (main past) (is_indirect session past) name (changes_shown session c (event_effect (snapshot past) event).changes))) is.inserts
         ∙ ap (λ (e : Effect A). with_touches (records_of touched) (told_by (main past) (is_indirect session past) name e.changes)) effect-is
         ∙ ap (λ b. with_touches (records_of touched) (cons_option (cond b (Some (record { key = key; image = image; indirect = is_indirect session past || false })) None) [])) (nat_list_eq_equiv.refl name)
         ∙ ap (λ b. with_touch (records_of touched) (record { key = key; image = image; indirect = b || false })) is.direct

@@ -149,7 +149,7 @@ module _ {A : Type 0} where
     outcome-rises : (now : SnapshotState A) (c : Command A) → BlobFits c → AreRising now.database → HasRising (outcome now c)
     outcome-rises now (command.CreateTable name schema) fits all = created-rises (create now.database name schema) (creates now.database name schema all)
     outcome-rises now (command.Commit batch) fits all = commit-rises (stale batch.base batch.seen now) now.database batch.ops all
-    outcome-rises now (command.Apply blob policy) fits all = applied-rises (apply now.database blob policy) (applies now.database blob policy all fits)
+    outcome-rises now (command.Apply blob policy quiet) fits all = applied-rises (apply now.database blob policy) (applies now.database blob policy all fits)
     outcome-rises now _ fits all = all
 
     pub main-rises : (past : Past A) → BlobsFitPast past → AreRising (main past)

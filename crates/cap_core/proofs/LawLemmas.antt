@@ -1,6 +1,7 @@
 -- Laws of histories, sessions and captures.
 use Rattle.std.proofs.Common.{◌≡◌, ◌+◌, ℕ, Bool, true, false, cond, Option, Some, None, Result, Ok, Err, List, [], ◌∷◌, ◌++◌, map, refl, sym, ap, ap₂, ◌∙◌, T, IsTrue, nat_le, length}
 use Rattle.std.specs.Option.{option_map}
+use Rattle.std.specs.Prelude.{is_some}
 use Rattle.std.specs.List.{cons_option}
 use Rattle.std.specs.Ordering.{is_eq}
 use Rattle.cap_value.specs.Bytes.{bytes_cmp}
@@ -10,7 +11,7 @@ use Rattle.cap_changes.specs.Change.{change_of, new_field, old_field}
 use Rattle.cap_changes.specs.Column.{by_column}
 use Rattle.cap_changes.specs.declared.row_change.RowChange.{RowChange}
 use Rattle.cap_changes.specs.declared.row_change.RowChange.TheVariants.{Update}
-use Rattle.cap_tree.specs.Tree.{get, put_entry}
+use Rattle.cap_tree.specs.Tree.{get, put_entry, take_entry}
 use Rattle.cap_table.specs.Table.{TableState}
 use Rattle.cap_database.specs.Tables.{Tables, table_of}
 use Rattle.cap_session.specs.declared.record.Record.{Record}
@@ -21,7 +22,7 @@ use Rattle.cap_core.specs.declared.command.Command.{Command}
 use Rattle.cap_core.specs.declared.command.Command.TheVariants as command
 use Rattle.cap_core.specs.declared.event.Event.{Event}
 use Rattle.cap_core.specs.declared.reply.Reply.{Reply}
-use Rattle.cap_core.specs.Answer.{IsLegal, IsLegalPast, State, answer, event_by, has_room_for, reply_of, snapshot_of, state, state_after, write_reply}
+use Rattle.cap_core.specs.Answer.{IsLegal, IsLegalPast, State, answer, application, event_by, has_room_for, reply_of, snapshot_of, state, state_after, write_reply}
 use Rattle.cap_core.specs.Capture.{change_now, changes_of, session_changes, table_changes}
 use Rattle.cap_core.specs.Flags.{session_named}
 use Rattle.cap_core.specs.History.{main}
@@ -30,7 +31,7 @@ use Rattle.cap_core.specs.Past.{Past, is_accepted}
 use Rattle.cap_core.specs.Replies.{replies_after}
 use Rattle.cap_core.specs.Session.{all_indirect, records_of, session_of}
 use Rattle.cap_core.specs.Touch.{Touch, attach_list, touches, touches_of}
-use Rattle.cap_core.specs.Transition.{after_named, after_session, after_write, next, one_more, session_left}
+use Rattle.cap_core.specs.Transition.{after_session, after_write, next, next_by, one_more, own_next, session_left}
 use Rattle.cap_core.proofs.NextLemmas.{IsLegal-push, after_refusal, next-is, state-push}
 use Rattle.cap_core.proofs.TouchedLemmas.{find-records_of, get-find, records_of-none, touched_at}
 
@@ -96,12 +97,12 @@ module _ {A : Type 0} where
   answer-one_more : (s : State A) (c : Command A) → answer (one_more s) c ≡ answer s c
   answer-one_more s (command.CreateTable name schema) = write_reply-one_more s (outcome (snapshot_of s) (command.CreateTable name schema))
   answer-one_more s (command.Commit batch) = write_reply-one_more s (outcome (snapshot_of s) (command.Commit batch))
-  answer-one_more s (command.Apply blob policy) = write_reply-one_more s (outcome (snapshot_of s) (command.Apply blob policy))
+  answer-one_more s (command.Apply blob policy quiet) = write_reply-one_more s (application s blob policy quiet)
   answer-one_more s _ = refl
 
-  after_write-one_more : (s : State A) (r : Result (Effect A) Why) → after_write (one_more s) r ≡ one_more (after_write s r)
-  after_write-one_more s (Ok effect) = refl
-  after_write-one_more s (Err why) = refl
+  after_write-one_more : (s : State A) (quiet : List ℕ) (r : Result (Effect A) Why) → after_write (one_more s) quiet r ≡ one_more (after_write s quiet r)
+  after_write-one_more s quiet (Ok effect) = refl
+  after_write-one_more s quiet (Err why) = refl
 
   one_more-either : (b : Bool) (s t : State A) → cond b (one_more s) (one_more t) ≡ one_more (cond b s t)
   one_more-either true s t = refl
@@ -111,19 +112,23 @@ module _ {A : Type 0} where
   after_session-one_more s number None left = refl
   after_session-one_more s number (Some session) left = refl
 
-  after_named-one_more : (s : State A) (named : Option ℕ) (left : SessionState A → Option (SessionState A)) → after_named (one_more s) named left ≡ one_more (after_named s named left)
-  after_named-one_more s None left = refl
-  after_named-one_more s (Some number) left = after_session-one_more s number (session_numbered s.sessions number) left
-
-  next-one_more : (s : State A) (c : Command A) → next (one_more s) c ≡ one_more (next s c)
-  next-one_more s (command.CreateTable name schema) = after_write-one_more s (outcome (snapshot_of s) (command.CreateTable name schema))
-  next-one_more s (command.Commit batch) = after_write-one_more s (outcome (snapshot_of s) (command.Commit batch))
-  next-one_more s (command.Apply blob policy) = after_write-one_more s (outcome (snapshot_of s) (command.Apply blob policy))
-  next-one_more s (command.SaveAs name) = one_more-either (has_room_for s.saved name) (record (one_more s) { saved = put_entry bytes_cmp s.saved name s.main }) (one_more s)
-  next-one_more s command.NewSession =
+  own_next-one_more : (s : State A) (c : Command A) → own_next (one_more s) c ≡ one_more (own_next s c)
+  own_next-one_more s (command.CreateTable name schema) = after_write-one_more s [] (outcome (snapshot_of s) (command.CreateTable name schema))
+  own_next-one_more s (command.Commit batch) = after_write-one_more s [] (outcome (snapshot_of s) (command.Commit batch))
+  own_next-one_more s (command.Apply blob policy quiet) = after_write-one_more s quiet (application s blob policy quiet)
+  own_next-one_more s (command.SaveAs name) = one_more-either (has_room_for s.saved name) (record (one_more s) { saved = put_entry bytes_cmp s.saved name s.main }) (one_more s)
+  own_next-one_more s (command.DropDatabase name) = one_more-either (is_some (get bytes_cmp s.saved name)) (record (one_more s) { saved = take_entry bytes_cmp s.saved name }) (one_more s)
+  own_next-one_more s command.NewSession =
       one_more-either (nat_le 64 (length s.sessions)) (one_more s)
       (record (one_more s) { sessions_made = s.sessions_made + 1; sessions = s.sessions ++ (s.sessions_made + 1, new_session) ∷ [] })
-  next-one_more s c = after_named-one_more s (session_named c) (session_left s c)
+  own_next-one_more s _ = refl
+
+  next-one_more : (s : State A) (c : Command A) → next (one_more s) c ≡ one_more (next s c)
+  next-one_more s c =
+      elim (session_named c) as (λ named. next_by named (one_more s) c ≡ one_more (next_by named s c)) [
+        | None ↦ own_next-one_more s c
+        | Some number ↦ after_session-one_more s number (session_numbered s.sessions number) (session_left s.main s.saved c)
+      ]
 
   one_more-same : (s : State A) (commands : List (Command A)) → replies_from (one_more s) commands ≡ replies_from s commands
   one_more-same s [] = refl

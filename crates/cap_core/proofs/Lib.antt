@@ -16,6 +16,7 @@ pub mod InPlaceLemmas
 pub mod InsertLemmas
 pub mod KeyedLemmas
 pub mod LawLemmas
+pub mod ListedLemmas
 pub mod NextLemmas
 pub mod NumberLemmas
 pub mod OutcomeLemmas

@@ -1,35 +1,39 @@
 -- The state after one more event is what its command makes of the state before.
 use Rattle.std.proofs.lemmas.List.{length-reverse, map-append, reverse-append}
-use Rattle.std.proofs.Common.{◌≡◌, ℕ, ◌+◌, ◌<◌, Bool, true, false, cond, Option, Some, None, Ok, Err, List, [], ◌∷◌, ◌++◌, ◌&&◌, ◌||◌, not, map, length, refl, sym, ap, ap₂, subst, ◌∙◌, arith, nat_eq, nat_le, add-one}
-use Rattle.std.specs.Prelude.{filter, reverse}
+use Rattle.std.proofs.Common.{◌≡◌, ℕ, ◌+◌, ◌<◌, Bool, true, false, cond, Option, Some, None, Result, Ok, Err, List, [], ◌∷◌, ◌++◌, ◌&&◌, ◌||◌, not, map, length, refl, sym, ap, ap₂, subst, ◌∙◌, arith, nat_eq, nat_le, add-one}
+use Rattle.std.specs.Prelude.{filter, is_some, reverse}
 use Rattle.std.specs.List.{range_with_len}
 use Rattle.std.specs.Option.{unwrap_or}
 use Rattle.cap_value.specs.Bytes.{bytes_cmp}
-use Rattle.cap_value.specs.declared.refusal.Refusal.TheVariants.{TooMany, NoSession}
-use Rattle.cap_filter.specs.Rule.{Rule}
-use Rattle.cap_tree.specs.Tree.{put_entry}
+use Rattle.cap_value.specs.declared.refusal.Refusal.{Refusal}
+use Rattle.cap_value.specs.declared.refusal.Refusal.TheVariants.{NoDatabase, NoSession, TooMany}
+use Rattle.cap_tree.specs.Tree.{get, put_entry, take_entry}
+use Rattle.cap_codec.specs.declared.read.Contents.{Contents}
 use Rattle.cap_apply.specs.Report.{ReportState}
+use Rattle.cap_apply.specs.declared.policy.Policy.{Policy}
+use Rattle.cap_compare.specs.declared.difference.Difference.{Difference}
+use Rattle.cap_database.specs.Tables.{Tables}
 use Rattle.cap_session.specs.Recording.{record_commit}
-use Rattle.cap_session.specs.Session.{SessionState, attach_all, attached, enabled_as, indirect_as, new_session, restart, set_filter, stored}
+use Rattle.cap_session.specs.Session.{SessionState, new_session}
 use Rattle.cap_session.specs.Sessions.{session_numbered, with_session}
 use Rattle.cap_core.specs.declared.event.Event.{Event}
 use Rattle.cap_core.specs.declared.command.Command.{Command}
 use Rattle.cap_core.specs.declared.command.Command.TheVariants as command
 use Rattle.cap_core.specs.declared.reply.Reply.{Reply}
-use Rattle.cap_core.specs.declared.reply.Reply.TheVariants.{Done, Flag, Refused, Snapshot, Session as SessionMade}
-use Rattle.cap_core.specs.Answer.{IsLegal, IsLegalPast, State, answer, capture_reply, diffed, event_by, has_room_for, new_session_reply, refusal, reply_of, save_reply, session_answer, session_reply, state, state_after, version_reply, write_reply}
+use Rattle.cap_core.specs.declared.reply.Reply.TheVariants.{Done, Refused, Session as SessionMade}
+use Rattle.cap_core.specs.Answer.{IsLegal, IsLegalPast, State, answer, answer_by, diffed, effect_unless, drop_reply, event_by, has_room_for, new_session_reply, own_answer, refusal, refused_quiet, reply_of, save_reply, session_answer, session_reply, state, state_after, version_reply, write_reply}
 use Rattle.cap_core.specs.Diff.{diff}
-use Rattle.cap_core.specs.Flags.{drops, is_dropped, live_sessions, makes_session, sessions_made}
-use Rattle.cap_core.specs.History.{effect_of, event_effect, is_write, main, name_saved, save_under, saved, snapshot, version}
+use Rattle.cap_core.specs.Flags.{changes_shown, drops, is_dropped, is_quiet, live_sessions, makes_session, quiet_sessions, session_named, sessions_made}
+use Rattle.cap_core.specs.History.{Databases, effect_of, event_effect, is_write, main, saved, saved_after, snapshot, version}
 use Rattle.cap_core.specs.Outcome.{Effect, no_effect, outcome}
 use Rattle.cap_core.specs.Past.{Past, is_accepted}
 use Rattle.cap_core.specs.Session.{session_of, sessions}
-use Rattle.cap_core.specs.Transition.{after_new_session, after_save, after_session, after_write, compared, next, one_more, session_left, with_left, with_sessions, written}
+use Rattle.cap_core.specs.Transition.{after_drop, after_new_session, after_save, after_session, after_write, compared, next, next_by, one_more, own_next, session_left, with_left, with_sessions, written}
 use Rattle.cap_core.proofs.HistoryLemmas.{map-map}
-use Rattle.cap_core.proofs.SessionLemmas.{and_false, effect-refused, flags-elsewhere, record_commit-new, session-elsewhere, session-quiet, session-refused, silent-elsewhere, speaks_to}
-use Rattle.cap_core.proofs.NumberLemmas.{apart_numbers, equal_numbers, lookup-beyond, lookup-passing, made_before, numbered, passing, passing-push, same_number, with-passing, without-passing}
+use Rattle.cap_core.proofs.SessionLemmas.{IsElsewhere, and_false, cond-same, effect-refused, flags-apart, flags-elsewhere, none_some, record_commit-new, session-elsewhere, session-quiet, session-refused, shown-recorded, silent-apart, silent-elsewhere, speaks_to, to_session}
+use Rattle.cap_core.proofs.NumberLemmas.{apart_numbers, is_number, lookup-beyond, lookup-passing, made_before, named_number, numbered, passing, passing-push, same_number, same_some, with-passing, without-passing}
 use Rattle.cap_core.proofs.SessionStandLemmas.{with-same}
-use Rattle.cap_core.proofs.FlagLemmas.{attach-here, attach_all-here, compared-here, enabled-here, filter-here, indirect-here, restart-here}
+use Rattle.cap_core.proofs.FlagLemmas.{session-here}
 
 accepted_version : (A : Type 0) (number : ℕ) (report : Option ReportState) → is_accepted {A = A} (version_reply number report) ≡ true
 accepted_version A number None = refl
@@ -47,24 +51,15 @@ module _ {A : Type 0} where
   numbered-none : (past : Past A) (number : ℕ) → sessions_made past < number → session_numbered (sessions past) number ≡ None
   numbered-none past number lt = lookup-beyond (is_live past) (session_of past) 1 (sessions_made past) number (omega arith)
 
-  refused-there : (s : State A) (number : ℕ) → session_numbered s.sessions number ≡ None → (other : ℕ) → nat_eq other number ≡ true → (reply : SessionState A → Reply A)
-      → is_accepted (session_answer (session_numbered s.sessions other) reply) ≡ false
-  refused-there s number none other is reply = ap (λ found. is_accepted (session_answer found reply)) (ap (session_numbered s.sessions) (equal_numbers other number is) ∙ none)
-
   unknown-refused : (s : State A) (number : ℕ) → session_numbered s.sessions number ≡ None → (c : Command A) → speaks_to number c ≡ true → is_accepted (answer s c) ≡ false
-  unknown-refused s number none (command.Attach other name) is = refused-there s number none other is (session_reply s (command.Attach other name))
-  unknown-refused s number none (command.AttachAll other) is = refused-there s number none other is (session_reply s (command.AttachAll other))
-  unknown-refused s number none (command.SetFilter other filter) is = refused-there s number none other is (session_reply s (command.SetFilter other filter))
-  unknown-refused s number none (command.Enable other asked) is = refused-there s number none other is (session_reply s (command.Enable other asked))
-  unknown-refused s number none (command.Indirect other asked) is = refused-there s number none other is (session_reply s (command.Indirect other asked))
-  unknown-refused s number none (command.Diff other from name) is = refused-there s number none other is (session_reply s (command.Diff other from name))
-  unknown-refused s number none (command.Restart other) is = refused-there s number none other is (session_reply s (command.Restart other))
-  unknown-refused s number none _ is = cc
+  unknown-refused s number none c is =
+      ap (λ named. is_accepted (answer_by named s c)) (named_number number (session_named c) is)
+      ∙ ap (λ found. is_accepted (session_answer found (session_reply s c))) none
 
   unknown-stays : (s : State A) (number : ℕ) → session_numbered s.sessions number ≡ None → (c : Command A) → (is_accepted (answer s c) && drops number c) ≡ false
   unknown-stays s number none (command.DropSession other) =
       elim (nat_eq other number) as (λ b. nat_eq other number ≡ b → (is_accepted (answer s (command.DropSession other)) && b) ≡ false) [
-        | true ↦ λ is. ap (λ b. b && true) (refused-there s number none other is (session_reply s (command.DropSession other)))
+        | true ↦ λ is. ap (λ b. b && true) (unknown-refused s number none (command.DropSession other) is)
         | false ↦ λ _. and_false _
       ] refl
   unknown-stays s number none c = and_false (is_accepted (answer s c))
@@ -75,7 +70,7 @@ module _ {A : Type 0} where
       let before = made_before (is_accepted event.reply && makes_session event.command) (sessions_made past) number lt in
       let known = not_made past number legal.1 before in
       let none = numbered-none past number before in
-      let changes = (event_effect (snapshot past) event).changes in (
+      let changes = changes_shown number event.command (event_effect (snapshot past) event).changes in (
         elim (speaks_to number event.command) as (λ b. speaks_to number event.command ≡ b → session_of (event ∷ past) number ≡ new_session) [
           | true ↦ λ speaks. session-refused number event past (ap is_accepted legal.0 ∙ unknown-refused (state_after past) number none event.command speaks) ∙ known.0
           | false ↦ λ apart. session-elsewhere number event past apart ∙ ap (record_commit (main past) changes) known.0 ∙ record_commit-new (main past) changes
@@ -91,7 +86,7 @@ module _ {A : Type 0} where
       same_state _ _ (add-one (length past))
       (sym (ap (λ e. e.database) (effect-refused event (snapshot past) refused)))
       (sym (ap (λ b. cond (b && is_write event.command) (version past + 1) (version past)) refused))
-      (sym (ap (λ b. cond b (save_under (name_saved event.command) (main past) (saved past)) (saved past)) refused))
+      (sym (ap (λ b. cond b (saved_after event.command (main past) (saved past)) (saved past)) refused))
       (sym (ap (λ b. cond (b && makes_session event.command) (sessions_made past + 1) (sessions_made past)) refused))
       (sym (λ i.
       map (λ number. (number, session-refused number event past refused i))
@@ -108,34 +103,46 @@ module _ {A : Type 0} where
   record IsWrite (c : Command A) : Type 0 where
     writes : is_write c ≡ true
     makes : makes_session c ≡ false
-    saves : name_saved c ≡ None
+    saves : (tables : Tables A) (databases : Databases A) → saved_after c tables databases ≡ databases
     drops : (number : ℕ) → drops number c ≡ false
     speaks : (number : ℕ) → speaks_to number c ≡ false
 
   next-written : (past : Past A) (event : Event A) (effect : Effect A) → IsWrite event.command → is_accepted event.reply ≡ true → outcome (snapshot past) event.command ≡ Ok effect
-      → written (state_after past) effect.database effect.changes ≡ state_after (event ∷ past)
+      → written (state_after past) effect.database effect.changes (quiet_sessions event.command) ≡ state_after (event ∷ past)
   next-written past event effect write accepted is =
       let effected : event_effect (snapshot past) event ≡ effect = λ i. cond (accepted i) (effect_of (main past) (is i)) (no_effect (main past)) in
-      let recorded : (number : ℕ) → record_commit (main past) effect.changes (session_of past number) ≡ session_of (event ∷ past) number =
-      λ number. sym (session-elsewhere number event past (write.speaks number) ∙ ap (λ e. record_commit (main past) e.changes (session_of past number)) effected) in
+      let recorded : (number : ℕ) → cond (is_quiet number event.command) (session_of past number) (record_commit (main past) effect.changes (session_of past number)) ≡ session_of (event ∷ past) number =
+      λ number. shown-recorded (main past) effect.changes (is_quiet number event.command) (session_of past number)
+      ∙ sym (session-elsewhere number event past (write.speaks number) ∙ ap (λ e. record_commit (main past) (changes_shown number event.command e.changes) (session_of past number)) effected) in
       let made : sessions_made (event ∷ past) ≡ sessions_made past = λ i. cond (accepted i && write.makes i) (sessions_made past + 1) (sessions_made past) in
       let live : live_sessions (event ∷ past) ≡ live_sessions past = λ i. filter (λ number. not ((accepted i && write.drops number i) || is_dropped past number)) (range_with_len 1 (made i)) in
       same_state _ _ (add-one (length past))
       (sym (ap (λ e. e.database) effected))
       (sym (λ i. cond (accepted i && write.writes i) (version past + 1) (version past)))
-      (sym (λ i. cond (accepted i) (save_under (write.saves i) (main past) (saved past)) (saved past)))
+      (sym (λ i. cond (accepted i) (write.saves (main past) (saved past) i) (saved past)))
       (sym made)
-      (map-map (λ session. (session.0, record_commit (main past) effect.changes session.1)) (λ number. (number, session_of past number)) (live_sessions past)
+      (map-map (λ session. (session.0, cond (is_quiet session.0 event.command) session.1 (record_commit (main past) effect.changes session.1))) (λ number. (number, session_of past number)) (live_sessions past)
       ∙ (λ i. map (λ number. (number, recorded number i)) (live_sessions past))
       ∙ ap (numbered (session_of (event ∷ past))) (sym live))
 
   next-write : (past : Past A) (by : ℕ) (c : Command A) → IsWrite c
-      → after_write (state_after past) (outcome (snapshot past) c) ≡ state_after (event_by by c (write_reply (state_after past) (outcome (snapshot past) c)) ∷ past)
+      → after_write (state_after past) (quiet_sessions c) (outcome (snapshot past) c) ≡ state_after (event_by by c (write_reply (state_after past) (outcome (snapshot past) c)) ∷ past)
   next-write past by c write =
-      elim (outcome (snapshot past) c) as (λ r. outcome (snapshot past) c ≡ r → after_write (state_after past) r ≡ state_after (event_by by c (write_reply (state_after past) r) ∷ past)) [
+      elim (outcome (snapshot past) c) as (λ r. outcome (snapshot past) c ≡ r → after_write (state_after past) (quiet_sessions c) r ≡ state_after (event_by by c (write_reply (state_after past) r) ∷ past)) [
         | Err why ↦ λ is. after_refusal (event_by by c (Refused why.0 why.1)) past refl
         | Ok effect ↦ λ is. next-written past (event_by by c (version_reply (version past + 1) effect.report)) effect write (accepted_version A (version past + 1) effect.report) is
       ] refl
+
+  -- an application, which is refused where a session that it leaves as it is is not live
+  next-apply : (past : Past A) (by : ℕ) (blob : Contents A) (policy : Policy) (quiet : List ℕ)
+      → next (state_after past) (command.Apply blob policy quiet) ≡ state_after (event_by by (command.Apply blob policy quiet) (answer (state_after past) (command.Apply blob policy quiet)) ∷ past)
+  next-apply past by blob policy quiet =
+      let s = state_after past in
+      let c : Command A = command.Apply blob policy quiet in
+      elim (refused_quiet (sessions past) quiet) as (λ o. after_write s quiet (effect_unless o (outcome (snapshot past) c)) ≡ state_after (event_by by c (write_reply s (effect_unless o (outcome (snapshot past) c))) ∷ past)) [
+        | None ↦ next-write past by c (record { writes = refl; makes = refl; saves = λ _ _. refl; drops = λ _. refl; speaks = λ _. refl })
+        | Some why ↦ after_refusal (event_by by c (Refused None why)) past refl
+      ]
 
   next-save : (past : Past A) (by : ℕ) (name : List ℕ) → after_save (state_after past) name ≡ state_after (event_by by (command.SaveAs name) (save_reply (saved past) name) ∷ past)
   next-save past by name =
@@ -143,6 +150,14 @@ module _ {A : Type 0} where
       ≡ state_after (event_by by (command.SaveAs name) (cond b Done (refusal TooMany)) ∷ past)) [
         | true ↦ let event : Event A = event_by by (command.SaveAs name) Done in same_state _ _ (add-one (length past)) refl refl refl refl (sessions-still event past (λ _. refl) refl)
         | false ↦ after_refusal (event_by by (command.SaveAs name) (refusal TooMany)) past refl
+      ]
+
+  next-drop : (past : Past A) (by : ℕ) (name : List ℕ) → after_drop (state_after past) name ≡ state_after (event_by by (command.DropDatabase name) (drop_reply (saved past) name) ∷ past)
+  next-drop past by name =
+      elim (is_some (get bytes_cmp (saved past) name)) as (λ b. cond b (record (one_more (state_after past)) { saved = take_entry bytes_cmp (saved past) name }) (one_more (state_after past))
+      ≡ state_after (event_by by (command.DropDatabase name) (cond b Done (refusal NoDatabase)) ∷ past)) [
+        | true ↦ let event : Event A = event_by by (command.DropDatabase name) Done in same_state _ _ (add-one (length past)) refl refl refl refl (sessions-still event past (λ _. refl) refl)
+        | false ↦ after_refusal (event_by by (command.DropDatabase name) (refusal NoDatabase)) past refl
       ]
 
   -- ---- the sessions
@@ -170,28 +185,33 @@ module _ {A : Type 0} where
 
   -- ---- one session
 
+  quiet-changes : (past : Past A) (event : Event A) (number : ℕ) → session_named event.command ≡ Some number → (event_effect (snapshot past) event).changes ≡ []
+  quiet-changes past event number named =
+      let own = to_session event.command number named in
+      ap (λ r. (cond (is_accepted event.reply) (effect_of (main past) r) (no_effect (main past))).changes) (own.leaves (snapshot past))
+      ∙ ap (λ e. e.changes) (cond-same (is_accepted event.reply) (no_effect (main past)))
+
   -- a command to one session changes it alone
-  changed-sessions : (past : Past A) (event : Event A) (number : ℕ) (session : SessionState A) (change : SessionState A → SessionState A)
-      → ((j : ℕ) → (j ≡ number → ⊥) → speaks_to j event.command ≡ false) → (event_effect (snapshot past) event).changes ≡ []
-      → session_numbered (sessions past) number ≡ Some session → change (session_of past number) ≡ session_of (event ∷ past) number
-      → with_session (sessions past) number (change session) ≡ numbered (session_of (event ∷ past)) (live_sessions past)
-  changed-sessions past event number session change apart none is changed =
-      let found = lookup-passing (is_live past) (session_of past) 1 (sessions_made past) number session is in
-      with-passing (is_live past) (session_of past) (session_of (event ∷ past)) 1 (sessions_made past) number (change session) (ap change found.1 ∙ changed)
-      (λ j other. sym (session-quiet j event past (silent-elsewhere j event past (apart j other)) (flags-elsewhere j event past (apart j other)) none))
+  changed-sessions : (past : Past A) (event : Event A) (number : ℕ) (left : SessionState A) → session_named event.command ≡ Some number → left ≡ session_of (event ∷ past) number
+      → with_session (sessions past) number left ≡ numbered (session_of (event ∷ past)) (live_sessions past)
+  changed-sessions past event number left named is =
+      with-passing (is_live past) (session_of past) (session_of (event ∷ past)) 1 (sessions_made past) number left is
+      (λ j other.
+      let apart : speaks_to j event.command ≡ false = ap (is_number j) named ∙ apart_numbers number j other in
+      sym (session-quiet j event past (silent-elsewhere j event past apart) (flags-elsewhere j event past apart) (quiet-changes past event number named)))
 
   -- what a command to a session leaves where it is there
   abbrev Leaves : Past A → ℕ → ℕ → Command A → Type 0
   Leaves past by number c =
       (session : SessionState A) → session_numbered (sessions past) number ≡ Some session
-      → with_sessions (state_after past) (with_left (sessions past) number (session_left (state_after past) c session)) ≡ state_after (event_by by c (session_reply (state_after past) c session) ∷ past)
+      → with_sessions (state_after past) (with_left (sessions past) number (session_left (main past) (saved past) c session)) ≡ state_after (event_by by c (session_reply (state_after past) c session) ∷ past)
 
   next-told : (past : Past A) (by number : ℕ) (c : Command A) → Leaves past by number c
-      → after_session (state_after past) number (session_numbered (sessions past) number) (session_left (state_after past) c)
+      → after_session (state_after past) number (session_numbered (sessions past) number) (session_left (main past) (saved past) c)
       ≡ state_after (event_by by c (session_answer (session_numbered (sessions past) number) (session_reply (state_after past) c)) ∷ past)
   next-told past by number c there =
       let s = state_after past in
-      elim (session_numbered (sessions past) number) as (λ o. session_numbered (sessions past) number ≡ o → after_session s number o (session_left s c) ≡ state_after (event_by by c (session_answer o (session_reply s c)) ∷ past)) [
+      elim (session_numbered (sessions past) number) as (λ o. session_numbered (sessions past) number ≡ o → after_session s number o (session_left s.main s.saved c) ≡ state_after (event_by by c (session_answer o (session_reply s c)) ∷ past)) [
         | None ↦ λ is. after_refusal (event_by by c (refusal NoSession)) past refl
         | Some session ↦ λ is. there session is
       ] refl
@@ -203,92 +223,71 @@ module _ {A : Type 0} where
       (without-passing (is_live past) (is_live (event ∷ past)) (session_of past) (session_of (event ∷ past)) 1 (sessions_made past) number
       (ap (λ b. not (b || is_dropped past number)) (same_number number))
       (λ j apart. sym (ap (λ b. not (b || is_dropped past j)) (apart_numbers number j apart)))
-      (λ j. sym (session-quiet j event past (silent-elsewhere j event past refl) (flags-elsewhere j event past refl) refl)))
+      (λ j.
+      let apart : IsElsewhere j past event.command = record { enabled = refl; indirect = refl; filter = refl; all = refl; attached = refl; compared = refl; restarts = refl } in
+      sym (session-quiet j event past (silent-apart j event past apart) (flags-apart j event past apart) refl)))
 
-  leaves-attach : (past : Past A) (by number : ℕ) (name : List ℕ) → Leaves past by number (command.Attach number name)
-  leaves-attach past by number name session is =
-      let event : Event A = event_by by (command.Attach number name) Done in
-      same_state _ _ (add-one (length past)) refl refl refl refl
-      (changed-sessions past event number session (attached name) (λ j apart. apart_numbers number j apart) refl is (attach-here past by number name))
+  -- a session that is there and goes on
+  leaves-left : (past : Past A) (by number : ℕ) (c : Command A) → session_named c ≡ Some number → ((j : ℕ) → drops j c ≡ false) → (session left : SessionState A) → session_numbered (sessions past) number ≡ Some session
+      → session_left (main past) (saved past) c session ≡ Some left → (reply : Reply A) → is_accepted reply ≡ true
+      → with_sessions (state_after past) (with_session (sessions past) number left) ≡ state_after (event_by by c reply ∷ past)
+  leaves-left past by number c named stays session left is goes reply accepted =
+      let event : Event A = event_by by c reply in
+      let own = to_session c number named in
+      let found = lookup-passing (is_live past) (session_of past) 1 (sessions_made past) number session is in
+      let quiet : event_effect (snapshot past) event ≡ no_effect (main past) = λ i. cond (accepted i) (effect_of (main past) (own.leaves (snapshot past) i)) (no_effect (main past)) in
+      let made : sessions_made (event ∷ past) ≡ sessions_made past = λ i. cond (accepted i && own.makes i) (sessions_made past + 1) (sessions_made past) in
+      let live : live_sessions (event ∷ past) ≡ live_sessions past = λ i. filter (λ j. not ((accepted i && stays j i) || is_dropped past j)) (range_with_len 1 (made i)) in
+      let changed : left ≡ session_of (event ∷ past) number =
+      ap (λ o. unwrap_or o (session_of past number)) (sym goes ∙ ap (session_left (main past) (saved past) c) found.1) ∙ sym (session-here past by number c reply accepted named) in
+      same_state _ _ (add-one (length past))
+      (sym (ap (λ e. e.database) quiet))
+      (sym (λ i. cond (accepted i && own.writes i) (version past + 1) (version past)))
+      (sym (λ i. cond (accepted i) (own.saves (main past) (saved past) i) (saved past)))
+      (sym made)
+      (changed-sessions past event number left named changed ∙ ap (numbered (session_of (event ∷ past))) (sym live))
 
-  leaves-attach_all : (past : Past A) (by number : ℕ) → Leaves past by number (command.AttachAll number)
-  leaves-attach_all past by number session is =
-      let event : Event A = event_by by (command.AttachAll number) Done in
-      same_state _ _ (add-one (length past)) refl refl refl refl
-      (changed-sessions past event number session attach_all (λ j apart. apart_numbers number j apart) refl is (attach_all-here past by number))
+  -- a command that a session refuses leaves it as it is
+  pub refused-left : (s : State A) (c : Command A) (session : SessionState A) → is_accepted (session_reply s c session) ≡ false → session_left s.main s.saved c session ≡ Some session
+  refused-left s (command.Diff number from name) session is = inner (diff s.main s.saved from name) is
+    where
+      inner : (r : Result (Option (List (Difference A))) Refusal) → is_accepted (diffed {A = A} r) ≡ false → Some (compared name r session) ≡ Some session
+      inner (Ok found) none = cc
+      inner (Err why) none = refl
+  refused-left s _ session is = cc
 
-  leaves-filter : (past : Past A) (by number : ℕ) (filter : Rule) → Leaves past by number (command.SetFilter number filter)
-  leaves-filter past by number filter session is =
-      let event : Event A = event_by by (command.SetFilter number filter) Done in
-      same_state _ _ (add-one (length past)) refl refl refl refl
-      (changed-sessions past event number session (set_filter filter) (λ j apart. apart_numbers number j apart) refl is (filter-here past by number filter))
-
-  leaves-enable : (past : Past A) (by number : ℕ) (asked : Option Bool) → Leaves past by number (command.Enable number asked)
-  leaves-enable past by number asked session is =
-      let event : Event A = event_by by (command.Enable number asked) (Flag (unwrap_or asked session.enabled)) in
-      same_state _ _ (add-one (length past)) refl refl refl refl
-      (changed-sessions past event number session (enabled_as asked) (λ j apart. apart_numbers number j apart) refl is (enabled-here past by number asked))
-
-  leaves-indirect : (past : Past A) (by number : ℕ) (asked : Option Bool) → Leaves past by number (command.Indirect number asked)
-  leaves-indirect past by number asked session is =
-      let event : Event A = event_by by (command.Indirect number asked) (Flag (unwrap_or asked session.indirect)) in
-      same_state _ _ (add-one (length past)) refl refl refl refl
-      (changed-sessions past event number session (indirect_as asked) (λ j apart. apart_numbers number j apart) refl is (indirect-here past by number asked))
-
-  leaves-restart : (past : Past A) (by number : ℕ) → Leaves past by number (command.Restart number)
-  leaves-restart past by number session is =
-      let event : Event A = event_by by (command.Restart number) (capture_reply (version past) (main past) session) in
-      same_state _ _ (add-one (length past)) refl refl refl refl
-      (changed-sessions past event number session restart (λ j apart. apart_numbers number j apart) refl is (restart-here past by number))
-
-  leaves-diff : (past : Past A) (by number : ℕ) (from name : List ℕ) → Leaves past by number (command.Diff number from name)
-  leaves-diff past by number from name session is =
-      let result = diff (main past) (saved past) from name in
-      let c : Command A = command.Diff number from name in
-      elim result as (λ r. result ≡ r → with_sessions (state_after past) (with_session (sessions past) number (compared name r session)) ≡ state_after (event_by by c (diffed r) ∷ past)) [
-        | Err why ↦ λ _.
-            ap (with_sessions (state_after past)) (with-same number (sessions past) session is)
-            ∙ after_refusal (event_by by c (refusal why)) past refl
-        | Ok found ↦ λ made.
-            same_state _ _ (add-one (length past)) refl refl refl refl
-            (changed-sessions past (event_by by c Done) number session (compared name (Ok found)) (λ j apart. apart_numbers number j apart) refl is
-            (ap (λ r. compared name r (session_of past number)) (sym made) ∙ compared-here past by number from name))
+  leaves : (past : Past A) (by number : ℕ) (c : Command A) → session_named c ≡ Some number → Leaves past by number c
+  leaves past by number (command.DropSession other) named = subst (λ k. Leaves past by number (command.DropSession k)) (sym (same_some other number named)) (leaves-drop past by number)
+  leaves past by number c named = λ session is.
+      let s = state_after past in
+      let reply = session_reply s c session in
+      elim (is_accepted reply) as (λ b. is_accepted reply ≡ b → with_sessions s (with_left (sessions past) number (session_left (main past) (saved past) c session)) ≡ state_after (event_by by c reply ∷ past)) [
+        | true ↦ λ accepted. leaves-left past by number c named (λ _. refl) session (unwrap_or (session_left (main past) (saved past) c session) session) is refl reply accepted
+        | false ↦ λ refused.
+            ap (λ left. with_sessions s (with_left (sessions past) number left)) (refused-left s c session refused)
+            ∙ ap (with_sessions s) (with-same number (sessions past) session is) ∙ after_refusal (event_by by c reply) past refused
       ] refl
 
-  -- ---- commands that only ask
+  -- ---- any command
 
-  next-read : (past : Past A) (by : ℕ) → one_more (state_after past) ≡ state_after (event_by by command.Read (Snapshot (snapshot past)) ∷ past)
-  next-read past by =
-      let event : Event A = event_by by command.Read (Snapshot (snapshot past)) in
-      same_state _ _ (add-one (length past)) refl refl refl refl (sessions-still event past (λ _. refl) refl)
-
-  leaves-is_empty : (past : Past A) (by number : ℕ) → Leaves past by number (command.IsEmpty number)
-  leaves-is_empty past by number session is =
-      let event : Event A = event_by by (command.IsEmpty number) (Flag (nat_eq (stored session.tables) 0)) in
-      same_state _ _ (add-one (length past)) refl refl refl refl (with-same number (sessions past) session is ∙ sessions-still event past (λ _. refl) refl)
-
-  leaves-capture : (past : Past A) (by number : ℕ) → Leaves past by number (command.Capture number)
-  leaves-capture past by number session is =
-      let event : Event A = event_by by (command.Capture number) (capture_reply (version past) (main past) session) in
-      same_state _ _ (add-one (length past)) refl refl refl refl (with-same number (sessions past) session is ∙ sessions-still event past (λ _. refl) refl)
+  -- a command that is to no session: one that is not named only asks
+  next-own : (past : Past A) (by : ℕ) (c : Command A) → session_named c ≡ None → IsLegalPast past → own_next (state_after past) c ≡ state_after (event_by by c (own_answer (state_after past) c) ∷ past)
+  next-own past by (command.CreateTable name schema) none legal = next-write past by (command.CreateTable name schema) (record { writes = refl; makes = refl; saves = λ _ _. refl; drops = λ _. refl; speaks = λ _. refl })
+  next-own past by (command.Commit batch) none legal = next-write past by (command.Commit batch) (record { writes = refl; makes = refl; saves = λ _ _. refl; drops = λ _. refl; speaks = λ _. refl })
+  next-own past by (command.Apply blob policy quiet) none legal = next-apply past by blob policy quiet
+  next-own past by (command.SaveAs name) none legal = next-save past by name
+  next-own past by (command.DropDatabase name) none legal = next-drop past by name
+  next-own past by command.NewSession none legal = next-new_session past by legal
+  next-own past by (command.DropSession number) none legal = absurd (none_some number (sym none))
+  next-own past by c none legal =
+      same_state _ _ (add-one (length past)) refl refl refl refl (sessions-still (event_by by c (own_answer (state_after past) c)) past (λ j. ap (is_number j) none) refl)
 
   pub next-is : (past : Past A) (by : ℕ) (c : Command A) → IsLegalPast past → next (state_after past) c ≡ state_after (event_by by c (answer (state_after past) c) ∷ past)
-  next-is past by (command.CreateTable name schema) legal = next-write past by (command.CreateTable name schema) (record { writes = refl; makes = refl; saves = refl; drops = λ _. refl; speaks = λ _. refl })
-  next-is past by (command.Commit batch) legal = next-write past by (command.Commit batch) (record { writes = refl; makes = refl; saves = refl; drops = λ _. refl; speaks = λ _. refl })
-  next-is past by (command.Apply blob policy) legal = next-write past by (command.Apply blob policy) (record { writes = refl; makes = refl; saves = refl; drops = λ _. refl; speaks = λ _. refl })
-  next-is past by command.Read legal = next-read past by
-  next-is past by (command.SaveAs name) legal = next-save past by name
-  next-is past by command.NewSession legal = next-new_session past by legal
-  next-is past by (command.DropSession number) legal = next-told past by number (command.DropSession number) (leaves-drop past by number)
-  next-is past by (command.Attach number name) legal = next-told past by number (command.Attach number name) (leaves-attach past by number name)
-  next-is past by (command.AttachAll number) legal = next-told past by number (command.AttachAll number) (leaves-attach_all past by number)
-  next-is past by (command.SetFilter number filter) legal = next-told past by number (command.SetFilter number filter) (leaves-filter past by number filter)
-  next-is past by (command.Enable number asked) legal = next-told past by number (command.Enable number asked) (leaves-enable past by number asked)
-  next-is past by (command.Indirect number asked) legal = next-told past by number (command.Indirect number asked) (leaves-indirect past by number asked)
-  next-is past by (command.IsEmpty number) legal = next-told past by number (command.IsEmpty number) (leaves-is_empty past by number)
-  next-is past by (command.Diff number from name) legal = next-told past by number (command.Diff number from name) (leaves-diff past by number from name)
-  next-is past by (command.Capture number) legal = next-told past by number (command.Capture number) (leaves-capture past by number)
-  next-is past by (command.Restart number) legal = next-told past by number (command.Restart number) (leaves-restart past by number)
+  next-is past by c legal =
+      elim (session_named c) as (λ named. session_named c ≡ named → next_by named (state_after past) c ≡ state_after (event_by by c (answer_by named (state_after past) c) ∷ past)) [
+        | None ↦ λ none. next-own past by c none legal
+        | Some number ↦ λ named. next-told past by number c (leaves past by number c named)
+      ] refl
 
   -- ---- histories, the first event first
 

@@ -1,7 +1,7 @@
 -- Sessions under their numbers, among the numbers that were given.
 use Rattle.std.proofs.lemmas.List.Elements.{filter-append}
 use Rattle.std.proofs.lemmas.Bool.Decides.{nat_tests}
-use Rattle.std.proofs.Common.{◌≡◌, ℕ, suc, zero, ◌+◌, ◌<◌, ◌≤◌, Bool, true, false, cond, Some, None, List, [], ◌∷◌, ◌++◌, map, refl, sym, ap, ap₂, ◌∙◌, arith, nat_eq, add-zero}
+use Rattle.std.proofs.Common.{◌≡◌, ℕ, suc, zero, ◌+◌, ◌<◌, ◌≤◌, Bool, true, false, cond, Option, Some, None, List, [], ◌∷◌, ◌++◌, map, refl, sym, ap, ap₂, ◌∙◌, arith, nat_eq, add-zero}
 use Rattle.std.specs.Prelude.{filter}
 use Rattle.std.specs.List.{range_with_len}
 use Rattle.std.specs.Map.{lookup}
@@ -25,6 +25,18 @@ equal_numbers m n is = grind (arith, nat_tests)
 
 pub unequal_numbers : (m n : ℕ) → nat_eq m n ≡ false → m ≡ n → ⊥
 unequal_numbers m n is e = let clash : true ≡ false = sym (same_number n) ∙ ap (λ k. nat_eq k n) (sym e) ∙ is in cc
+
+-- the number that is named is this one
+abbrev pub is_number : ℕ → Option ℕ → Bool
+is_number n None = false
+is_number n (Some m) = nat_eq m n
+
+pub named_number : (n : ℕ) (named : Option ℕ) → is_number n named ≡ true → named ≡ Some n
+named_number n None is = cc
+named_number n (Some m) is = ap Some (equal_numbers m n is)
+
+pub same_some : (m n : ℕ) → Some m ≡ Some n → m ≡ n
+same_some m n is = cc
 
 -- the numbers from a on that pass
 abbrev pub passing : (ℕ → Bool) → ℕ → ℕ → List ℕ

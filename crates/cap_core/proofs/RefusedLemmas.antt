@@ -1,14 +1,14 @@
 -- A refusal that is known without memory is the reply, and leaves the server as it is but for the count of events.
 use Rattle.std.proofs.Common.{◌≡◌, ◌∙◌, ◌+◌, ◌++◌, ℕ, Bool, true, false, cond, Option, Some, None, Result, Ok, Err, List, [], ◌∷◌, length, nat_le, refl, sym, ap, subst}
 use Rattle.std.specs.Option.{option_map}
-use Rattle.std.specs.Prelude.{IfSome}
+use Rattle.std.specs.Prelude.{IfSome, is_some}
 use Rattle.std.specs.Result.{result_err}
 use Rattle.cap_value.specs.declared.memory.Fault.{Fault}
 use Rattle.cap_value.specs.declared.memory.Fault.TheVariants as fault
 use Rattle.cap_value.specs.Bytes.{bytes_cmp}
 use Rattle.cap_value.specs.declared.refusal.Refusal.{Refusal}
-use Rattle.cap_value.specs.declared.refusal.Refusal.TheVariants.{TooMany}
-use Rattle.cap_tree.specs.Tree.{put_entry}
+use Rattle.cap_value.specs.declared.refusal.Refusal.TheVariants.{NoDatabase, TooMany}
+use Rattle.cap_tree.specs.Tree.{get, put_entry, take_entry}
 use Rattle.cap_apply.specs.Report.{ReportState}
 use Rattle.cap_compare.specs.declared.difference.Difference.{Difference}
 use Rattle.cap_table.specs.Table.{TableState}
@@ -23,12 +23,14 @@ use Rattle.cap_core.specs.declared.command.Command.{Command}
 use Rattle.cap_core.specs.declared.command.Command.TheVariants as command
 use Rattle.cap_core.specs.declared.reply.Reply.{Reply}
 use Rattle.cap_core.specs.declared.reply.Reply.TheVariants.{Done, Refused, Session}
-use Rattle.cap_core.specs.Answer.{State, answer, diffed, has_room_for, refusal, session_answer, session_reply, snapshot_of, version_reply, write_reply}
+use Rattle.cap_core.specs.Answer.{State, answer, application, answer_by, diffed, effect_unless, has_room_for, own_answer, refusal, refused_quiet, session_answer, session_reply, snapshot_of, version_reply, write_reply}
 use Rattle.cap_core.specs.Code.CommandOutcome.{Reports}
-use Rattle.cap_core.specs.Diff.{diff}
+use Rattle.cap_core.specs.Flags.{session_named}
 use Rattle.cap_core.specs.Outcome.{Effect, Refused as Why, commit_unless, created as effect_created, made, outcome}
 use Rattle.cap_core.specs.RefusedFirst.{RepliesFirst, no_session, refusal_in, refused_batch, refused_first, refused_op, whole}
-use Rattle.cap_core.specs.Transition.{after_session, after_write, compared, next, one_more, session_left, with_left, with_sessions}
+use Rattle.cap_core.specs.Transition.{after_session, after_write, next, next_by, one_more, own_next, session_left, with_left, with_sessions}
+use Rattle.cap_core.specs.Past.{is_accepted}
+use Rattle.cap_core.proofs.NextLemmas.{refused-left}
 use Rattle.cap_core.proofs.SessionStandLemmas.{with-same}
 
 version-accepted : (A : Type 0) (number : ℕ) (report : Option ReportState) (why : Why) → refusal_in {A = A} (version_reply number report) ≡ Some why → ⊥
@@ -73,16 +75,20 @@ module _ {A : Type 0} where
   batch-refused s ops (Some w) why is = let same : (None, w) ≡ why = cc in ap (λ (v : Why). let told : Reply A = Refused v.0 v.1 in told) same
   batch-refused s ops None why is = op-refused s ops why is
 
+  unless-refused : (s : State A) (o : Option Refusal) (r : Result (Effect A) Why) (why : Why) → whole o ≡ Some why → write_reply s (effect_unless o r) ≡ Refused why.0 why.1
+  unless-refused s None r why is = cc
+  unless-refused s (Some w) r why is = let same : (None, w) ≡ why = cc in ap (λ (v : Why). let told : Reply A = Refused v.0 v.1 in told) same
+
   pub first-answer : (s : State A) (c : Command A) (why : Why) → refused_first s c ≡ Some why → answer s c ≡ Refused why.0 why.1
   first-answer s (command.Commit batch) why is = batch-refused s batch.ops (stale batch.base batch.seen (snapshot_of s)) why is
-  first-answer s (command.Apply blob policy) why is = cc
+  first-answer s (command.Apply blob policy quiet) why is = unless-refused s (refused_quiet s.sessions quiet) (outcome (snapshot_of s) (command.Apply blob policy quiet)) why is
   first-answer s c why is = refused-is (answer s c) why is
 
   -- ---- the state after it
 
-  write-next : (s : State A) (r : Result (Effect A) Why) (why : Why) → refusal_in (write_reply s r) ≡ Some why → after_write s r ≡ one_more s
-  write-next s (Ok effect) why is = absurd (version-accepted A (s.version + 1) effect.report why is)
-  write-next s (Err w) why is = refl
+  write-next : (s : State A) (quiet : List ℕ) (r : Result (Effect A) Why) (why : Why) → refusal_in (write_reply s r) ≡ Some why → after_write s quiet r ≡ one_more s
+  write-next s quiet (Ok effect) why is = absurd (version-accepted A (s.version + 1) effect.report why is)
+  write-next s quiet (Err w) why is = refl
 
   either-next : (b : Bool) (accepted refused : Reply A) (left after : State A) (why : Why) → refusal_in accepted ≡ None → refusal_in (cond b accepted refused) ≡ Some why → cond b left after ≡ after
   either-next true accepted refused left after why none is = absurd (cc (none, is))
@@ -102,39 +108,30 @@ module _ {A : Type 0} where
       inner None known is = refl
       inner (Some session) known is = there session known is
 
-  diff-next : (s : State A) (number : ℕ) (name : List ℕ) (session : SessionState A) (r : Result (Option (List (Difference A))) Refusal) (why : Why) → session_numbered s.sessions number ≡ Some session
-      → refusal_in (diffed r) ≡ Some why → with_sessions s (with_left s.sessions number (Some (compared name r session))) ≡ one_more s
-  diff-next s number name session (Ok found) why there is = cc
-  diff-next s number name session (Err w) why there is = ap (with_sessions s) (with-same number s.sessions session there)
-
-  plain-next : (s : State A) (number : ℕ) (c : Command A) (why : Why) → ((session : SessionState A) → refusal_in (session_reply s c session) ≡ None)
-      → refusal_in (session_answer (session_numbered s.sessions number) (session_reply s c)) ≡ Some why
-      → after_session s number (session_numbered s.sessions number) (session_left s c) ≡ one_more s
-  plain-next s number c why none is = session-next s number (session_reply s c) (session_left s c) why (λ session there is. absurd (cc (none session, is))) is
-
-  pub first-next : (s : State A) (c : Command A) (why : Why) → refused_first s c ≡ Some why → next s c ≡ one_more s
-  first-next s (command.CreateTable name schema) why is = write-next s (outcome (snapshot_of s) (command.CreateTable name schema)) why is
-  first-next s (command.Commit batch) why is =
-      write-next s (outcome (snapshot_of s) (command.Commit batch)) why (ap refusal_in (first-answer s (command.Commit batch) why is))
-  first-next s (command.Apply blob policy) why is = cc
-  first-next s command.Read why is = cc
-  first-next s (command.SaveAs name) why is =
+  -- a command that is to no session
+  own-refused : (s : State A) (c : Command A) (why : Why) → refusal_in (own_answer s c) ≡ Some why → own_next s c ≡ one_more s
+  own-refused s (command.CreateTable name schema) why is = write-next s [] (outcome (snapshot_of s) (command.CreateTable name schema)) why is
+  own-refused s (command.Commit batch) why is = write-next s [] (outcome (snapshot_of s) (command.Commit batch)) why is
+  own-refused s (command.Apply blob policy quiet) why is = write-next s quiet (application s blob policy quiet) why is
+  own-refused s (command.SaveAs name) why is =
       either-next (has_room_for s.saved name) Done (refusal TooMany) (record (one_more s) { saved = put_entry bytes_cmp s.saved name s.main }) (one_more s) why refl is
-  first-next s command.NewSession why is =
+  own-refused s (command.DropDatabase name) why is =
+      either-next (is_some (get bytes_cmp s.saved name)) Done (refusal NoDatabase) (record (one_more s) { saved = take_entry bytes_cmp s.saved name }) (one_more s) why refl is
+  own-refused s command.NewSession why is =
       room-next (nat_le 64 (length s.sessions)) (refusal TooMany) (Session (s.sessions_made + 1)) (one_more s)
       (record (one_more s) { sessions_made = s.sessions_made + 1; sessions = s.sessions ++ (s.sessions_made + 1, new_session) ∷ [] }) why refl is
-  first-next s (command.Diff number from name) why is =
-      session-next s number (session_reply s (command.Diff number from name)) (session_left s (command.Diff number from name)) why
-      (λ session there is. diff-next s number name session (diff s.main s.saved from name) why there is) is
-  first-next s (command.DropSession number) why is = plain-next s number (command.DropSession number) why (λ _. refl) is
-  first-next s (command.Attach number name) why is = plain-next s number (command.Attach number name) why (λ _. refl) is
-  first-next s (command.AttachAll number) why is = plain-next s number (command.AttachAll number) why (λ _. refl) is
-  first-next s (command.SetFilter number filter) why is = plain-next s number (command.SetFilter number filter) why (λ _. refl) is
-  first-next s (command.Enable number asked) why is = plain-next s number (command.Enable number asked) why (λ _. refl) is
-  first-next s (command.Indirect number asked) why is = plain-next s number (command.Indirect number asked) why (λ _. refl) is
-  first-next s (command.IsEmpty number) why is = plain-next s number (command.IsEmpty number) why (λ _. refl) is
-  first-next s (command.Capture number) why is = plain-next s number (command.Capture number) why (λ _. refl) is
-  first-next s (command.Restart number) why is = plain-next s number (command.Restart number) why (λ _. refl) is
+  own-refused s _ why is = refl
+
+  pub first-next : (s : State A) (c : Command A) (why : Why) → refused_first s c ≡ Some why → next s c ≡ one_more s
+  first-next s c why is =
+      elim (session_named c) as (λ named. refusal_in (answer_by named s c) ≡ Some why → next_by named s c ≡ one_more s) [
+        | None ↦ λ told. own-refused s c why told
+        | Some number ↦ λ told. session-next s number (session_reply s c) (session_left s.main s.saved c) why
+            (λ session there refused.
+            ap (λ left. with_sessions s (with_left s.sessions number left)) (refused-left s c session (ap is_accepted (refused-is (session_reply s c session) why refused)))
+            ∙ ap (with_sessions s) (with-same number s.sessions session there))
+            told
+      ] (ap refusal_in (first-answer s c why is))
 
   -- ---- what a step answers
 

@@ -32,7 +32,7 @@ use Rattle.cap_session.specs.Session.{AttachedTables, record_of, records_of as a
 use Rattle.cap_core.specs.declared.command.Command.{Command}
 use Rattle.cap_core.specs.declared.command.Command.TheVariants as command
 use Rattle.cap_core.specs.declared.event.Event.{Event}
-use Rattle.cap_core.specs.Flags.{is_enabled, is_indirect}
+use Rattle.cap_core.specs.Flags.{is_enabled, is_indirect, is_quiet}
 use Rattle.cap_core.specs.History.{event_effect, is_write, main, snapshot}
 use Rattle.cap_core.specs.Outcome.{Effect, is_of_row, no_effect}
 use Rattle.cap_core.specs.Past.{Past, is_accepted}
@@ -47,7 +47,7 @@ use Rattle.cap_core.proofs.AppliedCaptureLemmas.{capture_fits, changes_apply, re
 use Rattle.cap_core.proofs.LawLemmas.{first_image}
 use Rattle.cap_core.proofs.StayLemmas.{event-keeps, row_stays}
 use Rattle.cap_core.proofs.HistoryLemmas.{is_among, is_among-first_of_each, none_of, table_names, table_names-append, touches-none, touches_of-append}
-use Rattle.cap_core.proofs.SessionLemmas.{IsSilent, and_false, kept, silent-elsewhere, speaks_to, told-on}
+use Rattle.cap_core.proofs.SessionLemmas.{IsSilent, and_false, kept, shown-none, silent-elsewhere, speaks_to, told-on}
 use Rattle.cap_core.proofs.SmallLemmas.{second}
 use Rattle.cap_core.proofs.TouchedLemmas.{fields_same, tied, told}
 
@@ -118,10 +118,10 @@ module _ {A : Type 0} where
   writes-apart : (session : ℕ) (c : Command A) → is_write c ≡ true → speaks_to session c ≡ false
   writes-apart session (command.CreateTable name schema) is = refl
   writes-apart session (command.Commit batch) is = refl
-  writes-apart session (command.Apply blob policy) is = refl
+  writes-apart session (command.Apply blob policy quiet) is = refl
   writes-apart session _ is = cc
 
-  module _ (session : ℕ) (event : Event A) (past : Past A) (on : is_enabled session past ≡ true) (apart : event_diff session event past ≡ None) where
+  module _ (session : ℕ) (event : Event A) (past : Past A) (on : (is_enabled session past ≡ true) × (is_quiet session event.command ≡ false)) (apart : event_diff session event past ≡ None) where
     abbrev changes_here : List (Change A)
     changes_here = (event_effect (snapshot past) event).changes
 
@@ -138,11 +138,12 @@ module _ {A : Type 0} where
           | true ↦ λ writes.
               let silent : IsSilent session event past = silent-elsewhere session event past (writes-apart session event.command (second (is_accepted event.reply) (is_write event.command) writes)) in
               first-told (touches_of name (changes_touch session event past)) key
-              ∙ ap (λ ts. told_first ts key) (told-on session event past silent on name listed)
+              ∙ ap (λ ts. told_first ts key) (told-on session event past silent on.0 name listed)
+              ∙ ap (λ b. told_first (told_by (main past) (is_indirect session past) name (cond b [] changes_here)) key) on.1
               ∙ told-named (main past) (is_indirect session past) name changes_here key
           | false ↦ λ quiet.
               let none : changes_here ≡ [] = ap (λ e. e.changes) (quiet-effect past event quiet) in
-              ap (λ changes. first_touched (cond (is_enabled session past) (filter (is_recorded (attachings session (event ∷ past))) (filter_map (touch_of session past) (enumerate_from 0 changes))) []) name key) none
+              ap (λ changes. first_touched (cond (is_enabled session past) (filter (is_recorded (attachings session (event ∷ past))) (filter_map (touch_of session past) (enumerate_from 0 changes))) []) name key) (shown-none session event.command changes_here none)
               ∙ elim (is_enabled session past) as (λ b. first_touched (cond b [] []) name key ≡ None) [ true ↦ refl | false ↦ refl ]
               ∙ ap (λ changes. cond (list_any (is_of_row name key) changes) (Some (row_at (main past) name key)) None) (sym none)
         ] refl
@@ -152,7 +153,7 @@ module _ {A : Type 0} where
     touched-absent name key absent =
         let now : is_among name (table_names (attachings session (event ∷ past))) ≡ false = sym (is_among-first_of_each name (table_names (attachings session (event ∷ past)))) ∙ absent in
         ap (λ ts. first_touched ts name key) event-touches
-        ∙ elim (is_enabled session past) as (λ b. first_touched (cond b (filter (is_recorded (attachings session (event ∷ past))) (filter_map (touch_of session past) (event_changes event past))) []) name key ≡ None) [
+        ∙ elim (is_enabled session past) as (λ b. first_touched (cond b (filter (is_recorded (attachings session (event ∷ past))) (filter_map (touch_of session past) (event_changes session event past))) []) name key ≡ None) [
           | true ↦ ap (λ pairs. option_map (λ touch. touch.image) (get fields_cmp pairs key)) (none_of (attachings session (event ∷ past)) name now _)
           | false ↦ refl
         ]
@@ -232,7 +233,7 @@ module _ {A : Type 0} where
   restarts-write session (command.Restart number) is = refl
   restarts-write session (command.CreateTable name schema) is = cc
   restarts-write session (command.Commit batch) is = cc
-  restarts-write session (command.Apply blob policy) is = cc
+  restarts-write session (command.Apply blob policy quiet) is = cc
   restarts-write session _ is = refl
 
   sooner-none : (first later : Option (Option (Fields A))) → sooner first later ≡ None → (first ≡ None) × (later ≡ None)

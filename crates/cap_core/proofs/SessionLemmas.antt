@@ -1,7 +1,7 @@
 -- What one more event makes of a session.
 use Rattle.std.proofs.lemmas.List.{append-nil}
 use Rattle.std.proofs.lemmas.List.Folds.{list_any-append}
-use Rattle.std.proofs.Common.{◌≡◌, ℕ, Bool, true, false, cond, Some, None, List, [], ◌∷◌, ◌++◌, ◌&&◌, ◌||◌, map, length, refl, sym, ap, ◌∙◌, nat_eq}
+use Rattle.std.proofs.Common.{◌≡◌, ℕ, Bool, true, false, cond, Some, None, Ok, List, [], ◌∷◌, ◌++◌, ◌&&◌, ◌||◌, map, length, refl, sym, ap, ◌∙◌}
 use Rattle.std.specs.Prelude.{filter, fold}
 use Rattle.std.specs.List.{enumerate_from, filter_map}
 use Rattle.std.specs.Option.{unwrap_or}
@@ -17,13 +17,14 @@ use Rattle.cap_core.specs.declared.command.Command.{Command}
 use Rattle.cap_core.specs.declared.command.Command.TheVariants as command
 use Rattle.cap_core.specs.declared.event.Event.{Event}
 use Rattle.cap_core.specs.Diff.{diff}
-use Rattle.cap_core.specs.Flags.{asks_enabled, asks_for_all, asks_indirect, filter_set, is_enabled, is_indirect, last_filter, later, rule as rule_of, rule_by, wants_all}
-use Rattle.cap_core.specs.History.{effect_of, event_effect, main, saved, snapshot}
+use Rattle.cap_core.specs.Flags.{asks_enabled, asks_for_all, asks_indirect, changes_shown, filter_set, is_enabled, is_indirect, is_quiet, last_filter, later, makes_session, rule as rule_of, rule_by, session_named, wants_all}
+use Rattle.cap_core.specs.History.{Databases, effect_of, event_effect, is_write, main, saved, saved_after, snapshot}
 use Rattle.cap_core.specs.Outcome.{no_effect, outcome}
 use Rattle.cap_core.specs.Past.{Past, is_accepted}
 use Rattle.cap_core.specs.Session.{records_of, session_of}
 use Rattle.cap_core.specs.Touch.{Attaching, attach_list, attaching_at, attaching_by, attachings, changes_touch, diff_by, diff_touches, event_changes, event_diff, first_of_each, found_in, is_recorded, names_attached, names_compared, restarts, touch_of, touches, touches_of}
 use Rattle.cap_core.proofs.HistoryLemmas.{accepted-by-changes, attach_by-named, first_of_each-append, is_among, is_among-first_of_each, map-listed, map-map, names-by-changes, none-by-changes, push_by, seen_before, seen_now, table_names, table_names-append, touches-none, touches-told, touches_of-append}
+use Rattle.cap_core.proofs.NumberLemmas.{is_number}
 use Rattle.cap_core.proofs.TouchedLemmas.{records_of-append, records_of-none, told}
 
 pub cond-same : {X : Type 0} (b : Bool) (x : X) → cond b x x ≡ x
@@ -36,6 +37,9 @@ and_false false = refl
 
 either_true : (a b : Bool) → (a || b) ≡ true → a ≡ false → b ≡ true
 either_true a b is none = cc
+
+pub none_some : (n : ℕ) → None ≡ Some n → ⊥
+none_some n is = cc
 
 map-same : {X : Type 0} (xs : List X) → map (λ x. x) xs ≡ xs
 map-same [] = refl
@@ -61,7 +65,7 @@ module _ {A : Type 0} where
 
   module _ (session : ℕ) (event : Event A) (past : Past A) (silent : IsSilent session event past) where
     abbrev changes_made : List (Change A)
-    changes_made = (event_effect (snapshot past) event).changes
+    changes_made = changes_shown session event.command (event_effect (snapshot past) event).changes
 
     abbrev by_changes : List Attaching
     by_changes = filter_map (attaching_by session past) (enumerate_from 0 changes_made)
@@ -134,7 +138,7 @@ module _ {A : Type 0} where
         ap (λ moments. first_of_each (table_names moments)) (attachings-silent ∙ ap (λ ms. moments_before ++ ms) (none-by-changes session past off 0 changes_made) ∙ append-nil moments_before) in
         let same : touches session (event ∷ past) ≡ touches session past =
         touches-silent
-        ∙ ap (λ b. touches session past ++ cond b (filter (is_recorded (attachings session (event ∷ past))) (filter_map (touch_of session past) (event_changes event past))) []) off
+        ∙ ap (λ b. touches session past ++ cond b (filter (is_recorded (attachings session (event ∷ past))) (filter_map (touch_of session past) (event_changes session event past))) []) off
         ∙ append-nil (touches session past) in
         λ i. map (λ name. (name, records_of (touches_of name (same i)))) (list i)
 
@@ -169,12 +173,21 @@ module _ {A : Type 0} where
   record_commit-new before changes =
       ap (λ tables. record new_session { tables = touch_tables before false changes tables }) (attach_by-nothing (map (λ change. change.table) changes) [])
 
+  -- no changes are none to each session
+  pub shown-none : (session : ℕ) (c : Command A) (changes : List (Change A)) → changes ≡ [] → changes_shown session c changes ≡ []
+  shown-none session c changes none = ap (cond (is_quiet session c) []) none ∙ cond-same (is_quiet session c) []
+
+  -- a session that is shown none stays as it is
+  pub shown-recorded : (before : Tables A) (changes : List (Change A)) (quiet : Bool) (s : SessionState A) → cond quiet s (record_commit before changes s) ≡ record_commit before (cond quiet [] changes) s
+  shown-recorded before changes true s = sym (record_commit-nothing before s)
+  shown-recorded before changes false s = refl
+
   pub tables-quiet : (session : ℕ) (event : Event A) (past : Past A) → IsSilent session event past → (event_effect (snapshot past) event).changes ≡ []
       → (session_of (event ∷ past) session).tables ≡ (session_of past session).tables
   tables-quiet session event past silent none =
       let tables = (session_of past session).tables in
       tables-silent session event past silent
-      ∙ ap (λ changes. cond (is_enabled session past) (touch_tables (main past) (is_indirect session past) changes (attach_by_rule (rule_of session past) changes tables)) tables) none
+      ∙ ap (λ changes. cond (is_enabled session past) (touch_tables (main past) (is_indirect session past) changes (attach_by_rule (rule_of session past) changes tables)) tables) (shown-none session event.command _ none)
       ∙ ap (λ same. cond (is_enabled session past) same tables) (map-same tables)
       ∙ cond-same (is_enabled session past) tables
 
@@ -186,30 +199,40 @@ module _ {A : Type 0} where
     pub rule : rule_of session (event ∷ past) ≡ rule_of session past
 
   pub session-recorded : (session : ℕ) (event : Event A) (past : Past A) → IsSilent session event past → KeepsFlags session event past
-      → session_of (event ∷ past) session ≡ record_commit (main past) (event_effect (snapshot past) event).changes (session_of past session)
+      → session_of (event ∷ past) session ≡ record_commit (main past) (changes_shown session event.command (event_effect (snapshot past) event).changes) (session_of past session)
   session-recorded session event past silent flags =
       same_session _ _ flags.enabled flags.indirect flags.rule (tables-silent session event past silent)
-      ∙ sym (record_commit-is (main past) (event_effect (snapshot past) event).changes (session_of past session))
+      ∙ sym (record_commit-is (main past) (changes_shown session event.command (event_effect (snapshot past) event).changes) (session_of past session))
 
   -- the command is to the session
   abbrev pub speaks_to : ℕ → Command A → Bool
-  speaks_to session (command.Attach number name) = nat_eq number session
-  speaks_to session (command.AttachAll number) = nat_eq number session
-  speaks_to session (command.SetFilter number filter) = nat_eq number session
-  speaks_to session (command.Enable number asked) = nat_eq number session
-  speaks_to session (command.Indirect number asked) = nat_eq number session
-  speaks_to session (command.Diff number from name) = nat_eq number session
-  speaks_to session (command.Restart number) = nat_eq number session
-  speaks_to session _ = false
+  speaks_to session c = is_number session (session_named c)
 
-  record IsElsewhere (session : ℕ) (past : Past A) (c : Command A) : Type 0 where
-    enabled : asks_enabled session c ≡ None
-    indirect : asks_indirect session c ≡ None
-    filter : filter_set session c ≡ None
-    all : asks_for_all session c ≡ false
-    attached : names_attached session c ≡ []
-    compared : diff_by session c past ≡ None
-    restarts : restarts session c ≡ false
+  -- what a command to a session does not do
+  pub record IsToSession (c : Command A) : Type 0 where
+    pub writes : is_write c ≡ false
+    pub saves : (tables : Tables A) (databases : Databases A) → saved_after c tables databases ≡ databases
+    pub makes : makes_session c ≡ false
+    pub leaves : (now : SnapshotState A) → outcome now c ≡ Ok (no_effect now.database)
+
+  pub to_session : (c : Command A) (number : ℕ) → session_named c ≡ Some number → IsToSession c
+  to_session (command.CreateTable name schema) number is = absurd (none_some number is)
+  to_session (command.Commit batch) number is = absurd (none_some number is)
+  to_session (command.Apply blob policy quiet) number is = absurd (none_some number is)
+  to_session (command.SaveAs name) number is = absurd (none_some number is)
+  to_session (command.DropDatabase name) number is = absurd (none_some number is)
+  to_session command.NewSession number is = absurd (none_some number is)
+  to_session _ number is = record { writes = refl; saves = λ _ _. refl; makes = refl; leaves = λ _. refl }
+
+  -- a command that says nothing to the session
+  pub record IsElsewhere (session : ℕ) (past : Past A) (c : Command A) : Type 0 where
+    pub enabled : asks_enabled session c ≡ None
+    pub indirect : asks_indirect session c ≡ None
+    pub filter : filter_set session c ≡ None
+    pub all : asks_for_all session c ≡ false
+    pub attached : names_attached session c ≡ []
+    pub compared : diff_by session c past ≡ None
+    pub restarts : restarts session c ≡ false
 
   elsewhere : (session : ℕ) (past : Past A) (c : Command A) → speaks_to session c ≡ false → IsElsewhere session past c
   elsewhere session past (command.Attach number name) is =
@@ -229,9 +252,8 @@ module _ {A : Type 0} where
   elsewhere session past _ is =
       record { enabled = refl; indirect = refl; filter = refl; all = refl; attached = refl; compared = refl; restarts = refl }
 
-  pub silent-elsewhere : (session : ℕ) (event : Event A) (past : Past A) → speaks_to session event.command ≡ false → IsSilent session event past
-  silent-elsewhere session event past is =
-      let apart = elsewhere session past event.command is in
+  pub silent-apart : (session : ℕ) (event : Event A) (past : Past A) → IsElsewhere session past event.command → IsSilent session event past
+  silent-apart session event past apart =
       let accepted = is_accepted event.reply in
       record {
         attached = ap (λ names. cond accepted (map (attaching_at (length past) 0) names) []) apart.attached ∙ cond-same accepted [];
@@ -239,9 +261,8 @@ module _ {A : Type 0} where
         restarts = ap (λ b. accepted && b) apart.restarts ∙ and_false accepted;
       }
 
-  pub flags-elsewhere : (session : ℕ) (event : Event A) (past : Past A) → speaks_to session event.command ≡ false → KeepsFlags session event past
-  flags-elsewhere session event past is =
-      let apart = elsewhere session past event.command is in
+  pub flags-apart : (session : ℕ) (event : Event A) (past : Past A) → IsElsewhere session past event.command → KeepsFlags session event past
+  flags-apart session event past apart =
       let accepted = is_accepted event.reply in
       let filtered : last_filter session (event ∷ past) ≡ last_filter session past = ap (λ set. cond accepted (later set (last_filter session past)) (last_filter session past)) apart.filter ∙ cond-same accepted (last_filter session past) in
       let wanted : wants_all session (event ∷ past) ≡ wants_all session past = ap (λ b. (accepted && b) || wants_all session past) apart.all ∙ ap (λ b. b || wants_all session past) (and_false accepted) in
@@ -250,6 +271,12 @@ module _ {A : Type 0} where
         indirect = ap (λ asked. cond accepted (unwrap_or asked (is_indirect session past)) (is_indirect session past)) apart.indirect ∙ cond-same accepted (is_indirect session past);
         rule = λ i. rule_by (filtered i) (wanted i);
       }
+
+  pub silent-elsewhere : (session : ℕ) (event : Event A) (past : Past A) → speaks_to session event.command ≡ false → IsSilent session event past
+  silent-elsewhere session event past is = silent-apart session event past (elsewhere session past event.command is)
+
+  pub flags-elsewhere : (session : ℕ) (event : Event A) (past : Past A) → speaks_to session event.command ≡ false → KeepsFlags session event past
+  flags-elsewhere session event past is = flags-apart session event past (elsewhere session past event.command is)
 
   pub silent-refused : (session : ℕ) (event : Event A) (past : Past A) → is_accepted event.reply ≡ false → IsSilent session event past
   silent-refused session event past refused = record {
@@ -274,12 +301,24 @@ module _ {A : Type 0} where
   pub session-quiet : (session : ℕ) (event : Event A) (past : Past A) → IsSilent session event past → KeepsFlags session event past → (event_effect (snapshot past) event).changes ≡ []
       → session_of (event ∷ past) session ≡ session_of past session
   session-quiet session event past silent flags none =
-      session-recorded session event past silent flags ∙ ap (λ changes. record_commit (main past) changes (session_of past session)) none ∙ record_commit-nothing (main past) (session_of past session)
+      session-recorded session event past silent flags ∙ ap (λ changes. record_commit (main past) changes (session_of past session)) (shown-none session event.command _ none) ∙ record_commit-nothing (main past) (session_of past session)
 
   pub session-refused : (session : ℕ) (event : Event A) (past : Past A) → is_accepted event.reply ≡ false → session_of (event ∷ past) session ≡ session_of past session
   session-refused session event past refused =
       session-quiet session event past (silent-refused session event past refused) (flags-refused session event past refused) (ap (λ effect. effect.changes) (effect-refused event (snapshot past) refused))
 
   pub session-elsewhere : (session : ℕ) (event : Event A) (past : Past A) → speaks_to session event.command ≡ false
-      → session_of (event ∷ past) session ≡ record_commit (main past) (event_effect (snapshot past) event).changes (session_of past session)
+      → session_of (event ∷ past) session ≡ record_commit (main past) (changes_shown session event.command (event_effect (snapshot past) event).changes) (session_of past session)
   session-elsewhere session event past is = session-recorded session event past (silent-elsewhere session event past is) (flags-elsewhere session event past is)
+
+  -- a command that leaves a session as it is
+
+  quiet-elsewhere : (session : ℕ) (c : Command A) → is_quiet session c ≡ true → speaks_to session c ≡ false
+  quiet-elsewhere session (command.Apply blob policy quiet) is = refl
+  quiet-elsewhere session _ is = cc
+
+  pub quiet-stays : (past : Past A) (event : Event A) (session : ℕ) → is_quiet session event.command ≡ true → session_of (event ∷ past) session ≡ session_of past session
+  quiet-stays past event session is =
+      session-elsewhere session event past (quiet-elsewhere session event.command is)
+      ∙ ap (λ b. record_commit (main past) (cond b [] (event_effect (snapshot past) event).changes) (session_of past session)) is
+      ∙ record_commit-nothing (main past) (session_of past session)

@@ -33,7 +33,7 @@ use Rattle.cap_session.specs.declared.rule.AutomaticRule.{AutomaticRule}
 use Rattle.cap_session.specs.Recording.{attach_by, attach_by_rule, is_cascade, record_commit, record_diff, touch_of, touch_tables, touches_found, touches_of}
 use Rattle.cap_session.specs.Records.{Records, Touch, record_after, touch, with_touches}
 use Rattle.cap_session.specs.Session.{AttachedTables, SessionState, accepts_by, attach, forget, is_listed, new_session}
-use Rattle.cap_session.specs.Sessions.{NumberedSessions, record_commit_each, session_numbered, with_session, without_session}
+use Rattle.cap_session.specs.Sessions.{NumberedSessions, is_one_of, record_commit_each, session_numbered, with_session, without_session}
 use Rattle.cap_core.specs.CanCapture.{image_stands, records_stand, session_stands, tables_stand}
 use Rattle.cap_core.specs.Code.Sound.{KeepsColumns, differences_stand, sessions_stand}
 use Rattle.cap_core.proofs.SmallLemmas.{both, first, second}
@@ -197,10 +197,14 @@ module _ {A : Type 0} where
       ]
 
   -- the sessions after a commit that keeps the columns of the tables
-  pub record_commit_each-stand : (before after : Tables A) → EachRises before → KeepsColumns before after → (changes : List (Change A)) (sessions : NumberedSessions A) → sessions_stand before sessions ≡ true → sessions_stand after (record_commit_each before changes sessions) ≡ true
-  record_commit_each-stand before after rises kept changes =
-      list_all-map (λ session. session_stands before session.1) (λ session. session_stands after session.1) (λ session. (session.0, record_commit before changes session.1))
-      (λ session all. session_stands-kept before after kept (record_commit before changes session.1) (record_commit-stands before rises changes session.1 all))
+  pub record_commit_each-stand : (before after : Tables A) → EachRises before → KeepsColumns before after → (changes : List (Change A)) (quiet : List ℕ) (sessions : NumberedSessions A) → sessions_stand before sessions ≡ true → sessions_stand after (record_commit_each before changes quiet sessions) ≡ true
+  record_commit_each-stand before after rises kept changes quiet =
+      list_all-map (λ session. session_stands before session.1) (λ session. session_stands after session.1) (λ session. (session.0, cond (is_one_of quiet session.0) session.1 (record_commit before changes session.1)))
+      (λ session all. session_stands-kept before after kept (cond (is_one_of quiet session.0) session.1 (record_commit before changes session.1)) (each session all (is_one_of quiet session.0)))
+    where
+      each : (session : ℕ × SessionState A) → session_stands before session.1 ≡ true → (b : Bool) → session_stands before (cond b session.1 (record_commit before changes session.1)) ≡ true
+      each session all true = all
+      each session all false = record_commit-stands before rises changes session.1 all
 
   -- a session after a diff of a table, which found rows of the table's width under their own keys
   pub record_diff-stands : (database : Tables A) (name : List ℕ) (differences : List (Difference A)) (session : SessionState A) → differences_stand (schema_of database name) differences ≡ true → session_stands database session ≡ true

@@ -391,7 +391,7 @@ module _ {A : Type 0} where
     outcome-stays : (now : SnapshotState A) (c : Command A) → EffectStays now.database (outcome now c)
     outcome-stays now (command.CreateTable other schema) = create-stays now.database other schema
     outcome-stays now (command.Commit batch) = commit-stays (stale batch.base batch.seen now) now.database batch.ops
-    outcome-stays now (command.Apply blob policy) = applied-stays now.database (apply now.database blob policy) (groups-more policy (requested_of blob) 0 0 (nothing_applied now.database))
+    outcome-stays now (command.Apply blob policy quiet) = applied-stays now.database (apply now.database blob policy) (groups-more policy (requested_of blob) 0 0 (nothing_applied now.database))
     outcome-stays now _ = λ _. refl
 
     pub row_stays : (now : SnapshotState A) (event : Event A) → list_any (is_of_row name key) (event_effect now event).changes ≡ false
@@ -479,7 +479,7 @@ module _ {A : Type 0} where
       outcome-keeps : (now : SnapshotState A) (c : Command A) → EffectKeeps now.database (outcome now c)
       outcome-keeps now (command.CreateTable other schema) = created-keeps now.database (create now.database other schema) (creates now.database other schema)
       outcome-keeps now (command.Commit batch) = commit-keeps (stale batch.base batch.seen now) now.database batch.ops
-      outcome-keeps now (command.Apply blob policy) = applied-keeps now.database (apply now.database blob policy) (groups-more policy (requested_of blob) 0 0 (nothing_applied now.database))
+      outcome-keeps now (command.Apply blob policy quiet) = applied-keeps now.database (apply now.database blob policy) (groups-more policy (requested_of blob) 0 0 (nothing_applied now.database))
       outcome-keeps now _ = nothing-keeps now.database
 
       pub event-keeps : (now : SnapshotState A) (event : Event A) → Keeps now.database (event_effect now event)

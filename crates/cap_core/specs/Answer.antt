@@ -1,15 +1,19 @@
 -- The state that a history leaves, the reply to a command after it, and which histories are legal.
 use Rattle.std.specs.Prelude.{◌≡◌, ℕ, Option, Some, None, Result, Ok, Err, Bool, List, [], ◌∷◌, ◌+◌, ◌||◌}
-use Rattle.std.specs.Prelude.{length, reverse, is_some, option_and_then, nat_eq, nat_le, nat_lt}
+use Rattle.std.specs.Prelude.{length, reverse, is_some, nat_eq, nat_le, nat_lt}
 use Rattle.std.specs.Prelude.{if◌then◌else◌}
+use Rattle.std.specs.List.{list_all}
+use Rattle.std.specs.Map.{keys_of}
 use Rattle.std.specs.Option.{unwrap_or}
 use Rattle.cap_value.specs.Bytes.{bytes_cmp}
 use Rattle.cap_value.specs.declared.refusal.Refusal.{Refusal}
-use Rattle.cap_value.specs.declared.refusal.Refusal.TheVariants.{TooMany, NoSession}
+use Rattle.cap_value.specs.declared.refusal.Refusal.TheVariants.{NoDatabase, NoSession, TooMany}
 use Rattle.cap_tree.specs.Tree.{get}
 use Rattle.cap_database.specs.Snapshot.{SnapshotState}
 use Rattle.cap_database.specs.Tables.{Tables}
+use Rattle.cap_codec.specs.declared.read.Contents.{Contents}
 use Rattle.cap_apply.specs.Report.{ReportState}
+use Rattle.cap_apply.specs.declared.policy.Policy.{Policy}
 use Rattle.cap_compare.specs.declared.difference.Difference.{Difference}
 use Rattle.cap_session.specs.Session.{SessionState, stored}
 use Rattle.cap_session.specs.Sessions.{NumberedSessions, session_numbered}
@@ -18,11 +22,12 @@ use Rattle.cap_core.specs.declared.command.Command.TheVariants as command
 use Rattle.cap_core.specs.declared.event.Event.{Event}
 use Rattle.cap_core.specs.declared.reply.Reply.{Reply}
 use Rattle.cap_core.specs.declared.reply.Reply.TheVariants.{Done, Written, Applied, Session, Snapshot, Flag}
-use Rattle.cap_core.specs.declared.reply.Reply.TheVariants.{Capture, Refused}
+use Rattle.cap_core.specs.declared.reply.Reply.TheVariants.{Capture, Databases, Refused, Sessions}
 use Rattle.cap_core.specs.Capture.{session_changes}
 use Rattle.cap_core.specs.Diff.{diff}
 use Rattle.cap_core.specs.Flags.{session_named, sessions_made}
-use Rattle.cap_core.specs.History.{Databases, main, saved, version}
+use Rattle.cap_core.specs.History.{Databases as Saved, main, saved, version}
+use Rattle.cap_core.specs.Listed.{listed_sessions}
 use Rattle.cap_core.specs.Outcome.{Effect, Refused as Why, outcome}
 use Rattle.cap_core.specs.Past.{Past}
 use Rattle.cap_core.specs.Session.{sessions}
@@ -33,7 +38,7 @@ pub record State (A : Type 0) : Type 0 where
   pub events : ℕ
   pub main : Tables A
   pub version : ℕ
-  pub saved : Databases A
+  pub saved : Saved A
   pub sessions_made : ℕ
   pub sessions : NumberedSessions A
 
@@ -58,11 +63,14 @@ module _ {A : Type 0} where
   write_reply state (Err why) = Refused why.0 why.1
 
   -- a name that is there is saved anew
-  abbrev pub has_room_for : Databases A → List ℕ → Bool
+  abbrev pub has_room_for : Saved A → List ℕ → Bool
   has_room_for saved name = is_some (get bytes_cmp saved name) || nat_lt (length saved) 16
 
-  abbrev pub save_reply : Databases A → List ℕ → Reply A
+  abbrev pub save_reply : Saved A → List ℕ → Reply A
   save_reply saved name = if has_room_for saved name then Done else refusal TooMany
+
+  abbrev pub drop_reply : Saved A → List ℕ → Reply A
+  drop_reply saved name = if is_some (get bytes_cmp saved name) then Done else refusal NoDatabase
 
   abbrev pub new_session_reply : State A → Reply A
   new_session_reply state =
@@ -94,19 +102,45 @@ module _ {A : Type 0} where
   session_answer None reply = refusal NoSession
   session_answer (Some session) reply = reply session
 
-  -- the reply to a command in a state: the last case is that of the commands to a session
-  abbrev pub answer : State A → Command A → Reply A
-  answer state (command.CreateTable name schema) =
+  -- Why a command that leaves these sessions as they are is refused, if it is: one of them is not live.
+  abbrev pub refused_quiet : NumberedSessions A → List ℕ → Option Refusal
+  refused_quiet sessions quiet =
+      if list_all (λ number. is_some (session_numbered sessions number)) quiet then None else Some NoSession
+
+  abbrev pub effect_unless : Option Refusal → Result (Effect A) Why → Result (Effect A) Why
+  effect_unless None effect = effect
+  effect_unless (Some why) effect = Err (None, why)
+
+  -- the effect of an application, or why it is refused
+  abbrev pub application : State A → Contents A → Policy → List ℕ → Result (Effect A) Why
+  application state blob policy quiet =
+      effect_unless (refused_quiet state.sessions quiet)
+      (outcome (snapshot_of state) (command.Apply blob policy quiet))
+
+  -- the reply to a command that is to no session: the last case is that of `Read`
+  abbrev pub own_answer : State A → Command A → Reply A
+  own_answer state (command.CreateTable name schema) =
       write_reply state (outcome (snapshot_of state) (command.CreateTable name schema))
-  answer state (command.Commit batch) = write_reply state (outcome (snapshot_of state) (command.Commit batch))
-  answer state (command.Apply blob policy) =
-      write_reply state (outcome (snapshot_of state) (command.Apply blob policy))
-  answer state command.Read = Snapshot (snapshot_of state)
-  answer state (command.SaveAs name) = save_reply state.saved name
-  answer state command.NewSession = new_session_reply state
-  answer state command =
-      session_answer (option_and_then (session_numbered state.sessions) (session_named command))
-      (session_reply state command)
+  own_answer state (command.Commit batch) =
+      write_reply state (outcome (snapshot_of state) (command.Commit batch))
+  own_answer state (command.Apply blob policy quiet) =
+      write_reply state (application state blob policy quiet)
+  own_answer state (command.SaveAs name) = save_reply state.saved name
+  own_answer state (command.DropDatabase name) = drop_reply state.saved name
+  own_answer state command.Databases = Databases (keys_of state.saved)
+  own_answer state command.Sessions = Sessions (listed_sessions state.sessions)
+  own_answer state command.NewSession = new_session_reply state
+  own_answer state _ = Snapshot (snapshot_of state)
+
+  -- the reply to a command to the session with this number, or to none
+  abbrev pub answer_by : Option ℕ → State A → Command A → Reply A
+  answer_by None state command = own_answer state command
+  answer_by (Some number) state command =
+      session_answer (session_numbered state.sessions number) (session_reply state command)
+
+  -- the reply to a command in a state
+  abbrev pub answer : State A → Command A → Reply A
+  answer state command = answer_by (session_named command) state command
 
   -- ---- histories
 

@@ -4,10 +4,12 @@ use Rattle.std.specs.Prelude.{nat_eq, if◌then◌else◌}
 use Rattle.std.specs.List.{range_with_len, list_any}
 use Rattle.std.specs.Option.{unwrap_or}
 use Rattle.cap_filter.specs.Rule.{Rule}
+use Rattle.cap_database.specs.declared.change.Change.{Change}
+use Rattle.cap_session.specs.Sessions.{is_one_of}
 use Rattle.cap_session.specs.declared.rule.AutomaticRule.{AutomaticRule}
 use Rattle.cap_session.specs.declared.rule.AutomaticRule.TheVariants.{Nothing, All, Filter}
 use Rattle.cap_core.specs.declared.command.Command.{Command}
-use Rattle.cap_core.specs.declared.command.Command.TheVariants.{NewSession, DropSession, Attach, AttachAll}
+use Rattle.cap_core.specs.declared.command.Command.TheVariants.{Apply, NewSession, DropSession, Attach, AttachAll}
 use Rattle.cap_core.specs.declared.command.Command.TheVariants.{SetFilter, Enable, Indirect, IsEmpty, Diff}
 use Rattle.cap_core.specs.declared.command.Command.TheVariants.{Capture, Restart}
 use Rattle.cap_core.specs.Past.{Past, is_accepted}
@@ -42,6 +44,18 @@ module _ {A : Type 0} where
   session_named (Capture number) = Some number
   session_named (Restart number) = Some number
   session_named _ = None
+
+  -- the sessions that a command leaves as they are
+  abbrev pub quiet_sessions : Command A → List ℕ
+  quiet_sessions (Apply blob policy quiet) = quiet
+  quiet_sessions _ = []
+
+  abbrev pub is_quiet : ℕ → Command A → Bool
+  is_quiet session command = is_one_of (quiet_sessions command) session
+
+  -- the changes of a command that a session is shown: none, where the command leaves it as it is
+  abbrev pub changes_shown : ℕ → Command A → List (Change A) → List (Change A)
+  changes_shown session command changes = if is_quiet session command then [] else changes
 
   abbrev pub drops : ℕ → Command A → Bool
   drops session (DropSession number) = nat_eq number session

@@ -1,12 +1,12 @@
 -- The tables that a history leaves, their version, and the saved databases: read off all its events.
-use Rattle.std.specs.Prelude.{ℕ, Bool, true, false, Option, Some, None, Result, Ok, Err, List, [], ◌∷◌, ◌+◌}
+use Rattle.std.specs.Prelude.{ℕ, Bool, true, false, Result, Ok, Err, List, [], ◌∷◌, ◌+◌}
 use Rattle.std.specs.Prelude.{◌&&◌, if◌then◌else◌}
 use Rattle.cap_value.specs.Bytes.{bytes_cmp}
-use Rattle.cap_tree.specs.Tree.{put_entry}
+use Rattle.cap_tree.specs.Tree.{put_entry, take_entry}
 use Rattle.cap_database.specs.Snapshot.{SnapshotState}
 use Rattle.cap_database.specs.Tables.{Tables}
 use Rattle.cap_core.specs.declared.command.Command.{Command}
-use Rattle.cap_core.specs.declared.command.Command.TheVariants.{CreateTable, Commit, Apply, SaveAs}
+use Rattle.cap_core.specs.declared.command.Command.TheVariants.{CreateTable, Commit, Apply, DropDatabase, SaveAs}
 use Rattle.cap_core.specs.declared.event.Event.{Event}
 use Rattle.cap_core.specs.Outcome.{Effect, Refused, no_effect, outcome}
 use Rattle.cap_core.specs.Past.{Past, is_accepted}
@@ -19,7 +19,7 @@ module _ {A : Type 0} where
   abbrev pub is_write : Command A → Bool
   is_write (CreateTable name schema) = true
   is_write (Commit batch) = true
-  is_write (Apply blob policy) = true
+  is_write (Apply blob policy quiet) = true
   is_write _ = false
 
   -- the number of accepted commands that write
@@ -48,17 +48,14 @@ module _ {A : Type 0} where
   abbrev pub snapshot : Past A → SnapshotState A
   snapshot past = record { version = version past; database = main past }
 
-  abbrev pub name_saved : Command A → Option (List ℕ)
-  name_saved (SaveAs name) = Some name
-  name_saved _ = None
-
-  abbrev pub save_under : Option (List ℕ) → Tables A → Databases A → Databases A
-  save_under None tables databases = databases
-  save_under (Some name) tables databases = put_entry bytes_cmp databases name tables
+  -- the saved databases after an accepted command, by the tables before it
+  abbrev pub saved_after : Command A → Tables A → Databases A → Databases A
+  saved_after (SaveAs name) tables databases = put_entry bytes_cmp databases name tables
+  saved_after (DropDatabase name) tables databases = take_entry bytes_cmp databases name
+  saved_after _ tables databases = databases
 
   -- each saved database: the tables as they were when they were last saved under its name
   abbrev pub saved : Past A → Databases A
   saved [] = []
   saved (event ∷ past) =
-      if is_accepted event.reply then save_under (name_saved event.command) (main past) (saved past)
-      else saved past
+      if is_accepted event.reply then saved_after event.command (main past) (saved past) else saved past

@@ -8,6 +8,7 @@ pub mod Diff
 pub mod Flags
 pub mod History
 pub mod Insert
+pub mod Listed
 pub mod Outcome
 pub mod Past
 pub mod RefusedFirst

@@ -62,7 +62,7 @@ module _ {A : Type 0} where
   abbrev pub outcome : SnapshotState A → Command A → Result (Effect A) Refused
   outcome now (CreateTable name schema) = created (create now.database name schema)
   outcome now (Commit batch) = commit_unless (stale batch.base batch.seen now) now.database batch.ops
-  outcome now (Apply blob policy) = applied (apply now.database blob policy)
+  outcome now (Apply blob policy quiet) = applied (apply now.database blob policy)
   outcome now _ = Ok (no_effect now.database)
 
   -- the change is of the row under this key of the table

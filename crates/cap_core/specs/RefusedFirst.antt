@@ -14,7 +14,7 @@ use Rattle.cap_core.specs.declared.command.Command.{Command}
 use Rattle.cap_core.specs.declared.command.Command.TheVariants.{Commit, Apply}
 use Rattle.cap_core.specs.declared.reply.Reply.{Reply}
 use Rattle.cap_core.specs.declared.reply.Reply.TheVariants.{Refused}
-use Rattle.cap_core.specs.Answer.{State, answer, snapshot_of}
+use Rattle.cap_core.specs.Answer.{State, answer, refused_quiet, snapshot_of}
 use Rattle.cap_core.specs.Outcome.{Refused as Why}
 
 -- a refusal of a whole command
@@ -41,12 +41,12 @@ module _ {A : Type 0} where
   refused_batch None tables ops = refused_op tables ops
 
   -- A batch is refused where it is out of date, and then where its first operation is refused before memory
-  -- is needed. Conflicts of a blob are found as it is applied, which needs memory. Each refusal of any other
-  -- command is known without it.
+  -- is needed. An application is refused where a session that it leaves as it is is not live; conflicts of its
+  -- blob are found as it is applied, which needs memory. Each refusal of any other command is known without it.
   abbrev pub refused_first : State A → Command A → Option Why
   refused_first state (Commit batch) =
       refused_batch (stale batch.base batch.seen (snapshot_of state)) state.main batch.ops
-  refused_first state (Apply blob policy) = None
+  refused_first state (Apply blob policy quiet) = whole (refused_quiet state.sessions quiet)
   refused_first state command = refusal_in (answer state command)
 
   -- where a refusal is known without memory, it is the reply, unless a hook refuses the command

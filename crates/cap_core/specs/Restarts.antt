@@ -1,5 +1,5 @@
 -- Captures in a row, each by a restart of the session, and the touches over all of them.
-use Rattle.std.specs.Prelude.{◌≡◌, ℕ, Bool, true, Option, Some, None, Ok, List, [], ◌∷◌, ◌++◌, ◌&&◌}
+use Rattle.std.specs.Prelude.{◌≡◌, ℕ, Bool, true, false, Option, Some, None, Ok, List, [], ◌∷◌, ◌++◌, ◌&&◌}
 use Rattle.std.specs.Prelude.{if◌then◌else◌}
 use Rattle.std.specs.Option.{option_map}
 use Rattle.cap_row.specs.Fields.{Fields}
@@ -16,7 +16,7 @@ use Rattle.cap_apply.specs.Apply.{apply}
 use Rattle.cap_apply.specs.declared.policy.Policy.{Policy}
 use Rattle.cap_core.specs.declared.event.Event.{Event}
 use Rattle.cap_core.specs.Capture.{session_changes}
-use Rattle.cap_core.specs.Flags.{is_enabled}
+use Rattle.cap_core.specs.Flags.{is_enabled, is_quiet}
 use Rattle.cap_core.specs.History.{main}
 use Rattle.cap_core.specs.Past.{Past, is_accepted}
 use Rattle.cap_core.specs.Session.{session_of}
@@ -43,11 +43,12 @@ module _ {A : Type 0} where
       then session_changes (main (later ++ start)) (session_of (later ++ start) session) ∷ []
       else [])
 
-  -- the session is enabled before each of the later events, and none of them is a diff of it
+  -- the session is enabled before each of the later events, none of which leaves it as it is or is a diff of it
   abbrev pub IsSteady : ℕ → List (Event A) → Past A → Type 0
   IsSteady session [] start = Unit {0}
   IsSteady session (event ∷ later) start =
-      (is_enabled session (later ++ start) ≡ true) × (event_diff session event (later ++ start) ≡ None)
+      ((is_enabled session (later ++ start) ≡ true) × (is_quiet session event.command ≡ false))
+      × (event_diff session event (later ++ start) ≡ None)
       × IsSteady session later start
 
   -- The database has for each key that was touched over all its table, with main's columns, and in it the

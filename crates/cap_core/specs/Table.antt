@@ -30,7 +30,7 @@ module _ {A : Type 0} where
   -- the changes of the blob that the command applies, if any, fit the columns of their groups, as those of
   -- every blob that a program can make
   abbrev pub BlobFits : Command A → Type 0
-  BlobFits (Apply blob policy) = FitsItsColumns blob
+  BlobFits (Apply blob policy quiet) = FitsItsColumns blob
   BlobFits _ = Unit {0}
 
   -- so does each blob that was applied

@@ -16,7 +16,7 @@ use Rattle.cap_core.specs.declared.command.Command.{Command}
 use Rattle.cap_core.specs.declared.command.Command.TheVariants.{Attach, Diff, Restart}
 use Rattle.cap_core.specs.declared.event.Event.{Event}
 use Rattle.cap_core.specs.Diff.{diff}
-use Rattle.cap_core.specs.Flags.{is_enabled, is_indirect, rule}
+use Rattle.cap_core.specs.Flags.{changes_shown, is_enabled, is_indirect, rule}
 use Rattle.cap_core.specs.History.{event_effect, main, saved, snapshot}
 use Rattle.cap_core.specs.Past.{Past, is_accepted}
 
@@ -46,9 +46,11 @@ first_of_each [] = []
 first_of_each (name ∷ names) = name ∷ filter (λ other. not (bytes_eq name other)) (first_of_each names)
 
 module _ {A : Type 0} where
-  -- the changes to rows in the event after this past, each with its index
-  abbrev pub event_changes : Event A → Past A → List (ℕ × Change A)
-  event_changes event past = enumerate_from 0 (event_effect (snapshot past) event).changes
+  -- The changes to rows in the event after this past that a session is shown, each with its index. A session
+  -- that the event leaves as it is, is shown none.
+  abbrev pub event_changes : ℕ → Event A → Past A → List (ℕ × Change A)
+  event_changes session event past =
+      enumerate_from 0 (changes_shown session event.command (event_effect (snapshot past) event).changes)
 
   -- ---- diffs
 
@@ -92,7 +94,7 @@ module _ {A : Type 0} where
       then map (attaching_at (length past) 0) (names_attached session event.command)
       else [])
       ++ map (attaching_at (length past) 0) (names_compared (event_diff session event past))
-      ++ filter_map (attaching_by session past) (event_changes event past)
+      ++ filter_map (attaching_by session past) (event_changes session event past)
 
   -- the attaching moments of a session, in order of time
   abbrev pub attachings : ℕ → Past A → List Attaching
@@ -128,12 +130,12 @@ module _ {A : Type 0} where
   is_recorded moments touch =
       list_any (λ moment. bytes_eq touch.table moment.table && is_in_time touch moment) moments
 
-  -- an enabled session is touched by the changes to rows of tables that are attached by then
+  -- an enabled session is touched by the changes that it is shown to rows of tables that are attached by then
   abbrev pub changes_touch : ℕ → Event A → Past A → List (Touch A)
   changes_touch session event past =
       if is_enabled session past
       then filter (is_recorded (attachings session (event ∷ past)))
-      (filter_map (touch_of session past) (event_changes event past))
+      (filter_map (touch_of session past) (event_changes session event past))
       else []
 
   -- the touch of a key at which a diff found a difference: the image is the row of the saved table

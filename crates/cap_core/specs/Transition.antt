@@ -1,10 +1,10 @@
 -- The state after one more command, as a function of the state. Laws relate it to the state after a history,
 -- which is read off all events.
 use Rattle.std.specs.Prelude.{ℕ, Option, Some, None, Result, Ok, Err, List, [], ◌∷◌, ◌++◌, ◌+◌, length}
-use Rattle.std.specs.Prelude.{nat_le, if◌then◌else◌}
+use Rattle.std.specs.Prelude.{is_some, nat_le, if◌then◌else◌}
 use Rattle.cap_value.specs.Bytes.{bytes_cmp}
 use Rattle.cap_value.specs.declared.refusal.Refusal.{Refusal}
-use Rattle.cap_tree.specs.Tree.{put_entry}
+use Rattle.cap_tree.specs.Tree.{get, put_entry, take_entry}
 use Rattle.cap_database.specs.Tables.{Tables}
 use Rattle.cap_database.specs.declared.change.Change.{Change}
 use Rattle.cap_compare.specs.declared.difference.Difference.{Difference}
@@ -15,9 +15,10 @@ use Rattle.cap_session.specs.Sessions.{NumberedSessions, record_commit_each, ses
 use Rattle.cap_session.specs.Sessions.{without_session}
 use Rattle.cap_core.specs.declared.command.Command.{Command}
 use Rattle.cap_core.specs.declared.command.Command.TheVariants as command
-use Rattle.cap_core.specs.Answer.{State, has_room_for, snapshot_of}
+use Rattle.cap_core.specs.Answer.{State, application, has_room_for, snapshot_of}
 use Rattle.cap_core.specs.Diff.{diff}
 use Rattle.cap_core.specs.Flags.{session_named}
+use Rattle.cap_core.specs.History.{Databases}
 use Rattle.cap_core.specs.Outcome.{Effect, Refused, outcome}
 
 module _ {A : Type 0} where
@@ -26,23 +27,29 @@ module _ {A : Type 0} where
 
   -- ---- the tables
 
-  -- these tables, one version later, with these changes in each session
-  abbrev pub written : State A → Tables A → List (Change A) → State A
-  written state tables changes =
+  -- these tables, one version later, with these changes in each session but the quiet ones
+  abbrev pub written : State A → Tables A → List (Change A) → List ℕ → State A
+  written state tables changes quiet =
       record (one_more state) {
         main = tables;
         version = state.version + 1;
-        sessions = record_commit_each state.main changes state.sessions;
+        sessions = record_commit_each state.main changes quiet state.sessions;
       }
 
-  abbrev pub after_write : State A → Result (Effect A) Refused → State A
-  after_write state (Ok effect) = written state effect.database effect.changes
-  after_write state (Err why) = one_more state
+  abbrev pub after_write : State A → List ℕ → Result (Effect A) Refused → State A
+  after_write state quiet (Ok effect) = written state effect.database effect.changes quiet
+  after_write state quiet (Err why) = one_more state
 
   abbrev pub after_save : State A → List ℕ → State A
   after_save state name =
       if has_room_for state.saved name
       then record (one_more state) { saved = put_entry bytes_cmp state.saved name state.main }
+      else one_more state
+
+  abbrev pub after_drop : State A → List ℕ → State A
+  after_drop state name =
+      if is_some (get bytes_cmp state.saved name)
+      then record (one_more state) { saved = take_entry bytes_cmp state.saved name }
       else one_more state
 
   -- ---- the sessions
@@ -62,19 +69,19 @@ module _ {A : Type 0} where
   compared name (Ok (Some differences)) session = record_diff name differences session
   compared name _ session = session
 
-  -- What a command leaves of the session that it is to, or none where it ends the session. A command that is
-  -- not named leaves it as it is.
-  abbrev pub session_left : State A → Command A → SessionState A → Option (SessionState A)
-  session_left state (command.DropSession number) session = None
-  session_left state (command.Attach number name) session = Some (attached name session)
-  session_left state (command.AttachAll number) session = Some (attach_all session)
-  session_left state (command.SetFilter number filter) session = Some (set_filter filter session)
-  session_left state (command.Enable number asked) session = Some (enabled_as asked session)
-  session_left state (command.Indirect number asked) session = Some (indirect_as asked session)
-  session_left state (command.Diff number from name) session =
-      Some (compared name (diff state.main state.saved from name) session)
-  session_left state (command.Restart number) session = Some (restart session)
-  session_left state _ session = Some session
+  -- What a command leaves of the session that it is to, by the tables and the saved databases, or none where
+  -- it ends the session. A command that is not named leaves it as it is.
+  abbrev pub session_left : Tables A → Databases A → Command A → SessionState A → Option (SessionState A)
+  session_left main saved (command.DropSession number) session = None
+  session_left main saved (command.Attach number name) session = Some (attached name session)
+  session_left main saved (command.AttachAll number) session = Some (attach_all session)
+  session_left main saved (command.SetFilter number filter) session = Some (set_filter filter session)
+  session_left main saved (command.Enable number asked) session = Some (enabled_as asked session)
+  session_left main saved (command.Indirect number asked) session = Some (indirect_as asked session)
+  session_left main saved (command.Diff number from name) session =
+      Some (compared name (diff main saved from name) session)
+  session_left main saved (command.Restart number) session = Some (restart session)
+  session_left main saved _ session = Some session
 
   -- the sessions with what is left of the one with the number
   abbrev pub with_left : NumberedSessions A → ℕ → Option (SessionState A) → NumberedSessions A
@@ -91,19 +98,26 @@ module _ {A : Type 0} where
   after_session state number (Some session) left =
       with_sessions state (with_left state.sessions number (left session))
 
-  -- A command to the session with this number, or to none.
-  abbrev pub after_named : State A → Option ℕ → (SessionState A → Option (SessionState A)) → State A
-  after_named state None left = one_more state
-  after_named state (Some number) left =
-      after_session state number (session_numbered state.sessions number) left
+  -- the state after a command that is to no session: one that is not named only asks
+  abbrev pub own_next : State A → Command A → State A
+  own_next state (command.CreateTable name schema) =
+      after_write state [] (outcome (snapshot_of state) (command.CreateTable name schema))
+  own_next state (command.Commit batch) =
+      after_write state [] (outcome (snapshot_of state) (command.Commit batch))
+  own_next state (command.Apply blob policy quiet) =
+      after_write state quiet (application state blob policy quiet)
+  own_next state (command.SaveAs name) = after_save state name
+  own_next state (command.DropDatabase name) = after_drop state name
+  own_next state command.NewSession = after_new_session state
+  own_next state _ = one_more state
 
-  -- the state after a command: the last case is that of the commands to a session, and of `Read`
+  -- the state after a command to the session with this number, or to none
+  abbrev pub next_by : Option ℕ → State A → Command A → State A
+  next_by None state command = own_next state command
+  next_by (Some number) state command =
+      after_session state number (session_numbered state.sessions number)
+      (session_left state.main state.saved command)
+
+  -- the state after a command
   abbrev pub next : State A → Command A → State A
-  next state (command.CreateTable name schema) =
-      after_write state (outcome (snapshot_of state) (command.CreateTable name schema))
-  next state (command.Commit batch) = after_write state (outcome (snapshot_of state) (command.Commit batch))
-  next state (command.Apply blob policy) =
-      after_write state (outcome (snapshot_of state) (command.Apply blob policy))
-  next state (command.SaveAs name) = after_save state name
-  next state command.NewSession = after_new_session state
-  next state command = after_named state (session_named command) (session_left state command)
+  next state command = next_by (session_named command) state command

@@ -1,5 +1,6 @@
 //! The commands of the server.
 
+use crate::QuietSessions;
 use cap_apply::{Policy, blob_fits_its_columns};
 use cap_codec::Contents;
 use cap_filter::TableFilter;
@@ -24,12 +25,15 @@ pub enum Command<A: AllocHandle> {
     /// alone, where it is not the present version; and otherwise as its first refused operation.
     Commit(Batch<A>),
     /// Applies a changeset or patchset (sqlite3changeset_apply). The reply is `Applied`. Refused with
-    /// `Aborted` where the policy aborts, or with `Misuse` where it replaces a row that is not there.
+    /// `NoSession` where a quiet session is not live, with `Aborted` where the policy aborts, or with `Misuse`
+    /// where it replaces a row that is not there.
     Apply {
         /// The changeset or patchset.
         blob: Contents<A>,
         /// How conflicts are resolved.
         policy: Policy,
+        /// The sessions that it leaves as they are. Each other session records its changes.
+        quiet: QuietSessions<A>,
     },
     /// Takes a snapshot of the tables. The reply is `Snapshot`.
     Read,
@@ -39,6 +43,15 @@ pub enum Command<A: AllocHandle> {
         /// The name.
         database: Name<A>,
     },
+    /// Drops the database that is saved under a name. Refused with `NoDatabase` where none is.
+    DropDatabase {
+        /// The name.
+        database: Name<A>,
+    },
+    /// Lists the saved databases (the sqlite3 shell's `.databases`). The reply is `Databases`.
+    Databases,
+    /// Lists the live sessions (the sqlite3 shell's `.session list`). The reply is `Sessions`.
+    Sessions,
     /// Creates a session, which records changes to its attached tables (sqlite3session_create). The reply is
     /// `Session`. Refused with `TooMany` where 64 sessions are live.
     NewSession,
@@ -119,7 +132,28 @@ pub enum Command<A: AllocHandle> {
 }
 
 impl<A: AllocHandle> Command<A> {
+    ghost use Rattle.std.specs.Prelude.{◌≡◌};
+    ghost use Rattle.cap_core.specs.Flags.{session_named};
     ghost use Rattle.cap_core.specs.Table.{BlobFits};
+
+    /// The number of the session that the command is to, where it is to one.
+    pub fn session_named(&self) -> Option<u64>
+        ensures { result ≡ session_named self.now }
+    {
+        match self {
+            Command::DropSession { session }
+            | Command::Attach { session, .. }
+            | Command::AttachAll { session }
+            | Command::SetFilter { session, .. }
+            | Command::Enable { session, .. }
+            | Command::Indirect { session, .. }
+            | Command::IsEmpty { session }
+            | Command::Diff { session, .. }
+            | Command::Capture { session }
+            | Command::Restart { session } => Some(*session),
+            _ => None,
+        }
+    }
 
     /// A law: the changes of the blob that a command applies fit the columns of their groups. At run time it
     /// only visits each group.

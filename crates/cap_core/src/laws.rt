@@ -35,7 +35,7 @@ ghost use Rattle.cap_core.specs.Capture.{CaptureState, change_now, session_chang
 ghost use Rattle.cap_core.specs.Commit.{CommitsIfUnchanged};
 ghost use Rattle.cap_core.specs.AppliedCapture.{AppliesRows, AppliesWhole, AreQuiet, HoldsImages, IsDiffed};
 ghost use Rattle.cap_core.specs.AppliedCapture.{changes_in};
-ghost use Rattle.cap_core.specs.Flags.{live_sessions, session_named};
+ghost use Rattle.cap_core.specs.Flags.{is_quiet, live_sessions, session_named};
 ghost use Rattle.cap_core.specs.History.{event_effect, main, version};
 ghost use Rattle.cap_core.specs.Insert.{HasChange, IsInsertOfAbsent, changes_by_key};
 ghost use Rattle.cap_core.specs.Outcome.{is_of_row};
@@ -179,6 +179,12 @@ pub fn a_capture_gives_the_rows_now<A: AllocHandle>()
     applied_blobs_keep_order::<A>();
     tables_keep_order::<A>();
 }
+
+/// An application leaves each quiet session as it is: its flags, its filter, its tables and its records.
+pub fn quiet_sessions_stay<A: AllocHandle>()
+    ensures { (past : Past A) (event : Event A) (session : ℕ) → is_quiet session event.command ≡ true
+        → session_of (event ∷ past) session ≡ session_of past session }
+{}
 
 /// A session without records is diffed; after that nothing is written, and the session is neither diffed nor
 /// restarted. Its capture, applied to the saved database of the diff, gives the table its present rows, key

@@ -9,11 +9,15 @@ mod diff;
 mod event;
 mod laws;
 mod limits;
+mod listed_session;
+mod names;
+mod quiet;
 mod refused_first;
 mod reply;
 mod server;
 mod session_changes;
 mod session_commands;
+mod session_list;
 mod writes;
 
 pub use capture::Capture;
@@ -26,11 +30,15 @@ pub use laws::{
     bytes_of_a_capture_give_the_rows_now, captures_have_no_empty_group,
     captures_in_a_row_give_the_rows_now, database_rises, empty_without_touches,
     fitting_histories_grow, insert_is_captured, legal_histories_grow, legal_histories_were_legal,
-    one_record_a_key, order_of_two_sessions_does_not_matter, refusal_changes_no_reply,
-    restored_row_is_no_change, rows_stand_under_own_keys, transactions_commit_if_unchanged,
-    untouched_captures_nothing,
+    one_record_a_key, order_of_two_sessions_does_not_matter, quiet_sessions_stay,
+    refusal_changes_no_reply, restored_row_is_no_change, rows_stand_under_own_keys,
+    transactions_commit_if_unchanged, untouched_captures_nothing,
 };
 pub use limits::{EVENTS_MAX, SAVED_MAX, SESSIONS_MAX};
+pub use listed_session::ListedSession;
+pub use names::NameList;
+pub use quiet::QuietSessions;
 pub use reply::Reply;
 pub use server::Core;
 pub use session_changes::{can_capture, changes_of};
+pub use session_list::SessionList;

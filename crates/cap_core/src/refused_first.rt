@@ -1,7 +1,8 @@
 //! The refusals of a command that are known without memory.
-ghost use Rattle.std.specs.Prelude.{◌≡◌};
+ghost use Rattle.std.specs.Prelude.{◌≡◌, is_some};
+ghost use Rattle.std.specs.List.{list_all};
 ghost use Rattle.std.specs.Result.{result_err};
-ghost use Rattle.cap_core.specs.Answer.{snapshot_of};
+ghost use Rattle.cap_core.specs.Answer.{refused_quiet, snapshot_of};
 ghost use Rattle.cap_core.specs.Diff.{diff};
 ghost use Rattle.cap_core.specs.RefusedFirst.{no_session, refused_batch, refused_first, whole};
 ghost use Rattle.cap_database.specs.Operation.{refused_step};
@@ -12,6 +13,7 @@ ghost use Rattle.cap_txn.specs.Stale.{stale};
 use crate::server::has_room_for;
 use crate::{Command, Core, SESSIONS_MAX};
 use cap_database::{Action, Database, Op, TABLES_MAX};
+use cap_session::Sessions;
 use cap_txn::Batch;
 use cap_value::{AllocHandle, Name, Refusal};
 
@@ -25,7 +27,7 @@ impl<A: AllocHandle> Core<A> {
     {
         match command {
             Command::Commit(batch) => self.refused_batch(batch),
-            Command::Apply { .. } | Command::Read => None,
+            Command::Apply { quiet, .. } => whole(self.refused_quiet(quiet.numbers())),
             Command::CreateTable { table, .. } => whole(refused_create(&self.main, table)),
             Command::SaveAs { database } => {
                 if has_room_for(&self.saved, database) {
@@ -33,21 +35,18 @@ impl<A: AllocHandle> Core<A> {
                 }
                 Some((None, Refusal::TooMany))
             }
+            Command::DropDatabase { database } => {
+                if self.saved.get(database).is_some() {
+                    return None;
+                }
+                Some((None, Refusal::NoDatabase))
+            }
             Command::NewSession => {
                 if self.sessions.len() < SESSIONS_MAX {
                     return None;
                 }
                 Some((None, Refusal::TooMany))
             }
-            Command::DropSession { session }
-            | Command::Attach { session, .. }
-            | Command::AttachAll { session }
-            | Command::SetFilter { session, .. }
-            | Command::Enable { session, .. }
-            | Command::Indirect { session, .. }
-            | Command::IsEmpty { session }
-            | Command::Capture { session }
-            | Command::Restart { session } => whole(self.no_session(*session)),
             Command::Diff {
                 session,
                 from,
@@ -56,7 +55,21 @@ impl<A: AllocHandle> Core<A> {
                 Some(why) => Some((None, why)),
                 None => whole(self.refused_diff(from, table)),
             },
+            _ => match command.session_named() {
+                Some(session) => whole(self.no_session(session)),
+                None => None,
+            },
         }
+    }
+
+    // One of these sessions is not live.
+    pub(crate) fn refused_quiet(&self, quiet: &[u64]) -> Option<Refusal>
+        ensures { result ≡ refused_quiet self.now.sessions quiet.now }
+    {
+        if are_live(&self.sessions, quiet) {
+            return None;
+        }
+        Some(Refusal::NoSession)
     }
 
     // A batch is out of date, or its first operation is refused.
@@ -137,5 +150,22 @@ fn refused_step<A: AllocHandle>(tables: &Database<A>, op: &Op<A>) -> Option<Refu
         Action::Insert(row) => table.refused_insert(row),
         Action::Update(name, fields) => table.refused_update(name, fields.fields()),
         Action::Delete(name) => table.refused_delete(name),
+    }
+}
+
+// Whether there is a session with each of these numbers.
+fn are_live<A: AllocHandle>(sessions: &Sessions<A>, numbers: &[u64]) -> bool
+    ensures { result
+        ≡ list_all (λ number. is_some (session_numbered sessions.now.live number)) numbers.now }
+{
+    numbers.iter().all(|number| is_live(sessions, *number))
+}
+
+fn is_live<A: AllocHandle>(sessions: &Sessions<A>, number: u64) -> bool
+    ensures { result ≡ is_some (session_numbered sessions.now.live number) }
+{
+    match sessions.get(number) {
+        Some(_) => true,
+        None => false,
     }
 }

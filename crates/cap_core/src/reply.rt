@@ -1,6 +1,6 @@
 //! The replies of the server.
 
-use crate::Capture;
+use crate::{Capture, NameList, SessionList};
 use cap_apply::Report;
 use cap_database::Snapshot;
 use cap_value::{AllocHandle, Refusal};
@@ -24,6 +24,10 @@ pub enum Reply<A: AllocHandle> {
     },
     /// A session with this number was made.
     Session(u64),
+    /// The names of the saved databases, in order.
+    Databases(NameList<A>),
+    /// The live sessions, in the order in which they were created.
+    Sessions(SessionList<A>),
     /// The tables, with their version.
     Snapshot(Snapshot<A>),
     /// The value of a flag, or whether a session is empty.

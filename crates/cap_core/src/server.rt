@@ -3,18 +3,20 @@ ghost use Rattle.std.specs.Prelude.{◌≡◌, ℕ, ◌<◌, ◌^◌, ◌≤◌,
 ghost use Rattle.std.specs.Prelude.{All, OnOk, OnErr, IsTrue, length};
 ghost use Rattle.cap_core.specs.declared.event.Event.{Event};
 ghost use Rattle.cap_core.specs.Answer.{State, state, reply_of, IsLegal, event_by, history_of, answer};
-ghost use Rattle.cap_core.specs.Answer.{has_room_for, save_reply, snapshot_of};
-ghost use Rattle.cap_tree.specs.Tree.{put_entry};
+ghost use Rattle.cap_core.specs.Answer.{drop_reply, has_room_for, own_answer, save_reply, snapshot_of};
+ghost use Rattle.cap_core.specs.Flags.{session_named};
+ghost use Rattle.cap_tree.specs.Tree.{put_entry, take_entry};
 ghost use Rattle.cap_value.specs.Bytes.{bytes_cmp};
 ghost use Rattle.cap_value.specs.Memory.{MatchFault};
 ghost use Rattle.cap_core.specs.Code.CommandOutcome.{Reports};
 ghost use Rattle.cap_core.specs.Past.{HasRoom};
 ghost use Rattle.cap_core.specs.RefusedFirst.{RepliesFirst, refused_first};
 ghost use Rattle.cap_core.specs.Table.{BlobFits, BlobsFit};
-ghost use Rattle.cap_core.specs.Transition.{next, one_more, after_save};
+ghost use Rattle.cap_core.specs.Transition.{next, one_more, after_drop, after_save, own_next};
 
 use crate::commit_hook::{ReplyHook, ask};
-use crate::{Command, CommitHook, NoHook, Reply, SAVED_MAX};
+use crate::names::names_of;
+use crate::{Command, CommitHook, NoHook, Reply, SAVED_MAX, SessionList};
 use cap_database::{Database, Snapshot};
 use cap_session::Sessions;
 use cap_tree::Tree;
@@ -201,23 +203,45 @@ impl<A: AllocHandle> Core<A> {
         ensures { Reports C.gives (answer self.old command.now) (next self.old command.now)
             self.old self.new hook.old hook.new result }
     {
+        match command.session_named() {
+            Some(number) => self.session_command(number, command, hook),
+            None => self.own_command(command, hook),
+        }
+    }
+
+    // Carries out a command that is to no session.
+    fn own_command<C: CommitHook<A>>(
+        &mut self,
+        command: &Command<A>,
+        hook: &mut C,
+    ) -> Result<Reply<A>, Fault<C::Refusal>>
+        requires room { HasRoom self.old.events }
+        requires unnamed { session_named command.now ≡ None }
+        requires can_ask { C.can_ask hook.old (own_answer self.old command.now) }
+        ensures { Reports C.gives (own_answer self.old command.now) (own_next self.old command.now)
+            self.old self.new hook.old hook.new result }
+    {
         match command {
             Command::CreateTable { table, schema } => self.create_table(table, schema, hook),
             Command::Commit(batch) => self.commit(batch, hook),
-            Command::Apply { blob, policy } => self.apply(blob, *policy, hook),
+            Command::Apply {
+                blob,
+                policy,
+                quiet,
+            } => self.apply(blob, *policy, quiet.numbers(), hook),
             Command::Read => self.read(hook),
             Command::SaveAs { database } => self.save_as(database, hook),
+            Command::DropDatabase { database } => self.drop_database(database, hook),
+            Command::Databases => {
+                let names = names_of(self.alloc, &self.saved)?;
+                self.reply_only(Reply::Databases(names), hook)
+            }
+            Command::Sessions => {
+                let sessions = SessionList::of(self.alloc, &self.sessions)?;
+                self.reply_only(Reply::Sessions(sessions), hook)
+            }
             Command::NewSession => self.new_session(hook),
-            Command::DropSession { session }
-            | Command::Attach { session, .. }
-            | Command::AttachAll { session }
-            | Command::SetFilter { session, .. }
-            | Command::Enable { session, .. }
-            | Command::Indirect { session, .. }
-            | Command::IsEmpty { session }
-            | Command::Diff { session, .. }
-            | Command::Capture { session }
-            | Command::Restart { session } => self.session_command(*session, command, hook),
+            _ => unreachable!(),
         }
     }
 
@@ -298,6 +322,50 @@ impl<A: AllocHandle> Core<A> {
         };
         match self.saved.insert_hooked(name, database, &mut reply_hook) {
             Ok(_replaced) => {
+                self.events += 1;
+                Ok(reply)
+            }
+            Err(fault) => Err(fault),
+        }
+    }
+
+    // Drops the database that is saved under a name.
+    fn drop_database<C: CommitHook<A>>(
+        &mut self,
+        name: &Name<A>,
+        hook: &mut C,
+    ) -> Result<Reply<A>, Fault<C::Refusal>>
+        requires room { HasRoom self.old.events }
+        requires can_ask { C.can_ask hook.old (drop_reply self.old.saved name.now) }
+        ensures { Reports C.gives (drop_reply self.old.saved name.now) (after_drop self.old name.now)
+            self.old self.new hook.old hook.new result }
+    {
+        if self.saved.get(name).is_none() {
+            let why = Refusal::NoDatabase;
+            return self.reply_only(Reply::Refused { at: None, why }, hook);
+        }
+        self.drop_saved(name, hook)
+    }
+
+    // Drops the database of this name, which is there.
+    fn drop_saved<C: CommitHook<A>>(
+        &mut self,
+        name: &Name<A>,
+        hook: &mut C,
+    ) -> Result<Reply<A>, Fault<C::Refusal>>
+        requires room { HasRoom self.old.events }
+        requires can_ask { C.can_ask hook.old Reply.Done }
+        ensures { Reports C.gives Reply.Done
+            (record (one_more self.old) { saved = take_entry bytes_cmp self.old.saved name.now })
+            self.old self.new hook.old hook.new result }
+    {
+        let reply = Reply::Done;
+        let mut reply_hook = ReplyHook {
+            reply: &reply,
+            hook,
+        };
+        match self.saved.remove_hooked(name, &mut reply_hook) {
+            Ok(_dropped) => {
                 self.events += 1;
                 Ok(reply)
             }

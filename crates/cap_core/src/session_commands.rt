@@ -84,7 +84,8 @@ impl<A: AllocHandle> Core<A> {
             (session_numbered self.old.sessions number) (session_reply self.old command.now)) }
         ensures { let session = session_numbered self.old.sessions number in
             Reports C.gives (session_answer session (session_reply self.old command.now))
-            (after_session self.old number session (session_left self.old command.now))
+            (after_session self.old number session
+            (session_left self.old.main self.old.saved command.now))
             self.old self.new hook.old hook.new result }
     {
         let Some(session) = self.sessions.get(number) else {

@@ -5,7 +5,7 @@ ghost use Rattle.cap_database.specs.KeptKey.{kept_key};
 ghost use Rattle.cap_database.specs.Operation.{changes, run, step};
 ghost use Rattle.cap_database.specs.Tables.{Tables, create};
 ghost use Rattle.cap_apply.specs.Apply.{apply};
-ghost use Rattle.cap_core.specs.Answer.{snapshot_of, write_reply};
+ghost use Rattle.cap_core.specs.Answer.{application, snapshot_of, write_reply};
 ghost use Rattle.cap_core.specs.Code.Sound.{KeepsColumns};
 ghost use Rattle.cap_core.specs.Code.CommandOutcome.{Reports, ReportsStep};
 ghost use Rattle.cap_core.specs.Outcome.{applied, change_refused, commit_unless, created, made};
@@ -38,7 +38,7 @@ impl<A: AllocHandle> Core<A> {
         requires can_ask { C.can_ask hook.old
             (write_reply self.old (created (create self.old.main name.now schema.now))) }
         ensures { let effect = created (create self.old.main name.now schema.now) in
-            Reports C.gives (write_reply self.old effect) (after_write self.old effect)
+            Reports C.gives (write_reply self.old effect) (after_write self.old [] effect)
             self.old self.new hook.old hook.new result }
     {
         tables_keep_columns::<A>();
@@ -49,6 +49,7 @@ impl<A: AllocHandle> Core<A> {
                 self.reserve_and_publish(
                     tables,
                     changes.as_slice(),
+                    &[],
                     Reply::Written { version },
                     hook,
                 )
@@ -69,7 +70,7 @@ impl<A: AllocHandle> Core<A> {
             (stale batch.now.base batch.now.seen (snapshot_of self.old)) self.old.main batch.now.ops)) }
         ensures { let effect = commit_unless
             (stale batch.now.base batch.now.seen (snapshot_of self.old)) self.old.main batch.now.ops in
-            Reports C.gives (write_reply self.old effect) (after_write self.old effect)
+            Reports C.gives (write_reply self.old effect) (after_write self.old [] effect)
             self.old self.new hook.old hook.new result }
     {
         match batch.stale(self.version, &self.main) {
@@ -89,7 +90,7 @@ impl<A: AllocHandle> Core<A> {
         requires can_ask { C.can_ask hook.old
             (write_reply self.old (made (run self.old.main ops.now))) }
         ensures { let effect = made (run self.old.main ops.now) in
-            Reports C.gives (write_reply self.old effect) (after_write self.old effect)
+            Reports C.gives (write_reply self.old effect) (after_write self.old [] effect)
             self.old self.new hook.old hook.new result }
     {
         match ops {
@@ -111,7 +112,7 @@ impl<A: AllocHandle> Core<A> {
         requires can_ask { C.can_ask hook.old
             (write_reply self.old (made (run self.old.main ops.now))) }
         ensures { let effect = made (run self.old.main ops.now) in
-            Reports C.gives (write_reply self.old effect) (after_write self.old effect)
+            Reports C.gives (write_reply self.old effect) (after_write self.old [] effect)
             self.old self.new hook.old hook.new result }
     {
         tables_keep_columns::<A>();
@@ -138,7 +139,7 @@ impl<A: AllocHandle> Core<A> {
         requires can_ask { C.can_ask hook.old
             (write_reply self.old (made (run self.old.main (op.now ∷ [])))) }
         ensures { let effect = made (run self.old.main (op.now ∷ [])) in
-            Reports C.gives (write_reply self.old effect) (after_write self.old effect)
+            Reports C.gives (write_reply self.old effect) (after_write self.old [] effect)
             self.old self.new hook.old hook.new result }
     {
         match self.commit_in_place(op, key, hook) {
@@ -191,7 +192,7 @@ impl<A: AllocHandle> Core<A> {
         requires kept { KeepsColumns self.old.main outcome.database }
         requires can_ask { C.can_ask hook.old (write_reply self.old (made (Ok outcome))) }
         ensures { Reports C.gives (write_reply self.old (made (Ok outcome)))
-            (after_write self.old (made (Ok outcome)))
+            (after_write self.old [] (made (Ok outcome)))
             self.old self.new hook.old hook.new result }
     {
         let version = self.version + 1;
@@ -199,28 +200,51 @@ impl<A: AllocHandle> Core<A> {
         self.reserve_and_publish(
             database,
             changes.as_slice(),
+            &[],
             Reply::Written { version },
             hook,
         )
     }
 
-    // Applies a changeset or a patchset under a policy.
+    // Applies a changeset or a patchset under a policy, and leaves these sessions as they are.
     pub(crate) fn apply<C: CommitHook<A>>(
         &mut self,
         blob: &Contents<A>,
         policy: Policy,
+        quiet: &[u64],
+        hook: &mut C,
+    ) -> Result<Reply<A>, Fault<C::Refusal>>
+        requires room { HasRoom self.old.events }
+        requires can_ask { C.can_ask hook.old
+            (write_reply self.old (application self.old blob.now policy quiet.now)) }
+        ensures { let effect = application self.old blob.now policy quiet.now in
+            Reports C.gives (write_reply self.old effect) (after_write self.old quiet.now effect)
+            self.old self.new hook.old hook.new result }
+    {
+        match self.refused_quiet(quiet) {
+            Some(why) => self.reply_only(Reply::Refused { at: None, why }, hook),
+            None => self.apply_now(blob, policy, quiet, hook),
+        }
+    }
+
+    // Applies a blob, where these sessions are live.
+    fn apply_now<C: CommitHook<A>>(
+        &mut self,
+        blob: &Contents<A>,
+        policy: Policy,
+        quiet: &[u64],
         hook: &mut C,
     ) -> Result<Reply<A>, Fault<C::Refusal>>
         requires room { HasRoom self.old.events }
         requires can_ask { C.can_ask hook.old
             (write_reply self.old (applied (apply self.old.main blob.now policy))) }
         ensures { let effect = applied (apply self.old.main blob.now policy) in
-            Reports C.gives (write_reply self.old effect) (after_write self.old effect)
+            Reports C.gives (write_reply self.old effect) (after_write self.old quiet.now effect)
             self.old self.new hook.old hook.new result }
     {
         applied_blobs_keep_columns::<A>();
         match cap_apply::apply(self.alloc, &self.main, blob, policy) {
-            Ok(applied) => self.write_applied(applied, hook),
+            Ok(applied) => self.write_applied(applied, quiet, hook),
             Err(Fault::Refused(why)) => {
                 let at = change_refused(why);
                 self.reply_only(Reply::Refused { at, why }, hook)
@@ -233,13 +257,14 @@ impl<A: AllocHandle> Core<A> {
     fn write_applied<C: CommitHook<A>>(
         &mut self,
         blob: Applied<A>,
+        quiet: &[u64],
         hook: &mut C,
     ) -> Result<Reply<A>, Fault<C::Refusal>>
         requires room { HasRoom self.old.events }
         requires kept { KeepsColumns self.old.main blob.database }
         requires can_ask { C.can_ask hook.old (write_reply self.old (applied (Ok blob))) }
         ensures { Reports C.gives (write_reply self.old (applied (Ok blob)))
-            (after_write self.old (applied (Ok blob)))
+            (after_write self.old quiet.now (applied (Ok blob)))
             self.old self.new hook.old hook.new result }
     {
         let version = self.version + 1;
@@ -247,28 +272,30 @@ impl<A: AllocHandle> Core<A> {
         self.reserve_and_publish(
             database,
             changes.as_slice(),
+            quiet,
             Reply::Applied { version, report },
             hook,
         )
     }
 
     // Reserves what memory the commit still needs, that of the sessions, asks the hook, and publishes these
-    // tables as the next version. The changes are recorded in each session.
+    // tables as the next version. The changes are recorded in each session but the quiet ones.
     fn reserve_and_publish<C: CommitHook<A>>(
         &mut self,
         tables: Database<A>,
         changes: &[Change<A>],
+        quiet: &[u64],
         reply: Reply<A>,
         hook: &mut C,
     ) -> Result<Reply<A>, Fault<C::Refusal>>
         requires room { HasRoom self.old.events }
         requires kept { KeepsColumns self.old.main tables }
         requires can_ask { C.can_ask hook.old reply }
-        ensures { Reports C.gives reply (written self.old tables changes.now)
+        ensures { Reports C.gives reply (written self.old tables changes.now quiet.now)
             self.old self.new hook.old hook.new result }
     {
         self.main.rows_stand();
-        self.sessions.stage_commit(&self.main, changes)?;
+        self.sessions.stage_commit(&self.main, changes, quiet)?;
         ask(hook, &reply)?;
         self.sessions.publish();
         self.main = tables;
@@ -295,7 +322,7 @@ fn reserve_and_step<A: AllocHandle, C: CommitHook<A>>(
     ensures kept { OnErr result (main.new ≡ main.old) }
     ensures live { sessions.new.live ≡ sessions.old.live }
     ensures staged { OnOk result (sessions.new.staged
-        ≡ record_commit_each main.old (changes main.old op.now) sessions.old.live) }
+        ≡ record_commit_each main.old (changes main.old op.now) [] sessions.old.live) }
 {
     changes_of_a_key_are_one_touch::<A>();
     let mut recording = RecordingHook {

@@ -1,3 +1,2 @@
 pub mod Code
 pub mod Fault
-pub mod Hook

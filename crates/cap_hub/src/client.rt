@@ -5,7 +5,7 @@ ghost use Rattle.cap_history.specs.History.{IsHistory, longer};
 ghost use Rattle.cap_history.specs.Seat.{HasCalled, IsAnswered, SeesMore, calls, newcomer};
 ghost use Rattle.cap_hub.specs.Code.Held.{IsSeatOf};
 ghost use Rattle.cap_hub.specs.Fault.{MatchHubFault};
-ghost use Rattle.cap_hub.specs.Hook.{CanAsk, HasLeft, HasRefused};
+ghost use Rattle.cap_locked.specs.Hook.{CanAsk, HasLeft, HasRefused};
 ghost use Rattle.cap_locked.specs.Fault.{HasCause, LeavesSeat, MatchHookFault};
 
 use crate::held::Held;

@@ -3,7 +3,7 @@ ghost use Rattle.std.specs.Prelude.{◌≡◌, ◌<◌, ⊤, [], All, IfErr, IfO
 ghost use Rattle.std.specs.Prelude.{Ok, OnOk};
 ghost use Rattle.cap_history.specs.Seat.{HasCalled};
 ghost use Rattle.cap_hub.specs.Code.Held.{IsFree, IsSeatOf};
-ghost use Rattle.cap_hub.specs.Hook.{CanAsk, HasLeft, HasRefused};
+ghost use Rattle.cap_locked.specs.Hook.{CanAsk, HasLeft, HasRefused};
 ghost use Rattle.cap_locked.specs.Fault.{HasCause, LeavesSeat, MatchHookFault};
 
 use cap_core::{Command, CommitHook, Reply};

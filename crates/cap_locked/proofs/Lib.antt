@@ -1,3 +1,4 @@
 pub mod Causes
 pub mod Counting
 pub mod Crossing
+pub mod Hooks

@@ -1,3 +1,4 @@
 pub mod Counts
 pub mod Fault
+pub mod Hook
 pub mod Locked

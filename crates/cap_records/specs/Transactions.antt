@@ -4,7 +4,8 @@ use Rattle.std.specs.Global.{Global}
 use Rattle.cap_value.specs.declared.memory.Fault.{Fault}
 use Rattle.cap_value.specs.declared.memory.Fault.TheVariants as fault
 use Rattle.cap_database.specs.declared.op.Op.{Op}
-use Rattle.cap_txn.specs.Transaction.{IsAnswered, TxnState, traced}
+use Rattle.cap_txn.specs.Batch.{refused_push}
+use Rattle.cap_txn.specs.Transaction.{IsAnsweredUnless, TxnState, traced}
 use Rattle.cap_txn.specs.declared.look.Answer.TheVariants.{Done}
 use Rattle.cap_txn.specs.declared.look.Asked.{Asked}
 use Rattle.cap_txn.specs.declared.look.Asked.TheVariants as asked
@@ -17,7 +18,8 @@ use Rattle.cap_records.specs.declared.fault.RecordFault.{RecordFault}
 abbrev pub MakesOp : Op Global → TxnState Global → TxnState Global → Result (Unit {0}) (Fault RecordFault) →
     Type 0
 MakesOp op old new result =
-    HandsOn {X = Unit {0}} (λ answer. IsAnswered (λ _. Done) answer (asked.Op op) old new) result
+    HandsOn {X = Unit {0}}
+    (λ answer. IsAnsweredUnless (refused_push old.standing.ops) (λ _. Done) answer (asked.Op op) old new) result
 
 -- the call that the arguments make
 abbrev pub get_asked : List ℕ → List ℕ → ℕ → Result (Asked Global) RecordFault

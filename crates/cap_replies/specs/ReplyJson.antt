@@ -1,5 +1,5 @@
 -- The reply to a line of a workload as JSON (RFC 8259): an object on a line.
-use Rattle.std.specs.Prelude.{ℕ, Option, Some, None, Result, Ok, Err, List, [], ◌∷◌, ◌++◌, codes, decimal, map}
+use Rattle.std.specs.Prelude.{ℕ, Bool, Option, Some, None, Result, Ok, Err, List, [], ◌∷◌, ◌++◌, codes, decimal, map}
 use Rattle.std.specs.List.{flat_map}
 use Rattle.hex.specs.Hex.{encode_lower}
 use Rattle.json.specs.Print.{print}
@@ -24,9 +24,10 @@ use Rattle.cap_rebase.specs.Buffer.{buffer_of}
 use Rattle.cap_core.specs.Capture.{CaptureState}
 use Rattle.cap_core.specs.declared.command.Command.{Command}
 use Rattle.cap_core.specs.declared.command.Command.TheVariants as command
+use Rattle.cap_core.specs.declared.listed_session.ListedSession.{ListedSession}
 use Rattle.cap_core.specs.declared.reply.Reply.{Reply}
 use Rattle.cap_core.specs.declared.reply.Reply.TheVariants.{Done, Written, Applied, Session, Snapshot, Flag}
-use Rattle.cap_core.specs.declared.reply.Reply.TheVariants.{Capture, Refused}
+use Rattle.cap_core.specs.declared.reply.Reply.TheVariants.{Capture, Databases, Refused, Sessions}
 use Rattle.cap_script.specs.RefusalText.{refusal_name}
 use Rattle.cap_script.specs.Words.{answer_word, kind_word}
 use Rattle.cap_script.specs.declared.line.Line.{Line}
@@ -50,6 +51,15 @@ unfoldable pub numbers_member : List ℕ → List ℕ → List Token
 numbers_member name numbers =
     token.key name ∷ token.begin_array
     ∷ (map (λ number. token.number (decimal number)) numbers ++ token.end_array ∷ [])
+
+-- a member that is an array of texts
+unfoldable pub texts_member : List ℕ → List (List ℕ) → List Token
+texts_member name texts =
+    token.key name ∷ token.begin_array ∷ (map (λ text. token.string text) texts ++ token.end_array ∷ [])
+
+-- a member that is true or false
+unfoldable pub flag_member : List ℕ → Bool → List Token
+flag_member name flag = token.key name ∷ token.boolean flag ∷ []
 
 -- which reply it is
 abbrev pub kind : List ℕ → List Token
@@ -111,7 +121,7 @@ module _ {A : Type 0} where
 
   -- the buffer of the command, an apply, where the line asks for it
   abbrev pub buffer_member : Show A → Command A → List Conflict → List Token
-  buffer_member Buffer (command.Apply contents policy) conflicts =
+  buffer_member Buffer (command.Apply contents policy quiet) conflicts =
       token.key (codes "buffer") ∷ buffer contents conflicts
   buffer_member show asked conflicts = []
 
@@ -163,6 +173,22 @@ module _ {A : Type 0} where
       blob_reply (codes "patchset") c.version (patch_list_bytes_with flags (patch_list_of c.changes))
   capture_reply show c = kind (codes "done")
 
+  -- ---- what is listed
+
+  -- a session's number, its flags, whether it is empty, and its attached tables
+  unfoldable pub session : ListedSession A → List Token
+  session s =
+      token.begin_object ∷ (number_member (codes "session") s.number
+      ++ (flag_member (codes "enabled") s.enabled
+      ++ (flag_member (codes "indirect") s.indirect
+      ++ (flag_member (codes "empty") s.is_empty
+      ++ (texts_member (codes "tables") s.attached ++ token.end_object ∷ [])))))
+
+  unfoldable pub sessions_member : List (ListedSession A) → List Token
+  sessions_member sessions =
+      token.key (codes "sessions") ∷ token.begin_array
+      ∷ (flat_map session sessions ++ token.end_array ∷ [])
+
   -- ---- the object
 
   -- which reply it is, and what it has
@@ -173,9 +199,11 @@ module _ {A : Type 0} where
       kind_at (codes "applied") version ++ (report r ++ buffer_member line.show line.command r.conflicts)
   reply_members line (Session number) =
       kind (codes "session") ++ number_member (codes "session") number
+  reply_members line (Databases names) =
+      kind (codes "databases") ++ texts_member (codes "databases") names
+  reply_members line (Sessions sessions) = kind (codes "sessions") ++ sessions_member sessions
   reply_members line (Snapshot snapshot) = snapshot_reply line.show snapshot
-  reply_members line (Flag flag) =
-      kind (codes "flag") ++ token.key (codes "flag") ∷ token.boolean flag ∷ []
+  reply_members line (Flag flag) = kind (codes "flag") ++ flag_member (codes "flag") flag
   reply_members line (Capture capture) = capture_reply line.show capture
   reply_members line (Refused at why) = refused at why
 

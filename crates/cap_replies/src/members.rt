@@ -3,22 +3,11 @@ ghost use Rattle.std.specs.Prelude.{◌++◌, ◌∷◌, [], codes, decimal, map
 ghost use Rattle.hex.specs.Hex.{encode_lower};
 ghost use Rattle.json.specs.Token as token;
 ghost use Rattle.cap_replies.specs.ReplyJson as spec;
-ghost use Rattle.cap_show.specs.Json.{Appends, text_member};
+ghost use Rattle.cap_show.specs.Json.{Appends};
 
-use cap_value::{AllocHandle, OutOfMemory};
+use cap_show::write_text_member;
+use cap_value::{AllocHandle, Name, OutOfMemory};
 use json::Writer;
-
-#[tactic(auto, unfolding(cap_show::specs::Json::text_member))]
-pub(crate) fn write_text<A: AllocHandle>(
-    writer: &mut Writer<A>,
-    name: &str,
-    text: &str,
-) -> Result<(), OutOfMemory>
-    ensures { Appends result writer.old writer.new (text_member name.now text.now) }
-{
-    writer.key(name)?;
-    writer.string(text)
-}
 
 // Writes a key. At a long literal the writer's own clauses are too large for a search.
 pub(crate) fn write_key<A: AllocHandle>(
@@ -63,7 +52,7 @@ pub(crate) fn write_kind<A: AllocHandle>(
 ) -> Result<(), OutOfMemory>
     ensures { Appends result writer.old writer.new (spec.kind word.now) }
 {
-    write_text(writer, "reply", word)
+    write_text_member(writer, "reply", word)
 }
 
 // Writes which reply it is, and the version of the tables.
@@ -106,6 +95,45 @@ fn write_each_number<A: AllocHandle>(
     Ok(())
 }
 
+// Writes the texts as a member.
+#[tactic(auto, unfolding(crate::specs::ReplyJson::texts_member))]
+pub(crate) fn write_names<A: AllocHandle>(
+    writer: &mut Writer<A>,
+    name: &str,
+    texts: &[Name<A>],
+) -> Result<(), OutOfMemory>
+    ensures { Appends result writer.old writer.new (spec.texts_member name.now texts.now) }
+{
+    writer.key(name)?;
+    writer.begin_array()?;
+    write_each_name(writer, texts)?;
+    writer.end_array()
+}
+
+fn write_each_name<A: AllocHandle>(
+    writer: &mut Writer<A>,
+    texts: &[Name<A>],
+) -> Result<(), OutOfMemory>
+    ensures { Appends result writer.old writer.new (map (λ text. token.string text) texts.now) }
+{
+    for text in texts {
+        writer.string(text.as_str())?;
+    }
+    Ok(())
+}
+
+#[tactic(auto, unfolding(crate::specs::ReplyJson::flag_member))]
+pub(crate) fn write_flag<A: AllocHandle>(
+    writer: &mut Writer<A>,
+    name: &str,
+    flag: bool,
+) -> Result<(), OutOfMemory>
+    ensures { Appends result writer.old writer.new (spec.flag_member name.now flag) }
+{
+    writer.key(name)?;
+    writer.boolean(flag)
+}
+
 // Writes which blob it is, the version of the tables, and its bytes in hex digits.
 pub(crate) fn write_blob<A: AllocHandle>(
     alloc: A,
@@ -118,5 +146,5 @@ pub(crate) fn write_blob<A: AllocHandle>(
 {
     let digits = hex::encode(alloc, bytes)?;
     write_kind_at(writer, word, version)?;
-    write_text(writer, word, digits.as_str())
+    write_text_member(writer, word, digits.as_str())
 }

@@ -8,7 +8,10 @@ ghost use Rattle.cap_codec.specs.Changeset.{list_bytes_with};
 ghost use Rattle.cap_codec.specs.Patchset.{patch_list_bytes_with};
 ghost use Rattle.cap_show.specs.Json.{Appends};
 
-use crate::members::{write_blob, write_kind, write_kind_at, write_number, write_optional};
+use crate::lists::{write_databases, write_sessions};
+use crate::members::{
+    write_blob, write_flag, write_kind, write_kind_at, write_number, write_optional,
+};
 use crate::report::{write_buffer, write_refused, write_report};
 use crate::rows::write_snapshot;
 use cap_apply::Report;
@@ -21,8 +24,8 @@ use json::Writer;
 /// The reply to a line's command as JSON, without a line feed at its end: an object.
 ///
 /// It has the number of the `line`, the number of the `worker` after its `@` where it has one, and in `reply`
-/// which reply it is: `done`, `written`, `applied`, `session`, `row`, `rows`, `flag`, `changeset`, `patchset`
-/// or `refused`. What the reply has are members of their own: the `version` of the tables, the number of the
+/// which reply it is: `done`, `written`, `applied`, `session`, `sessions`, `databases`, `row`, `rows`, `flag`,
+/// `changeset`, `patchset` or `refused`. What the reply has are members of their own: the `version` of the tables, the number of the
 /// `session`, a `row` or `rows`, each an array of values as in a shown blob, a `flag`, the hex digits of a
 /// blob, or the `refusal`, as `E5 Duplicate`.
 #[tactic(auto, unfolding(crate::specs::ReplyJson::reply_json))]
@@ -91,8 +94,10 @@ fn write_reply<A: AllocHandle>(
         Reply::Written { version } => write_kind_at(writer, "written", *version),
         Reply::Applied { version, report } => write_applied(alloc, writer, line, *version, report),
         Reply::Session(number) => write_session(writer, *number),
+        Reply::Databases(names) => write_databases(writer, names),
+        Reply::Sessions(sessions) => write_sessions(writer, sessions),
         Reply::Snapshot(snapshot) => write_snapshot(alloc, writer, &line.show, snapshot),
-        Reply::Flag(flag) => write_flag(writer, *flag),
+        Reply::Flag(flag) => write_flag_reply(writer, *flag),
         Reply::Capture(capture) => write_capture(alloc, writer, &line.show, capture),
         Reply::Refused { at, why } => write_refused(writer, *at, *why),
     }
@@ -106,13 +111,12 @@ fn write_session<A: AllocHandle>(writer: &mut Writer<A>, number: u64) -> Result<
     write_number(writer, "session", number)
 }
 
-fn write_flag<A: AllocHandle>(writer: &mut Writer<A>, flag: bool) -> Result<(), OutOfMemory>
+fn write_flag_reply<A: AllocHandle>(writer: &mut Writer<A>, flag: bool) -> Result<(), OutOfMemory>
     ensures { Appends result writer.old writer.new
-        (spec.kind (codes "flag") ++ token.key (codes "flag") ∷ token.boolean flag ∷ []) }
+        (spec.kind (codes "flag") ++ spec.flag_member (codes "flag") flag) }
 {
     write_kind(writer, "flag")?;
-    writer.key("flag")?;
-    writer.boolean(flag)
+    write_flag(writer, "flag", flag)
 }
 
 fn write_applied<A: AllocHandle>(

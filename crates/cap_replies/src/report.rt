@@ -5,15 +5,13 @@ ghost use Rattle.json.specs.Token as token;
 ghost use Rattle.cap_replies.specs.ReplyJson as spec;
 ghost use Rattle.cap_show.specs.Json.{Appends};
 
-use crate::members::{
-    write_key, write_kind, write_number, write_numbers, write_optional, write_text,
-};
-use crate::words::{answer_word, kind_word, refusal_name};
+use crate::members::{write_key, write_kind, write_number, write_numbers, write_optional};
 use cap_apply::{Conflict, Report};
 use cap_codec::{Contents, KeyFlags, write_changes_with};
 use cap_core::Command;
 use cap_rebase::buffer_of;
-use cap_script::Show;
+use cap_script::{Show, answer_word, kind_word, refusal_name};
+use cap_show::write_text_member;
 use cap_value::{AllocHandle, OutOfMemory, Refusal};
 use json::Writer;
 
@@ -27,7 +25,7 @@ pub(crate) fn write_refused<A: AllocHandle>(
 {
     write_kind(writer, "refused")?;
     write_optional(writer, "at", at)?;
-    write_text(writer, "refusal", refusal_name(why))?;
+    write_text_member(writer, "refusal", refusal_name(why))?;
     write_stale(writer, why)
 }
 
@@ -102,8 +100,8 @@ fn write_conflict<A: AllocHandle>(
 {
     writer.begin_object()?;
     write_number(writer, "change", conflict.change)?;
-    write_text(writer, "kind", kind_word(conflict.kind))?;
-    write_text(writer, "answer", answer_word(conflict.answer))?;
+    write_text_member(writer, "kind", kind_word(conflict.kind))?;
+    write_text_member(writer, "answer", answer_word(conflict.answer))?;
     writer.end_object()
 }
 

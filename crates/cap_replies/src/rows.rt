@@ -10,10 +10,10 @@ ghost use Rattle.cap_table.specs.Scan.{name_shown, row_shown};
 
 use crate::members::{write_kind, write_kind_at, write_number};
 use crate::report::write_refused;
-use crate::value::write_json_value;
 use cap_database::Snapshot;
 use cap_row::Row;
 use cap_script::Show;
+use cap_show::write_json_value;
 use cap_table::{RowName, Scan};
 use cap_value::{AllocHandle, OutOfMemory, Refusal, Value};
 use json::Writer;

@@ -1,10 +1,10 @@
 //! A line of a run.
-ghost use Rattle.std.specs.Prelude.{◌≡◌, IfOk, string_bytes};
+ghost use Rattle.std.specs.Prelude.{◌≡◌, ◌++◌, OnOk, string_bytes};
 ghost use Rattle.cap_replies.specs.Printed.{reply_text};
 
 use crate::print_reply_json;
 use cap_core::Reply;
-use cap_script::{Line, print_reply};
+use cap_script::{Line, write_reply};
 use cap_value::{AllocHandle, OutOfMemory};
 
 /// In which form replies are printed.
@@ -27,16 +27,21 @@ pub struct RunLine<A: AllocHandle> {
     pub line: Line<A>,
 }
 
-/// The reply to the command of a line, in the form that the line asks for, without a line feed at its end.
-pub fn print_run_reply<A: AllocHandle>(
+/// Appends the reply to the command of a line to `out`, in the form that the line asks for, without a line feed
+/// at its end.
+pub fn write_run_reply<A: AllocHandle>(
     alloc: A,
     line: &RunLine<A>,
     reply: &Reply<A>,
-) -> Result<String<A>, OutOfMemory>
-    ensures { IfOk result (λ text. string_bytes text ≡ reply_text line.now reply.now) }
+    out: &mut String<A>,
+) -> Result<(), OutOfMemory>
+    ensures { OnOk result (string_bytes out.new ≡ string_bytes out.old ++ reply_text line.now reply.now) }
 {
     match line.form {
-        ReplyForm::Text => print_reply(alloc, &line.line, reply),
-        ReplyForm::Json => print_reply_json(alloc, line.number, &line.line, reply),
+        ReplyForm::Text => write_reply(alloc, &line.line, reply, out),
+        ReplyForm::Json => {
+            let text = print_reply_json(alloc, line.number, &line.line, reply)?;
+            out.push_str(text.as_str())
+        }
     }
 }

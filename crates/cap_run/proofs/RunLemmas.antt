@@ -1,5 +1,5 @@
 -- What one more reply makes of a run, and what was written of it.
-use Rattle.std.proofs.Common.{◌≡◌, ℕ, suc, ◌+◌, ◌<◌, ◌≤◌, List, [], ◌∷◌, ◌++◌, Option, None, Some, Result, Ok, Err, IfOk, MatchResult, Bool, true, cond, length, get_or, take, drop, take-append-drop, refl, sym, ap, ap₂, subst, ◌∙◌, append_assoc, append-nil, length-append, arith}
+use Rattle.std.proofs.Common.{◌≡◌, ℕ, suc, ◌+◌, ◌<◌, ◌≤◌, List, [], ◌∷◌, ◌++◌, Option, None, Some, Result, Ok, Err, length, get_or, take, drop, take-append-drop, refl, sym, ap, ap₂, subst, ◌∙◌, append_assoc, append-nil, length-append, arith}
 use Rattle.std.specs.Io.KnownBytes.{Appends}
 use Rattle.std.proofs.KnownBytes.{Appends-nil, Appends-trans, Keeps-refl}
 use Rattle.std.proofs.lemmas.List.{reverse-append, length-reverse}
@@ -49,15 +49,6 @@ pub ends_at : (fault : CallFault) (lines count events : ℕ) → events ≡ coun
 ends_at call.OutOfMemory lines count events same less few met = (less, omega arith)
 ends_at (call.Overtaken front) lines count events same less few met = absurd met
 ends_at call.HistoryFull lines count events same less few met = (less, omega arith)
-
--- a call's answer that was passed on
-abbrev value_or : {X D : Type 0} → X → Result X D → X
-value_or x (Ok y) = y
-value_or x (Err e) = x
-
-pub ok_through : {X E : Type 0} (D : Type 0) (P : X → Type 0) (r : Result X E) (x : X) → MatchResult r (λ y. let passed : Result X D = Ok x in passed ≡ Ok y) (λ e. ⊥) → IfOk r P → P x
-ok_through {X} D P (Ok y) x same met = let is : x ≡ y = ap (value_or {X = X} {D = D} x) same in subst P (sym is) met
-ok_through D P (Err e) x same met = absurd same
 
 pub IsLegal-none : (A : Type 0) → IsLegal {A = A} []
 unfolding IsLegal
@@ -368,24 +359,16 @@ module _ {A : Type 0} where
   at_begun {form} lines rest core pending a b c so front =
       begins_front lines a b c (length so.done) so.written pending (reached-run lines core (length so.done) (so.written ++ pending) so.reached) so.wrote front
 
-  -- the server and the reply after a command
-  abbrev pub IsPrepared : List (Event A) → Command A → State A × Reply A → Type 0
-  IsPrepared h command prepared = (prepared.1 ≡ reply_of h command) × (prepared.0 ≡ state (h ++ event_by 0 command prepared.1 ∷ []))
-
-  pub step_prepared : (h : List (Event A)) (c : Command A) (core left : State A) (reply : Reply A) → state h ≡ core → left ≡ next core c → reply ≡ answer core c
-      → state (h ++ event_by 0 c (reply_of h c) ∷ []) ≡ next (state h) c → IsPrepared h c (left, reply)
+  -- a line that has run, after a history
+  pub ran_line : (h : List (Event A)) (line : RunLine A) (core left : State A) (old new : List ℕ) → state h ≡ core → left ≡ next core line.line.command
+      → new ≡ old ++ on_a_line (reply_text line (answer core line.line.command))
+      → state (h ++ event_by 0 line.line.command (reply_of h line.line.command) ∷ []) ≡ next (state h) line.line.command
+      → (left ≡ state (h ++ event_by 0 line.line.command (reply_of h line.line.command) ∷ [])) × (new ≡ old ++ on_a_line (reply_text line (reply_of h line.line.command)))
   unfolding reply_of
-  step_prepared h c core left reply is leaves answered grows =
-      let replied : reply ≡ reply_of h c = answered ∙ ap (λ (s : State A). answer s c) (sym is) in
-      (replied, leaves ∙ ap (λ (s : State A). next s c) (sym is) ∙ sym grows ∙ ap (λ (r : Reply A). state (h ++ event_by 0 c r ∷ [])) (sym replied))
-
-  pub step_met : (h : List (Event A)) (line : RunLine A) (next : State A) (reply : Reply A) (old text new : List ℕ) (b : Bool) → IsPrepared h line.line.command (next, reply)
-      → text ≡ on_a_line (reply_text line reply) → true ≡ b → new ≡ cond b (old ++ text) old
-      → (next ≡ state (h ++ event_by 0 line.line.command (reply_of h line.line.command) ∷ [])) × (new ≡ old ++ on_a_line (reply_text line (reply_of h line.line.command)))
-  step_met h line next reply old text new b met texted went appended =
-      let pushed : new ≡ old ++ text = subst (λ (v : Bool). new ≡ cond v (old ++ text) old) (sym went) appended in (
-        met.1 ∙ ap (λ (r : Reply A). state (h ++ event_by 0 line.line.command r ∷ [])) met.0,
-        pushed ∙ ap (λ (t : List ℕ). old ++ t) (texted ∙ ap (λ (r : Reply A). on_a_line (reply_text line r)) met.0),
+  ran_line h line core left old new is leaves printed grows =
+      let replied : answer core line.line.command ≡ reply_of h line.line.command = ap (λ (s : State A). answer s line.line.command) (sym is) in (
+        leaves ∙ ap (λ (s : State A). next s line.line.command) (sym is) ∙ sym grows,
+        printed ∙ ap (λ (r : Reply A). old ++ on_a_line (reply_text line r)) replied,
       )
 
   -- how the run of the lines ended, as the run's own outcome

@@ -1,5 +1,6 @@
 -- What a worker has called of its lines of a block.
 use Rattle.std.proofs.Common.{◌≡◌, ◌≢◌, ℕ, ◌+◌, ◌<◌, ◌≤◌, List, [], ◌∷◌, ◌++◌, Ok, Err, Bool, true, false, length, nat_eq, cond, drop, get_or, take, take-append-drop, take_all, refl, sym, ap, ap₂, subst, ◌∙◌, append_assoc, append-nil, length-append, arith}
+use Rattle.std.specs.Prelude.{String, map, string_bytes}
 use Rattle.std.proofs.lemmas.List.{drop_more}
 use Rattle.std.proofs.lemmas.List.Elements.{filter-append, filter_more}
 use mathlib.Core.List.{IsPrefix}
@@ -211,17 +212,13 @@ module _ {A : Type 0} where
   answered_of line text reply old new so is =
       record { reply = reply; text_is = is; number = so.number; calls_are = all-called old new line.line.command reply so; seen = all-seen new so.answered; goes_on = goes_called old new line.line.command reply so }
 
+  -- a worker's texts, with one more
+  pub texts_more : (texts : List (String A)) (text : String A) (bytes : List ℕ) → string_bytes text ≡ bytes → map string_bytes (texts ++ text ∷ []) ≡ map string_bytes texts ++ bytes ∷ []
+  texts_more [] text bytes is = ap (λ (b : List ℕ). b ∷ []) is
+  texts_more (first ∷ texts) text bytes is = ap (λ (l : List (List ℕ)). string_bytes first ∷ l) (texts_more texts text bytes is)
+
   pub keeps_same : (seat : SeatState A) → KeepsCalls seat seat
   keeps_same seat = record { number = refl; begins = prefix-self (calls seat); seen = λ so. so; goes_on = goes_same seat }
-
-  -- the call was answered, but the reply had no text
-  pub keeps_called : (old new : SeatState A) (command : Command A) (reply : Reply A) → HasCalled old new command reply → KeepsCalls old new
-  keeps_called old new command reply so = record {
-    number = so.number;
-    begins = subst (λ (h : List (Event A)). IsPrefix (calls old) h) (sym (all-called old new command reply so)) (prefix-append (calls old) (event_by old.number command reply ∷ []));
-    seen = λ before. all-seen new so.answered;
-    goes_on = goes_called old new command reply so;
-  }
 
   keeps-seen : (old new : SeatState A) → SeesMore old new → KeepsCalls old new
   keeps-seen old new so =

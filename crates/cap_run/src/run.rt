@@ -13,7 +13,7 @@ ghost use Rattle.cap_run.specs.RunFault.{exit_status, is_read, is_script, IsNoWo
 ghost use Rattle.cap_run.specs.RunFault.{IsUnspelled};
 ghost use Rattle.cap_run.specs.Writes.{EndsWrites};
 ghost use Rattle.cap_script.specs.FirstRefused.{SpellsWithin};
-ghost use Rattle.cap_replies.specs.Printed.{reply_text};
+ghost use Rattle.cap_replies.specs.Printed.{HasRoomFor, IsMade, reply_text};
 ghost use Rattle.cap_replies.specs.Lines.{SpellsLines, SpellsRun, all_lines};
 ghost use Rattle.cap_replies.specs.declared.run_line.ReplyForm.{ReplyForm};
 ghost use Rattle.cap_replies.specs.declared.run_line.RunLine.{RunLine};
@@ -21,19 +21,18 @@ ghost use Rattle.cap_locked.specs.Fault.{MatchCallFault};
 
 use crate::input::read_whole;
 use crate::output::{write_ending, write_long, write_pending};
-use crate::worker::reply_line;
 use crate::{RunFault, RunOutput};
 use cap_codec::Source;
-use cap_core::{Command, Core, EVENTS_MAX, NoHook, Reply, legal_histories_grow};
+use cap_core::{Core, EVENTS_MAX, legal_histories_grow};
 use cap_locked::CallFault;
-use cap_replies::{ReplyForm, RunLine, RunLines};
-use cap_value::{AllocHandle, Fault};
+use cap_replies::{Printer, ReplyForm, RunLine, RunLines, append_made};
+use cap_value::{AllocHandle, Fault, OutOfMemory};
 
 /// Runs the workload from the reader on a new server, one command after the other, and writes the replies.
 ///
 /// The whole text is parsed before anything runs, and each line again when it runs, so at most one command is
 /// held beside the text. Where a command has no reply, or memory runs out, the replies before it are written,
-/// then its fault, and the run ends.
+/// then its fault, and the run ends. A line that is refused for memory has not run.
 ///
 /// The contracts say exactly which input is refused as not UTF-8, where it is known what the reader gives. A
 /// failed read and out of memory may come before any other answer. They say which other texts are refused,
@@ -173,6 +172,7 @@ fn write_replies<A: AllocHandle, W: RunOutput>(
     ensures write_reported { EndsWrites W.went W.failed result writer.old writer.new }
 {
     let mut core = Core::new(alloc);
+    let mut made = String::new(alloc);
     loop {
         let line = match lines.next_line() {
             Ok(Some(line)) => line,
@@ -180,7 +180,7 @@ fn write_replies<A: AllocHandle, W: RunOutput>(
             Err(_) => return Ok(Err(line_fault(&core))),
         };
         line.line.command.blob_fits();
-        match run_line(alloc, &mut core, &line, pending) {
+        match run_line(alloc, &mut core, &line, &mut made, pending) {
             Ok(()) => {}
             Err(fault) => return Ok(Err(fault)),
         }
@@ -199,11 +199,13 @@ fn line_fault<A: AllocHandle>(core: &Core<A>) -> CallFault
     }
 }
 
-// Runs a line's command. The text of the reply is appended to `pending`, as a line.
+// Runs a line's command. The reply is made in `made` and appended to `pending`, as a line, before the command
+// takes effect: a line without a reply has not run.
 pub(crate) fn run_line<A: AllocHandle>(
     alloc: A,
     core: &mut Core<A>,
     line: &RunLine<A>,
+    made: &mut String<A>,
     pending: &mut String<A>,
 ) -> Result<(), CallFault>
     ensures history { (h : List (Event A)) → IsLegal h → state h ≡ core.old → OnOk result (
@@ -214,32 +216,66 @@ pub(crate) fn run_line<A: AllocHandle>(
     ensures full { IfErr result (λ fault.
         MatchCallFault fault (HasRoom core.old.events) (λ _. ⊥) (events_max ≤ core.old.events)) }
     ensures same { OnErr result (string_bytes pending.new ≡ string_bytes pending.old) }
+    ensures unchanged { OnErr result (core.new ≡ core.old) }
 {
     legal_histories_grow::<A>();
     if core.events() >= EVENTS_MAX {
         return Err(CallFault::HistoryFull);
     }
-    let reply = run_command(core, &line.line.command)?;
-    let text = reply_line(alloc, line, &reply).map_err(|_| CallFault::OutOfMemory)?;
-    match pending.push_str(text.as_str()) {
+    match run_command(alloc, core, line, made, pending) {
         Ok(()) => Ok(()),
         Err(_) => Err(CallFault::OutOfMemory),
     }
 }
 
-// Runs a command without a hook.
+// Runs a line's command, and appends its reply.
 fn run_command<A: AllocHandle>(
+    alloc: A,
     core: &mut Core<A>,
-    command: &Command<A>,
-) -> Result<Reply<A>, CallFault>
+    line: &RunLine<A>,
+    made: &mut String<A>,
+    pending: &mut String<A>,
+) -> Result<(), OutOfMemory>
     requires room { HasRoom core.old.events }
-    ensures ok { IfOk result (λ reply. (core.new ≡ next core.old command.now)
-        × (reply ≡ answer core.old command.now)) }
-    ensures err { IfErr result (λ fault. fault ≡ CallFault.OutOfMemory) }
+    ensures ok { OnOk result ((core.new ≡ next core.old line.now.line.command)
+        × (string_bytes pending.new ≡ string_bytes pending.old
+        ++ on_a_line (reply_text line.now (answer core.old line.now.line.command)))) }
+    ensures err { OnErr result ((core.new ≡ core.old)
+        × (string_bytes pending.new ≡ string_bytes pending.old)) }
 {
-    match core.step(command, &mut NoHook) {
-        Ok(reply) => Ok(reply),
-        Err(Fault::OutOfMemory) => Err(CallFault::OutOfMemory),
-        Err(Fault::Refused(never)) => match never {},
+    match step_printing(&alloc, core, line, made, pending) {
+        Ok(()) => {
+            append_made(pending, made);
+            Ok(())
+        }
+        Err(_) => Err(OutOfMemory),
+    }
+}
+
+// Runs a line's command, with the hook that prints.
+fn step_printing<A: AllocHandle>(
+    alloc: &A,
+    core: &mut Core<A>,
+    line: &RunLine<A>,
+    made: &mut String<A>,
+    pending: &mut String<A>,
+) -> Result<(), OutOfMemory>
+    requires room { HasRoom core.old.events }
+    ensures ok { OnOk result ((core.new ≡ next core.old line.now.line.command)
+        × IsMade line.now (answer core.old line.now.line.command) made.new
+        × HasRoomFor made.new pending.new) }
+    ensures err { OnErr result (core.new ≡ core.old) }
+    ensures same { string_bytes pending.new ≡ string_bytes pending.old }
+{
+    let mut printer = Printer {
+        alloc,
+        line,
+        made,
+        output: pending,
+    };
+    match core.step(&line.line.command, &mut printer) {
+        Ok(_) => Ok(()),
+        Err(Fault::OutOfMemory) => Err(OutOfMemory),
+        Err(Fault::Refused(why)) => Err(why),
     }
 }

@@ -172,8 +172,9 @@ fn answer_command<A: AllocHandle>(
         number,
         line,
     };
+    let mut made = String::new(alloc);
     let mut reply = String::new(alloc);
-    match run_line(alloc, core, &line, &mut reply) {
+    match run_line(alloc, core, &line, &mut made, &mut reply) {
         Ok(()) => Ok(Printed {
             reply,
             fault: String::new(alloc),

@@ -1,18 +1,19 @@
 //! A worker of a workload, and its calls.
-ghost use Rattle.std.specs.Prelude.{◌≡◌, ◌++◌, ◌∷◌, ◌<◌, ◌≤◌, [], IfOk, MatchBool, OnOk, OnErr, List, ℕ};
-ghost use Rattle.std.specs.Prelude.{Err, IfErr, length, map, string_bytes};
+ghost use Rattle.std.specs.Prelude.{◌≡◌, ◌++◌, ◌∷◌, ◌<◌, ◌≤◌, [], IfErr, MatchBool, OnOk, OnErr, List, ℕ, length};
+ghost use Rattle.std.specs.Prelude.{map, string_bytes};
 ghost use Rattle.cap_run.specs.Code.Calls.{HasCalledLine, HasCalledLines, HasSeen, KeepsCalls, seat_lines};
 ghost use Rattle.cap_run.specs.Threads.{IsThreadCount};
-ghost use Rattle.cap_run.specs.Run.{on_a_line};
 ghost use Rattle.cap_run.specs.Workload.{seat_of};
-ghost use Rattle.cap_replies.specs.Printed.{reply_text};
+ghost use Rattle.cap_replies.specs.Printed.{HasRoomFor, IsMade};
+ghost use Rattle.cap_core.specs.declared.reply.Reply.{Reply};
+ghost use Rattle.cap_history.specs.Seat.{HasCalled};
+ghost use Rattle.cap_locked.specs.Fault.{LeavesSeat};
 
 use crate::Gate;
-use cap_core::Reply;
-use cap_locked::CallFault;
-use cap_replies::{ReplyForm, RunLine, print_run_reply};
+use cap_locked::{CallFault, HookFault};
+use cap_replies::{Printer, ReplyForm, RunLine, append_made};
 use cap_server::{Naming, Seat, Server};
-use cap_value::{AllocHandle, OutOfMemory};
+use cap_value::AllocHandle;
 use std::sync::Wait;
 use std::sync::atomic::{AtomicU64, Ordering};
 use std::time::Duration;
@@ -145,51 +146,74 @@ fn answer_own<J: Naming, A: AllocHandle, T: Wait, G: Gate>(
     let number = worker.seat.number().saturating_sub(1);
     let call = worker.given;
     worker.given = call.saturating_add(1);
+    // Room for the text first: a line that was called has its reply.
+    if worker.texts.reserve(1).is_err() {
+        return Err(CallFault::OutOfMemory);
+    }
     shared.gate.before(number, call);
+    let mut text = String::new(shared.alloc);
     let answer = call_line(
         shared.rt,
         shared.alloc,
         shared.server,
         &mut worker.seat,
         line,
+        &mut text,
     );
     called.fetch_add(1, Ordering::SeqCst);
     shared.gate.after(number, call);
-    let text = answer?;
-    match worker.texts.push(text) {
-        Ok(()) => Ok(()),
-        Err(_) => Err(CallFault::OutOfMemory),
-    }
+    answer?;
+    worker.texts.push_reserved(text);
+    Ok(())
 }
 
-// Calls a line's command from a seat, and gives the text of the reply with a line feed.
+// Calls a line's command from a seat. The reply is made before the call is an event, and appended to `output` as
+// a line: a line that is refused for memory has not been called.
 pub(crate) fn call_line<J: Naming, A: AllocHandle, T: Wait>(
     rt: &T,
     alloc: A,
     server: &Server<J, A>,
     seat: &mut Seat<J, A>,
     line: &RunLine<A>,
-) -> Result<String<A>, CallFault>
-    ensures ok { IfOk result (λ text. HasCalledLine line.now (string_bytes text) seat.old seat.new) }
-    ensures err { OnErr result (KeepsCalls seat.old seat.new) }
-    ensures fault { IfErr result (λ fault. HasSeen (Err fault) seat.new) }
+    output: &mut String<A>,
+) -> Result<(), CallFault>
+    ensures ok { OnOk result ((text : List ℕ) × (string_bytes output.new ≡ string_bytes output.old ++ text)
+        × HasCalledLine line.now text seat.old seat.new) }
+    ensures err { OnErr result ((string_bytes output.new ≡ string_bytes output.old)
+        × KeepsCalls seat.old seat.new) }
+    ensures fault { HasSeen result seat.new }
 {
-    let reply = server.call(rt, seat, &line.line.command)?;
-    match reply_line(alloc, line, &reply) {
-        Ok(text) => Ok(text),
-        Err(_) => Err(CallFault::OutOfMemory),
-    }
+    let mut made = String::new(alloc);
+    call_printing(rt, &alloc, server, seat, line, &mut made, output)?;
+    append_made(output, &made);
+    Ok(())
 }
 
-// The text of a reply, with a line feed.
-pub(crate) fn reply_line<A: AllocHandle>(
-    alloc: A,
+// Calls a line's command from a seat, with the hook that prints.
+fn call_printing<J: Naming, A: AllocHandle, T: Wait>(
+    rt: &T,
+    alloc: &A,
+    server: &Server<J, A>,
+    seat: &mut Seat<J, A>,
     line: &RunLine<A>,
-    reply: &Reply<A>,
-) -> Result<String<A>, OutOfMemory>
-    ensures { IfOk result (λ text. string_bytes text ≡ on_a_line (reply_text line.now reply.now)) }
+    made: &mut String<A>,
+    output: &mut String<A>,
+) -> Result<(), CallFault>
+    ensures called { OnOk result ((reply : Reply A) × HasCalled seat.old seat.new line.now.line.command reply
+        × IsMade line.now reply made.new) }
+    ensures room { OnOk result (HasRoomFor made.new output.new) }
+    ensures left { IfErr result (λ fault. LeavesSeat fault seat.old seat.new) }
+    ensures same { string_bytes output.new ≡ string_bytes output.old }
 {
-    let mut text = print_run_reply(alloc, line, reply)?;
-    text.push_str("\n")?;
-    Ok(text)
+    let mut printer = Printer {
+        alloc,
+        line,
+        made,
+        output,
+    };
+    match server.call_with_hook(rt, seat, &line.line.command, &mut printer) {
+        Ok(_) => Ok(()),
+        Err(HookFault::Refused(_)) => Err(CallFault::OutOfMemory),
+        Err(HookFault::Call(fault)) => Err(fault),
+    }
 }

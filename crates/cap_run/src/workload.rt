@@ -1,13 +1,13 @@
 //! Runs a workload on the server that threads share.
 ghost use Rattle.std.specs.Prelude.{◌≡◌, ◌⊎◌, ◌+◌, ◌++◌, ◌∷◌, ◌<◌, ◌≤◌, ℕ, List, [], length, map, Err, IfOk};
-ghost use Rattle.std.specs.Prelude.{IfSome, IfErr, IsErrAnd, IsUtf8, MatchResult, None, OnErr, OnOk};
+ghost use Rattle.std.specs.Prelude.{IfSome, IfErr, IsErrAnd, IsUtf8, MatchResult, None, OnOk};
 ghost use Rattle.std.specs.Prelude.{false, string_bytes, vec_capacity, vec_len};
 ghost use Rattle.std.specs.List.{AllZip};
 ghost use denote.Param.Send.{Frees};
 ghost use Rattle.cap_history.specs.Seat.{SeatState};
-ghost use Rattle.cap_run.specs.Code.Calls.{AreSeats, EachAt, Gathers, HasCalledLine, HasSeen, HasWorked};
-ghost use Rattle.cap_run.specs.Code.Calls.{HaveCalled, HaveEnded, IsFaultOf, IsNext, IsWholeBlock};
-ghost use Rattle.cap_run.specs.Code.Calls.{KeepsCalls, RunsLines, unclosed_outcome, work};
+ghost use Rattle.cap_run.specs.Code.Calls.{AreSeats, EachAt, Gathers, HasWorked, HaveCalled, HaveEnded};
+ghost use Rattle.cap_run.specs.Code.Calls.{IsFaultOf, IsNext, IsWholeBlock, RunsLines, unclosed_outcome};
+ghost use Rattle.cap_run.specs.Code.Calls.{work};
 ghost use Rattle.cap_run.specs.Threads.{IsThreadCount};
 ghost use Rattle.cap_run.specs.Run.{IsSpelled, Known};
 ghost use Rattle.cap_run.specs.Reads.{EndsReads};
@@ -433,27 +433,14 @@ fn answer_alone<J: Naming, A: AllocHandle, T: Wait, G: Gate>(
         (map (λ w. w.seat) workers.new.items) }
 {
     let first = &mut workers[0];
-    answer_here(shared, &mut first.seat, line, pending)
-}
-
-// Calls a line from a seat. The text of the reply is appended to `pending`.
-fn answer_here<J: Naming, A: AllocHandle, T: Wait, G: Gate>(
-    shared: &Shared<'_, J, A, T, G>,
-    seat: &mut Seat<J, A>,
-    line: &RunLine<A>,
-    pending: &mut String<A>,
-) -> Result<(), CallFault>
-    ensures ok { OnOk result ((text : List ℕ) × (string_bytes pending.new ≡ string_bytes pending.old ++ text)
-        × HasCalledLine line.now text seat.old seat.new) }
-    ensures err { OnErr result ((string_bytes pending.new ≡ string_bytes pending.old)
-        × KeepsCalls seat.old seat.new) }
-    ensures fault { HasSeen result seat.new }
-{
-    let text = call_line(shared.rt, shared.alloc, shared.server, seat, line)?;
-    match pending.push_str(text.as_str()) {
-        Ok(()) => Ok(()),
-        Err(_) => Err(CallFault::OutOfMemory),
-    }
+    call_line(
+        shared.rt,
+        shared.alloc,
+        shared.server,
+        &mut first.seat,
+        line,
+        pending,
+    )
 }
 
 // Appends the texts of the replies to a block's lines to `pending`, in the order of the lines, up to the

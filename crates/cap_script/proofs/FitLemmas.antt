@@ -1,7 +1,7 @@
 -- The blobs of spelled commands fit their tables.
-use Rattle.std.proofs.Common.{◌≡◌, ℕ, Bool, true, false, leb, List, [], ◌∷◌, length, Option, Some, Result, Ok, Err, refl, sym, subst, inl, inr}
+use Rattle.std.proofs.Common.{◌≡◌, ℕ, Bool, true, false, ◌&&◌, leb, List, [], ◌∷◌, length, Option, Some, Result, Ok, Err, refl, sym, subst, inl, inr}
 use Rattle.std.specs.Prelude.{All, ⊤}
-use Rattle.std.specs.List.{AllByRecursion}
+use Rattle.std.specs.List.{AllByRecursion, list_all}
 use Rattle.std.proofs.lemmas.List.Elements.{All-from_recursion}
 use Rattle.hex.proofs.HexLemmas.{decode_of-ok}
 use Rattle.cap_value.specs.Bytes.{AreBytes, bytes_eq}
@@ -11,11 +11,12 @@ use Rattle.cap_codec.specs.Spelling.{Spells as SpellsBlob}
 use Rattle.cap_codec.specs.declared.fault.BlobFault.{BlobFault}
 use Rattle.cap_codec.specs.declared.read.Contents.{Contents}
 use Rattle.cap_apply.specs.Fitting.{FitsItsColumns}
+use Rattle.cap_core.specs.declared.command.Command.TheVariants.{Apply}
 use Rattle.cap_core.specs.Table.{BlobFits}
 use Rattle.cap_language.specs.Forms.{Words, a_blob, behind, either, one_of}
 use Rattle.cap_language.specs.Grammar.{Grammar, Spells, exceeds, unfit}
 use Rattle.cap_language.specs.Tokens.{Begins, Blob, Integer, Text, Token, Word}
-use Rattle.cap_script.specs.Language.{Filtered, Opening, apply, attach, changeset, command, commands, commit, commit_at, contents, contents_of, create, diff, enable, ending, get, indirect, opening, patchset, restart, save, scan}
+use Rattle.cap_script.specs.Language.{Filtered, Opening, alone, apply_quiet, applying, attach, changeset, command, commands, commit, commit_at, contents, contents_of, create, diff, drop_database, enable, ending, get, indirect, numbered, opening, patchset, restart, save, scan, with_alone, with_numbered}
 use Rattle.cap_script.specs.Script.{Closes, LineSpelled, LinesSpelled, ScriptSpelled, SpellsLine, SpellsScript}
 use Rattle.cap_script.specs.declared.command.Spelled.{Spelled}
 use Rattle.cap_script.specs.declared.command.Spelled.TheVariants.{Filter, Whole}
@@ -24,6 +25,14 @@ use Rattle.cap_script.specs.declared.line.Line.{Line}
 -- all that the grammar makes
 abbrev Makes : {X : Type 0} → (X → Type 0) → Grammar X → Type 0
 Makes {X} P g = (x : X) (line rest : List ℕ) → Spells false g x line rest → P x
+
+first_passes : (a b : Bool) → (a && b) ≡ true → a ≡ true
+first_passes true b is = refl
+first_passes false b is = cc
+
+others_pass : (a b : Bool) → (a && b) ≡ true → b ≡ true
+others_pass true b is = is
+others_pass false b is = cc
 
 some_bytes : (a b : List ℕ) → ◌≡◌ {A = Option (List ℕ)} (Some a) (Some b) → a ≡ b
 some_bytes a b e = cc
@@ -55,9 +64,13 @@ module _ {A : Type 0} (fit : (blob : Contents A) (bytes : List ℕ) → SpellsBl
   contents-fit x line rest (token, bytes, between, begun, wanted, made) =
       short-fits bytes (token-fits token bytes _ between begun wanted) (leb (length bytes) 1000000000) x between rest made
 
-  apply-fits : Makes Fits apply
-  unfolding apply
-  apply-fits x line rest (blob, a, made, (policy, b, p, (show, c, q, e))) = subst Fits (sym e.0) (contents-fit blob line a made)
+  apply-fits : (quiet : List ℕ) → Makes Fits (applying quiet)
+  unfolding applying
+  apply-fits quiet x line rest (blob, a, made, (policy, b, p, (show, c, q, e))) = subst Fits (sym e.0) (contents-fit blob line a made)
+
+  apply_quiet-fits : Makes Fits apply_quiet
+  unfolding apply_quiet
+  apply_quiet-fits x line rest (quiet, a, p, made) = apply-fits quiet x a rest made
 
   -- ---- commands without a blob
 
@@ -84,6 +97,10 @@ module _ {A : Type 0} (fit : (blob : Contents A) (bytes : List ℕ) → SpellsBl
   save-fits : Makes Fits save
   unfolding save
   save-fits x line rest (database, a, p, e) = subst Fits (sym e.0) tt
+
+  drop_database-fits : Makes Fits drop_database
+  unfolding drop_database
+  drop_database-fits x line rest (database, a, p, e) = subst Fits (sym e.0) tt
 
   attach-fits : Makes Fits attach
   unfolding attach
@@ -129,6 +146,29 @@ module _ {A : Type 0} (fit : (blob : Contents A) (bytes : List ℕ) → SpellsBl
   one_of-fits ((v, grammar) ∷ others) (first, all) w x line rest made =
       either-fits (bytes_eq w v) grammar (one_of others w) first (one_of-fits others all w) x line rest made
 
+  -- no blob is applied
+  abbrev has_no_blob : Spelled A → Bool
+  has_no_blob (Whole (Apply blob policy quiet) show) = false
+  has_no_blob _ = true
+
+  said-fits : (said : Spelled A) → has_no_blob said ≡ true → Fits said
+  said-fits (Whole (Apply blob policy quiet) show) is = cc
+  said-fits _ is = tt
+
+  numbered-fit : (words : List (List ℕ × (ℕ → Spelled A))) (others : Words (Spelled A)) → ((session : ℕ) → list_all (λ word. has_no_blob (word.1 session)) words ≡ true) → AreFit others → AreFit (with_numbered words others)
+  numbered-fit [] others none all = all
+  numbered-fit ((w, of_session) ∷ words) others none all = (
+    (λ x line rest (session, a, p, e). subst Fits (sym e.0) (said-fits (of_session session) (first_passes (has_no_blob (of_session session)) _ (none session)))),
+    numbered-fit words others (λ session. others_pass (has_no_blob (of_session session)) _ (none session)) all,
+  )
+
+  alone-fit : (words : List (List ℕ × Spelled A)) (others : Words (Spelled A)) → list_all (λ word. has_no_blob word.1) words ≡ true → AreFit others → AreFit (with_alone words others)
+  alone-fit [] others none all = all
+  alone-fit ((w, said) ∷ words) others none all = (
+    (λ x line rest e. subst Fits (sym e.0) (said-fits said (first_passes (has_no_blob said) _ none))),
+    alone-fit words others (others_pass (has_no_blob said) _ none) all,
+  )
+
   commands-fit : (w : List ℕ) → Makes Fits (one_of commands w)
   commands-fit = one_of-fits commands (
     create-fits,
@@ -137,39 +177,30 @@ module _ {A : Type 0} (fit : (blob : Contents A) (bytes : List ℕ) → SpellsBl
       (
         commit_at-fits,
         (
-          apply-fits,
+          apply-fits [],
           (
-            get-fits,
+            apply_quiet-fits,
             (
-              scan-fits,
+              get-fits,
               (
-                save-fits,
+                scan-fits,
                 (
-                  (λ x line rest e. subst Fits (sym e.0) tt),
+                  save-fits,
                   (
-                    (λ x line rest (session, a, p, e). subst Fits (sym e.0) tt),
+                    drop_database-fits,
                     (
                       attach-fits,
                       (
-                        (λ x line rest (session, a, p, e). subst Fits (sym e.0) tt),
+                        enable-fits,
                         (
-                          (λ x line rest (session, a, p, e). subst Fits (sym e.0) tt),
+                          indirect-fits,
                           (
-                            enable-fits,
+                            diff-fits,
                             (
-                              indirect-fits,
+                              changeset-fits,
                               (
-                                (λ x line rest (session, a, p, e). subst Fits (sym e.0) tt),
-                                (
-                                  diff-fits,
-                                  (
-                                    changeset-fits,
-                                    (
-                                      patchset-fits,
-                                      (restart-fits, tt),
-                                    ),
-                                  ),
-                                ),
+                                patchset-fits,
+                                (restart-fits, numbered-fit numbered (with_alone alone []) (λ _. refl) (alone-fit alone [] refl tt)),
                               ),
                             ),
                           ),

@@ -27,12 +27,12 @@ use Rattle.cap_language.specs.Forms.{Words, a_blob, a_word, either, keyword, nam
 use Rattle.cap_language.specs.Grammar.{Grammar, done, exceeds, follows, next, read, read_at, unfit}
 use Rattle.cap_language.specs.Tokens.{Blob, Word}
 use Rattle.cap_language.proofs.FormLaws.{eats_keyword, form_keyword, form_name, form_natural, form_value, form_values, goes_44, goes_59}
-use Rattle.cap_script.specs.Language.{answer, apply, attach, batch, cascaded, changeset, columns, commands, commit, commit_at, contents, contents_of, create, delete, diff, enable, field, fields, flag, flags_in, get, indirect, insert, key_flags, nth_operation, operation, operations, patchset, policy, report, restart, row, row_of, save, scan, schema, update}
+use Rattle.cap_script.specs.Language.{alone, answer, apply_quiet, applying, attach, batch, cascaded, changeset, columns, commands, commit, commit_at, contents, contents_of, create, delete, diff, drop_database, enable, field, fields, flag, flags_in, get, indirect, insert, key_flags, nth_operation, numbered, numbers, operation, operations, patchset, policy, report, restart, row, row_of, save, scan, schema, update, with_alone, with_numbered}
 use Rattle.cap_script.specs.declared.command.Spelled.{Spelled}
 use Rattle.cap_script.specs.declared.command.Spelled.TheVariants.{Filter, Whole}
 use Rattle.cap_script.specs.declared.line.Show.{Show}
 use Rattle.cap_script.specs.declared.line.Show.TheVariants as show
-use Rattle.cap_language.proofs.OpenGrammars.{Form, Last, blob_token, eats_map, eats_next, finish_full, form_both, form_map, form_next, form_separated, form_sign, kind_done, kind_either, kind_exceeds, kind_no_blob, kind_one_of, kind_unfit, kind_within, last_both, last_end, last_form, last_map, open_limit, sample_fits, sample_then, word_token}
+use Rattle.cap_language.proofs.OpenGrammars.{AreOpen, Form, Last, blob_token, eats_map, eats_next, finish_full, form_both, form_map, form_next, form_separated, form_sign, kind_done, kind_either, kind_exceeds, kind_no_blob, kind_one_of, kind_unfit, kind_within, last_both, last_end, last_form, last_map, open_limit, sample_fits, sample_then, word_token}
 use Rattle.cap_language.proofs.OpenLaws.{Nothing, Nothings, Open, OpenKind, Tail, Tails, nothing_tail, open_done, open_next, same_tail}
 
 -- ---- columns and flags
@@ -53,6 +53,10 @@ form_flag =
     let words = (codes "on", done (Some true)) ∷ (codes "off", done (Some false)) ∷ (codes "ask", done None) ∷ [] in
     form_next a_word (one_of words) (kind_one_of Tails words (open_done Tails (Some true), (open_done Tails (Some false), (open_done Tails None, tt))))
     (sample_fits a_word (one_of words) (Word (codes "on")) 111 (110 ∷ []) (codes "on") refl refl (word_token 111 (110 ∷ []) refl refl refl) refl (Some true) (λ before line. refl))
+
+form_numbers : Form numbers
+unfolding numbers
+form_numbers = form_separated 44 goes_44 (λ i. natural) (λ i. let form = form_natural in form.inner) form_natural
 
 form_answer : Form answer
 unfolding answer
@@ -248,13 +252,19 @@ module _ {A : Type 0} where
       closing (follows natural (λ base. follows (batch (Some base)) (λ batch. done (plainly (made.Commit batch)))))
       (form_both natural (λ base. follows (batch (Some base)) (λ batch. done (plainly (made.Commit batch)))) form_natural (λ base. form_map (batch (Some base)) (λ batch. plainly (made.Commit batch)) (form_batch (Some base))))
 
-  open_apply : Open Closing (read (apply {A = A}))
-  unfolding apply
-  open_apply =
-      let last = last_both Closing closing_tail contents (λ blob. follows policy (λ policy. follows report (λ report. done (Whole (made.Apply blob policy) report)))) form_contents
-      (λ blob. last_both Closing closing_tail policy (λ policy. follows report (λ report. done (Whole (made.Apply blob policy) report))) form_policy
-      (λ policy. last_map Closing report (λ report. Whole (made.Apply blob policy) report) last_report)) in
-      last.inner
+  last_applying : (quiet : List ℕ) → Last Closing (applying {A = A} quiet)
+  unfolding applying
+  last_applying quiet =
+      last_both Closing closing_tail contents (λ blob. follows policy (λ policy. follows report (λ report. done (Whole (made.Apply blob policy quiet) report)))) form_contents
+      (λ blob. last_both Closing closing_tail policy (λ policy. follows report (λ report. done (Whole (made.Apply blob policy quiet) report))) form_policy
+      (λ policy. last_map Closing report (λ report. Whole (made.Apply blob policy quiet) report) last_report))
+
+  open_apply : Open Closing (read (applying {A = A} []))
+  open_apply = let last = last_applying [] in last.inner
+
+  open_apply_quiet : Open Closing (read (apply_quiet {A = A}))
+  unfolding apply_quiet
+  open_apply_quiet = let last = last_both Closing closing_tail numbers (λ quiet. applying quiet) form_numbers last_applying in last.inner
 
   open_get : Open Closing (read (get {A = A}))
   unfolding get
@@ -269,6 +279,10 @@ module _ {A : Type 0} where
   open_save : Open Closing (read (save {A = A}))
   unfolding save
   open_save = closing (follows name (λ database. done (plainly (made.SaveAs database)))) (form_map name (λ database. plainly (made.SaveAs database)) form_name)
+
+  open_drop_database : Open Closing (read (drop_database {A = A}))
+  unfolding drop_database
+  open_drop_database = closing (follows name (λ database. done (plainly (made.DropDatabase database)))) (form_map name (λ database. plainly (made.DropDatabase database)) form_name)
 
   open_session : (f : ℕ → Spelled A) → Open Closing (read (follows natural (λ session. done (f session))))
   open_session f = closing (follows natural (λ session. done (f session))) (form_map natural f form_natural)
@@ -317,6 +331,14 @@ module _ {A : Type 0} where
   unfolding restart
   open_restart = open_capture made.Restart show.Changeset
 
+  open_numbered : (words : List (List ℕ × (ℕ → Spelled A))) (others : Words (Spelled A)) → AreOpen Closing others → AreOpen Closing (with_numbered words others)
+  open_numbered [] others all = all
+  open_numbered ((w, of_session) ∷ words) others all = (open_session of_session, open_numbered words others all)
+
+  open_alone : (words : List (List ℕ × Spelled A)) (others : Words (Spelled A)) → AreOpen Closing others → AreOpen Closing (with_alone words others)
+  open_alone [] others all = all
+  open_alone ((w, said) ∷ words) others all = (open_done Closing said, open_alone words others all)
+
   pub open_commands : (w : List ℕ) → OpenKind Closing (one_of (commands {A = A}) w)
   open_commands = kind_one_of Closing commands (
     open_create,
@@ -327,37 +349,28 @@ module _ {A : Type 0} where
         (
           open_apply,
           (
-            open_get,
+            open_apply_quiet,
             (
-              open_scan,
+              open_get,
               (
-                open_save,
+                open_scan,
                 (
-                  open_done Closing (plainly made.NewSession),
+                  open_save,
                   (
-                    open_session (λ session. plainly (made.DropSession session)),
+                    open_drop_database,
                     (
                       open_attach,
                       (
-                        open_session (λ session. plainly (made.AttachAll session)),
+                        open_enable,
                         (
-                          open_session Filter,
+                          open_indirect,
                           (
-                            open_enable,
+                            open_diff,
                             (
-                              open_indirect,
+                              open_changeset,
                               (
-                                open_session (λ session. plainly (made.IsEmpty session)),
-                                (
-                                  open_diff,
-                                  (
-                                    open_changeset,
-                                    (
-                                      open_patchset,
-                                      (open_restart, tt),
-                                    ),
-                                  ),
-                                ),
+                                open_patchset,
+                                (open_restart, open_numbered numbered (with_alone alone []) (open_alone alone [] tt)),
                               ),
                             ),
                           ),

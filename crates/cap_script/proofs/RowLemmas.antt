@@ -1,8 +1,9 @@
 -- The text of rows, one value and one row at a time.
-use Rattle.std.proofs.Common.{◌≡◌, ℕ, ◌+◌, ◌<◌, List, ◌∷◌, ◌++◌, Option, Result, Ok, Err, Bor, length, get_or, drop, drop-cons, add-one, sym, ap, ap₂, ◌∙◌, append_assoc, codes}
+use Rattle.std.proofs.Common.{◌≡◌, ℕ, ◌+◌, ◌<◌, List, ◌∷◌, ◌++◌, cond, Option, Result, Ok, Err, Bor, length, get_or, drop, drop-cons, add-one, sym, ap, ap₂, ◌∙◌, append_assoc, codes}
 use Rattle.std.specs.List.{flat_map}
 use Rattle.std.specs.Option.{option_copied}
-use Rattle.std.specs.Result.{result_map_both}
+use Rattle.std.specs.Prelude.{OnOk}
+use Rattle.std.specs.Result.{is_ok, result_map_both}
 use Rattle.cap_value.specs.declared.refusal.Refusal.{Refusal}
 use Rattle.cap_value.specs.declared.value.Value.{Value}
 use Rattle.cap_row.specs.Fields.{Fields}
@@ -21,6 +22,11 @@ one_more_at f xs i d old new all lt more so_far =
     let rest : drop i xs ≡ get_or xs i d ∷ drop (i + 1) xs = drop-cons xs i d lt ∙ ap (λ k. get_or xs i d ∷ drop k xs) (sym (add-one i)) in
     ap (λ (l : List ℕ). l ++ flat_map f (drop (i + 1) xs)) more ∙ append_assoc old (f (get_or xs i d)) (flat_map f (drop (i + 1) xs))
     ∙ ap (λ ys. old ++ flat_map f ys) (sym rest) ∙ so_far
+
+-- a text that is pushed
+pub pushed : {E : Type 0} (r : Result Unit E) (new old more : List ℕ) → new ≡ cond (is_ok r) (old ++ more) old → OnOk r (new ≡ old ++ more)
+pushed (Ok done) new old more is = is
+pushed (Err why) new old more is = tt
 
 module _ {A : Type 0} where
   pub one_more_value : (out more : List ℕ) (value : Value A) (rest : Fields A) → more ≡ out ++ (codes "," ++ value_text value) → more ++ more_values rest ≡ out ++ more_values (value ∷ rest)

@@ -69,6 +69,10 @@ flag = next a_word (one_of (
 unfoldable pub key_flags : Grammar KeyFlags
 key_flags = where_end (done Ones) (keyword (codes "places") >>= λ _. done Places)
 
+-- the numbers of sessions
+unfoldable pub numbers : Grammar (List ℕ)
+numbers = separated 44 (λ _. natural)
+
 -- the answer to a conflict
 unfoldable pub answer : Grammar Answer
 answer = next a_word (one_of (
@@ -195,12 +199,16 @@ module _ {A : Type 0} where
   unfoldable pub commit_at : Grammar (Spelled A)
   commit_at = do base ← natural; batch ← batch (Some base); plain (made.Commit batch)
 
-  unfoldable pub apply : Grammar (Spelled A)
-  apply = do
+  -- an application that leaves these sessions as they are
+  unfoldable pub applying : List ℕ → Grammar (Spelled A)
+  applying quiet = do
     contents ← contents
     policy ← policy
     report ← report
-    done (Whole (made.Apply contents policy) report)
+    done (Whole (made.Apply contents policy quiet) report)
+
+  unfoldable pub apply_quiet : Grammar (Spelled A)
+  apply_quiet = do quiet ← numbers; applying quiet
 
   unfoldable pub get : Grammar (Spelled A)
   get = do table ← name; row ← row; done (Whole made.Read (show.Get table row))
@@ -211,9 +219,8 @@ module _ {A : Type 0} where
   unfoldable pub save : Grammar (Spelled A)
   save = do database ← name; plain (made.SaveAs database)
 
-  -- a command to a session, which needs no more than its number
-  abbrev pub on_session : (ℕ → Command A) → Grammar (Spelled A)
-  on_session of_session = natural >>= λ session. plain (of_session session)
+  unfoldable pub drop_database : Grammar (Spelled A)
+  drop_database = do database ← name; plain (made.DropDatabase database)
 
   unfoldable pub attach : Grammar (Spelled A)
   attach = do session ← natural; table ← name; plain (made.Attach session table)
@@ -245,29 +252,52 @@ module _ {A : Type 0} where
     flags ← key_flags
     done (Whole (made.Restart session) (show.Changeset flags))
 
+  -- the commands that are a word and the number of a session
+  abbrev pub numbered : List (List ℕ × (ℕ → Spelled A))
+  numbered =
+      (codes "drop", λ session. Whole (made.DropSession session) show.Plain)
+      ∷ (codes "attachall", λ session. Whole (made.AttachAll session) show.Plain)
+      ∷ (codes "filter", Filter)
+      ∷ (codes "isempty", λ session. Whole (made.IsEmpty session) show.Plain)
+      ∷ []
+
+  -- the commands that are a word alone
+  abbrev pub alone : List (List ℕ × Spelled A)
+  alone =
+      (codes "session", Whole made.NewSession show.Plain)
+      ∷ (codes "sessions", Whole made.Sessions show.Plain)
+      ∷ (codes "databases", Whole made.Databases show.Plain)
+      ∷ []
+
+  abbrev pub with_numbered : List (List ℕ × (ℕ → Spelled A)) → Words (Spelled A) → Words (Spelled A)
+  with_numbered [] words = words
+  with_numbered ((word, of_session) ∷ others) words =
+      (word, natural >>= λ session. done (of_session session)) ∷ with_numbered others words
+
+  abbrev pub with_alone : List (List ℕ × Spelled A) → Words (Spelled A) → Words (Spelled A)
+  with_alone [] words = words
+  with_alone ((word, spelled) ∷ others) words = (word, done spelled) ∷ with_alone others words
+
   -- each command by its first word
   abbrev pub commands : Words (Spelled A)
   commands =
       (codes "create", create)
       ∷ (codes "commit", commit)
       ∷ (codes "commitat", commit_at)
-      ∷ (codes "apply", apply)
+      ∷ (codes "apply", applying [])
+      ∷ (codes "applyquiet", apply_quiet)
       ∷ (codes "get", get)
       ∷ (codes "scan", scan)
       ∷ (codes "save", save)
-      ∷ (codes "session", plain made.NewSession)
-      ∷ (codes "drop", on_session made.DropSession)
+      ∷ (codes "dropdatabase", drop_database)
       ∷ (codes "attach", attach)
-      ∷ (codes "attachall", on_session made.AttachAll)
-      ∷ (codes "filter", natural >>= λ session. done (Filter session))
       ∷ (codes "enable", enable)
       ∷ (codes "indirect", indirect)
-      ∷ (codes "isempty", on_session made.IsEmpty)
       ∷ (codes "diff", diff)
       ∷ (codes "changeset", changeset)
       ∷ (codes "patchset", patchset)
       ∷ (codes "restart", restart)
-      ∷ []
+      ∷ with_numbered numbered (with_alone alone [])
 
   unfoldable pub command : Grammar (Spelled A)
   command = next a_word (one_of commands)

@@ -4,6 +4,7 @@ pub mod FirstRefused
 pub mod Language
 pub mod LineFaults
 pub mod LineLimits
+pub mod ListText
 pub mod ReadLine
 pub mod RefusalText
 pub mod RefusedLines

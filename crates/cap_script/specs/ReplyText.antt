@@ -1,5 +1,5 @@
 -- The text of a reply, as it is printed.
-use Rattle.std.specs.Prelude.{ℕ, Bool, if◌then◌else◌, List, [], ◌∷◌, ◌++◌, Some, None, codes, decimal, length}
+use Rattle.std.specs.Prelude.{ℕ, Bool, List, [], ◌∷◌, ◌++◌, Some, None, codes, decimal, length}
 use Rattle.std.specs.List.{flat_map}
 use Rattle.hex.specs.Hex.{encode_lower}
 use Rattle.cap_changes.specs.Group.{TableChanges}
@@ -16,7 +16,8 @@ use Rattle.cap_core.specs.declared.command.Command.{Command}
 use Rattle.cap_core.specs.declared.command.Command.TheVariants as command
 use Rattle.cap_core.specs.declared.reply.Reply.{Reply}
 use Rattle.cap_core.specs.declared.reply.Reply.TheVariants.{Done, Written, Applied, Session, Snapshot, Flag}
-use Rattle.cap_core.specs.declared.reply.Reply.TheVariants.{Capture, Refused}
+use Rattle.cap_core.specs.declared.reply.Reply.TheVariants.{Capture, Databases, Refused, Sessions}
+use Rattle.cap_script.specs.ListText.{databases_text, on_word, sessions_text, true_word}
 use Rattle.cap_script.specs.RefusalText.{refusal_text}
 use Rattle.cap_script.specs.RowText.{snapshot_text}
 use Rattle.cap_script.specs.Words.{answer_word, kind_word}
@@ -62,7 +63,7 @@ module _ {A : Type 0} where
 
   -- the buffer of the application of a blob, on a line of its own, after the line before
   abbrev pub buffer_text : Command A → List Conflict → List ℕ
-  buffer_text (command.Apply contents policy) conflicts =
+  buffer_text (command.Apply contents policy quiet) conflicts =
       10 ∷ (codes "buffer " ++ buffer_digits contents conflicts)
   buffer_text _ conflicts = []
 
@@ -75,8 +76,8 @@ module _ {A : Type 0} where
 
   -- whether a session is empty is true or false, and a flag is on or off
   abbrev pub flag_text : Command A → Bool → List ℕ
-  flag_text (command.IsEmpty session) flag = if flag then codes "true" else codes "false"
-  flag_text _ flag = if flag then codes "on" else codes "off"
+  flag_text (command.IsEmpty session) flag = true_word flag
+  flag_text _ flag = on_word flag
 
   -- the text of a capture
   abbrev pub capture_text : Show A → List (TableChanges A) → List ℕ
@@ -91,6 +92,8 @@ module _ {A : Type 0} where
   reply_text line (Written version) = codes "ok version " ++ decimal version
   reply_text line (Applied version report) = applied_shown line.show line.command version report
   reply_text line (Session number) = codes "session " ++ decimal number
+  reply_text line (Databases names) = databases_text names
+  reply_text line (Sessions sessions) = sessions_text sessions
   reply_text line (Snapshot snapshot) = snapshot_text line.show snapshot
   reply_text line (Flag flag) = flag_text line.command flag
   reply_text line (Capture capture) = capture_text line.show capture.changes

@@ -1,8 +1,9 @@
 //! Reads commands. Each function but the first reads a command behind its first word.
 ghost use Rattle.std.specs.Prelude.{◌≡◌, None, Some, List, Bool, IfOk, MatchOption};
-ghost use Rattle.cap_language.specs.Grammar.{Reads, read};
-ghost use Rattle.cap_script.specs.Language.{answer, apply, command, commit, commit_at, contents, create};
-ghost use Rattle.cap_script.specs.Language.{flags_in};
+ghost use Rattle.cap_language.specs.Forms.{natural, separated};
+ghost use Rattle.cap_language.specs.Grammar.{Reads, read, seen_items};
+ghost use Rattle.cap_script.specs.Language.{answer, apply_quiet, applying, command, commit};
+ghost use Rattle.cap_script.specs.Language.{commit_at, contents, create, drop_database, flags_in, numbers};
 ghost use Rattle.cap_script.specs.Language.{get, key_letter, policy, report, save, scan, schema};
 ghost use Rattle.cap_script.specs.declared.command.Spelled.TheVariants.{Whole};
 ghost use Rattle.cap_script.specs.declared.line.Show.TheVariants.{Plain};
@@ -12,7 +13,7 @@ use crate::operation::{batch, row_ref};
 use crate::session_command::{attach, changeset, diff, enable, indirect, patchset, restart};
 use cap_apply::{Answer, Policy};
 use cap_codec::{Contents, read_blob};
-use cap_core::Command;
+use cap_core::{Command, QuietSessions};
 use cap_language::{Cursor, LineFault, name};
 use cap_row::Schema;
 use cap_txn::Batch;
@@ -50,32 +51,23 @@ pub(crate) fn command<A: AllocHandle>(
     } else if word.is("commitat") {
         commit_at(alloc, cursor)
     } else if word.is("apply") {
-        apply(alloc, cursor)
+        applying(alloc, cursor, QuietSessions::none(alloc))
+    } else if word.is("applyquiet") {
+        apply_quiet(alloc, cursor)
     } else if word.is("get") {
         get(alloc, cursor)
     } else if word.is("scan") {
         scan(alloc, cursor)
     } else if word.is("save") {
         save(alloc, cursor)
-    } else if word.is("session") {
-        Ok(plain(Command::NewSession))
-    } else if word.is("drop") {
-        let session = cursor.natural()?;
-        Ok(plain(Command::DropSession { session }))
+    } else if word.is("dropdatabase") {
+        drop_database(alloc, cursor)
     } else if word.is("attach") {
         attach(alloc, cursor)
-    } else if word.is("attachall") {
-        let session = cursor.natural()?;
-        Ok(plain(Command::AttachAll { session }))
-    } else if word.is("filter") {
-        Ok(Spelled::Filter(cursor.natural()?))
     } else if word.is("enable") {
         enable(cursor)
     } else if word.is("indirect") {
         indirect(cursor)
-    } else if word.is("isempty") {
-        let session = cursor.natural()?;
-        Ok(plain(Command::IsEmpty { session }))
     } else if word.is("diff") {
         diff(alloc, cursor)
     } else if word.is("changeset") {
@@ -84,6 +76,23 @@ pub(crate) fn command<A: AllocHandle>(
         patchset(cursor)
     } else if word.is("restart") {
         restart(cursor)
+    } else if word.is("drop") {
+        let session = cursor.natural()?;
+        Ok(plain(Command::DropSession { session }))
+    } else if word.is("attachall") {
+        let session = cursor.natural()?;
+        Ok(plain(Command::AttachAll { session }))
+    } else if word.is("filter") {
+        Ok(Spelled::Filter(cursor.natural()?))
+    } else if word.is("isempty") {
+        let session = cursor.natural()?;
+        Ok(plain(Command::IsEmpty { session }))
+    } else if word.is("session") {
+        Ok(plain(Command::NewSession))
+    } else if word.is("sessions") {
+        Ok(plain(Command::Sessions))
+    } else if word.is("databases") {
+        Ok(plain(Command::Databases))
     } else {
         Err(word.misfit)
     }
@@ -156,16 +165,58 @@ fn commit_at<A: AllocHandle>(alloc: A, cursor: &mut Cursor<'_>) -> Result<Spelle
     Ok(plain(Command::Commit(batch)))
 }
 
+// Reads the sessions that an application leaves as they are, and the application: `S , S .. x'..' D N C`.
+#[tactic(auto, unfolding(crate::specs::Language::apply_quiet))]
+fn apply_quiet<A: AllocHandle>(alloc: A, cursor: &mut Cursor<'_>) -> Result<Spelled<A>, LineFault>
+    ensures reads { Reads result cursor.new.rest.now (read apply_quiet cursor.old.rest.now) }
+{
+    let quiet = quiet_sessions(alloc, cursor)?;
+    applying(alloc, cursor, quiet)
+}
+
 // Reads a blob, a policy, which is the answers to DATA, NOTFOUND and CONFLICT, and how the outcome is
 // printed: `x'..' D N C`.
-#[tactic(auto, unfolding(crate::specs::Language::apply))]
-fn apply<A: AllocHandle>(alloc: A, cursor: &mut Cursor<'_>) -> Result<Spelled<A>, LineFault>
-    ensures reads { Reads result cursor.new.rest.now (read apply cursor.old.rest.now) }
+#[tactic(auto, unfolding(crate::specs::Language::applying))]
+fn applying<A: AllocHandle>(
+    alloc: A,
+    cursor: &mut Cursor<'_>,
+    quiet: QuietSessions<A>,
+) -> Result<Spelled<A>, LineFault>
+    ensures reads { Reads result cursor.new.rest.now (read (applying quiet) cursor.old.rest.now) }
 {
     let blob = contents(alloc, cursor)?;
     let policy = policy(cursor)?;
     let show = report(cursor)?;
-    Ok(Spelled::Whole(Command::Apply { blob, policy }, show))
+    let command = Command::Apply {
+        blob,
+        policy,
+        quiet,
+    };
+    Ok(Spelled::Whole(command, show))
+}
+
+// Reads sessions: `S , S ..`.
+#[tactic(auto, unfolding(crate::specs::Language::numbers))]
+fn quiet_sessions<A: AllocHandle>(
+    alloc: A,
+    cursor: &mut Cursor<'_>,
+) -> Result<QuietSessions<A>, LineFault>
+    ensures reads { Reads result cursor.new.rest.now (read numbers cursor.old.rest.now) }
+{
+    Ok(QuietSessions::new(numbers(alloc, cursor)?))
+}
+
+// Reads the numbers of sessions: `S , S ..`.
+fn numbers<A: AllocHandle>(alloc: A, cursor: &mut Cursor<'_>) -> Result<Vec<u64, A>, LineFault>
+    ensures reads { Reads (seen_items result) cursor.new.rest.now
+        (read (separated 44 (λ _. natural)) cursor.old.rest.now) }
+{
+    let mut numbers = Vec::new(alloc);
+    numbers.push(cursor.natural()?)?;
+    while cursor.takes_sign(b',') {
+        numbers.push(cursor.natural()?)?;
+    }
+    Ok(numbers)
 }
 
 // Reads the changeset or patchset in a blob, the next token.
@@ -258,4 +309,13 @@ fn save<A: AllocHandle>(alloc: A, cursor: &mut Cursor<'_>) -> Result<Spelled<A>,
 {
     let database = name(alloc, cursor)?;
     Ok(plain(Command::SaveAs { database }))
+}
+
+// Reads the name of a saved database: `B`.
+#[tactic(auto, unfolding(crate::specs::Language::drop_database))]
+fn drop_database<A: AllocHandle>(alloc: A, cursor: &mut Cursor<'_>) -> Result<Spelled<A>, LineFault>
+    ensures reads { Reads result cursor.new.rest.now (read drop_database cursor.old.rest.now) }
+{
+    let database = name(alloc, cursor)?;
+    Ok(plain(Command::DropDatabase { database }))
 }

@@ -8,6 +8,7 @@ mod fault_text;
 mod laws;
 mod line;
 mod lines;
+mod list_text;
 mod one_line;
 mod operation;
 mod refusal_text;
@@ -28,5 +29,7 @@ pub use laws::{
 pub use line::{Line, Show};
 pub use lines::Lines;
 pub use one_line::read_line;
-pub use reply::print_reply;
+pub use refusal_text::refusal_name;
+pub use reply::{print_reply, write_reply};
+pub use words::{answer_word, kind_word};
 pub use workload::{Workload, parse};

@@ -35,9 +35,9 @@ impl Display for RefusalText {
     }
 }
 
-// The number and the name, as `Refusal` has them.
+/// The number and the name of a refusal, as `E5 Duplicate`.
 #[tactic(auto, unfolding(crate::specs::RefusalText::refusal_name))]
-fn refusal_name(why: Refusal) -> &'static str
+pub fn refusal_name(why: Refusal) -> &'static str
     ensures { result.now ≡ refusal_name why }
 {
     match why {

@@ -1,5 +1,5 @@
 //! The text of replies.
-ghost use Rattle.std.specs.Prelude.{◌≡◌, IfOk, string_bytes, codes, ◌++◌};
+ghost use Rattle.std.specs.Prelude.{◌≡◌, IfOk, OnOk, string_bytes, codes, decimal, ◌++◌};
 ghost use Rattle.cap_changes.specs.Patch.{patch_list_of};
 ghost use Rattle.cap_codec.specs.Changeset.{list_bytes_with};
 ghost use Rattle.cap_codec.specs.Patchset.{patch_list_bytes_with};
@@ -7,6 +7,7 @@ ghost use Rattle.cap_script.specs.ReplyText.{applied_shown, applied_text, buffer
 ghost use Rattle.cap_script.specs.ReplyText.{capture_text, flag_text, hex_or_dash, reply_text, report_text};
 
 use crate::buffer_text::write_buffer;
+use crate::list_text::{databases_text, on_word, sessions_text, true_word};
 use crate::refusal_text::RefusalText;
 use crate::report_text::write_report;
 use crate::row_text::snapshot_text;
@@ -15,10 +16,10 @@ use cap_apply::Report;
 use cap_codec::KeyFlags;
 use cap_core::{Capture, Command, Reply};
 use cap_value::{AllocHandle, OutOfMemory};
+use itoa::Buffer;
 
 /// The text of the reply to a line's command, without a line feed at its end. It has several lines where it
 /// prints rows or the report of an apply.
-#[tactic(auto, unfolding(crate::specs::ReplyText::reply_text))]
 pub fn print_reply<A: AllocHandle>(
     alloc: A,
     line: &Line<A>,
@@ -26,20 +27,65 @@ pub fn print_reply<A: AllocHandle>(
 ) -> Result<String<A>, OutOfMemory>
     ensures { IfOk result (λ text. string_bytes text ≡ reply_text line.now reply.now) }
 {
+    let mut text = String::new(alloc);
+    write_reply(alloc, line, reply, &mut text)?;
+    Ok(text)
+}
+
+/// Appends the text of the reply to `out`, as `print_reply` prints it.
+#[tactic(auto, unfolding(crate::specs::ReplyText::reply_text))]
+pub fn write_reply<A: AllocHandle>(
+    alloc: A,
+    line: &Line<A>,
+    reply: &Reply<A>,
+    out: &mut String<A>,
+) -> Result<(), OutOfMemory>
+    ensures { OnOk result (string_bytes out.new ≡ string_bytes out.old ++ reply_text line.now reply.now) }
+{
     match reply {
-        Reply::Done => String::from_str(alloc, "ok"),
-        Reply::Written { version } => format!(in alloc; "ok version {version}"),
-        Reply::Applied { version, report } => applied_text(alloc, line, *version, report),
-        Reply::Session(number) => format!(in alloc; "session {number}"),
-        Reply::Snapshot(snapshot) => snapshot_text(alloc, &line.show, snapshot),
-        Reply::Flag(flag) => String::from_str(alloc, flag_text(&line.command, *flag)),
-        Reply::Capture(capture) => capture_text(alloc, &line.show, capture),
+        Reply::Done => out.push_str("ok"),
+        Reply::Written { version } => write_numbered("ok version ", *version, out),
+        Reply::Session(number) => write_numbered("session ", *number, out),
+        Reply::Flag(flag) => out.push_str(flag_text(&line.command, *flag)),
+        Reply::Applied { version, report } => {
+            let text = applied_text(alloc, line, *version, report)?;
+            out.push_str(text.as_str())
+        }
+        Reply::Snapshot(snapshot) => {
+            let text = snapshot_text(alloc, &line.show, snapshot)?;
+            out.push_str(text.as_str())
+        }
+        Reply::Capture(capture) => {
+            let text = capture_text(alloc, &line.show, capture)?;
+            out.push_str(text.as_str())
+        }
+        Reply::Databases(names) => {
+            let text = databases_text(alloc, names)?;
+            out.push_str(text.as_str())
+        }
+        Reply::Sessions(sessions) => {
+            let text = sessions_text(alloc, sessions)?;
+            out.push_str(text.as_str())
+        }
         Reply::Refused {
             at: Some(place),
             why,
-        } => format!(in alloc; "refused at {place}: {}", RefusalText(*why)),
-        Reply::Refused { at: None, why } => { format!(in alloc; "refused: {}", RefusalText(*why)) }
+        } => write!(out, "refused at {place}: {}", RefusalText(*why)),
+        Reply::Refused { at: None, why } => write!(out, "refused: {}", RefusalText(*why)),
     }
+}
+
+// Appends a number behind some words.
+fn write_numbered<A: AllocHandle>(
+    words: &str,
+    number: u64,
+    out: &mut String<A>,
+) -> Result<(), OutOfMemory>
+    ensures { OnOk result (string_bytes out.new
+        ≡ string_bytes out.old ++ (words.now ++ decimal number)) }
+{
+    out.push_str(words)?;
+    out.push_str(Buffer::new().format(number))
 }
 
 // The outcome of an apply.
@@ -106,8 +152,8 @@ fn flag_text<A: AllocHandle>(command: &Command<A>, flag: bool) -> &'static str
     ensures { result.now ≡ flag_text command.now flag }
 {
     match command {
-        Command::IsEmpty { .. } => if flag { "true" } else { "false" },
-        _ => if flag { "on" } else { "off" },
+        Command::IsEmpty { .. } => true_word(flag),
+        _ => on_word(flag),
     }
 }
 

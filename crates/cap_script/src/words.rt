@@ -4,7 +4,8 @@ ghost use Rattle.cap_script.specs.Words.{answer_word, kind_word};
 
 use cap_apply::{Answer, ConflictKind};
 
-pub(crate) fn answer_word(answer: Answer) -> &'static str
+/// The word of an answer to a conflict.
+pub fn answer_word(answer: Answer) -> &'static str
     ensures { result.now ≡ answer_word answer }
 {
     match answer {
@@ -14,7 +15,8 @@ pub(crate) fn answer_word(answer: Answer) -> &'static str
     }
 }
 
-pub(crate) fn kind_word(kind: ConflictKind) -> &'static str
+/// The word of a kind of conflict.
+pub fn kind_word(kind: ConflictKind) -> &'static str
     ensures { result.now ≡ kind_word kind }
 {
     match kind {

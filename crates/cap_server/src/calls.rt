@@ -5,7 +5,8 @@ ghost use Rattle.cap_core.specs.declared.command.Command.TheVariants.{CreateTabl
 ghost use Rattle.cap_core.specs.declared.command.Command.TheVariants.{SaveAs, NewSession, DropSession};
 ghost use Rattle.cap_core.specs.declared.command.Command.TheVariants.{Attach, AttachAll, SetFilter, Enable};
 ghost use Rattle.cap_core.specs.declared.command.Command.TheVariants.{Indirect, IsEmpty, Diff, Capture};
-ghost use Rattle.cap_core.specs.declared.command.Command.TheVariants.{Restart};
+ghost use Rattle.cap_core.specs.declared.command.Command.TheVariants.{Restart, Databases, DropDatabase};
+ghost use Rattle.cap_core.specs.declared.command.Command.TheVariants.{Sessions};
 ghost use Rattle.cap_history.specs.Seat.{HasCalled};
 ghost use Rattle.cap_locked.specs.Fault.{HasCause, LeavesSeat};
 ghost use Rattle.cap_server.specs.Commit.{CommitsAt};
@@ -14,8 +15,8 @@ use crate::{Naming, Seat, Server};
 use cap_apply::Policy;
 use cap_codec::Contents;
 use cap_core::{
-    Command, Reply, fitting_histories_grow, legal_histories_grow, legal_histories_were_legal,
-    rows_stand_under_own_keys, transactions_commit_if_unchanged,
+    Command, QuietSessions, Reply, fitting_histories_grow, legal_histories_grow,
+    legal_histories_were_legal, rows_stand_under_own_keys, transactions_commit_if_unchanged,
 };
 use cap_filter::TableFilter;
 use cap_locked::CallFault;
@@ -111,19 +112,28 @@ impl<J: Naming, A: AllocHandle> Server<J, A> {
         self.call(rt, seat, &Command::Capture { session })
     }
 
-    /// Applies a changeset or patchset.
+    /// Applies a changeset or patchset. The quiet sessions record none of its changes.
     pub fn apply<R: Wait>(
         &self,
         rt: &R,
         seat: &mut Seat<J, A>,
         blob: Contents<A>,
         policy: Policy,
+        quiet: QuietSessions<A>,
     ) -> Result<Reply<A>, CallFault>
-        ensures called { IfOk result (λ reply. HasCalled seat.old seat.new (Apply blob policy) reply) }
+        ensures called { IfOk result (λ reply. HasCalled seat.old seat.new (Apply blob policy quiet) reply) }
         ensures refused { IfErr result (λ fault. LeavesSeat fault seat.old seat.new) }
-        ensures cause { IfErr result (λ fault. HasCause fault seat.old (Apply blob policy)) }
+        ensures cause { IfErr result (λ fault. HasCause fault seat.old (Apply blob policy quiet)) }
     {
-        self.call(rt, seat, &Command::Apply { blob, policy })
+        self.call(
+            rt,
+            seat,
+            &Command::Apply {
+                blob,
+                policy,
+                quiet,
+            },
+        )
     }
 
     /// Saves the tables under a name.
@@ -138,6 +148,38 @@ impl<J: Naming, A: AllocHandle> Server<J, A> {
         ensures cause { IfErr result (λ fault. HasCause fault seat.old (SaveAs database)) }
     {
         self.call(rt, seat, &Command::SaveAs { database })
+    }
+
+    /// Drops a saved database.
+    pub fn drop_database<R: Wait>(
+        &self,
+        rt: &R,
+        seat: &mut Seat<J, A>,
+        database: Name<A>,
+    ) -> Result<Reply<A>, CallFault>
+        ensures called { IfOk result (λ reply. HasCalled seat.old seat.new (DropDatabase database) reply) }
+        ensures refused { IfErr result (λ fault. LeavesSeat fault seat.old seat.new) }
+        ensures cause { IfErr result (λ fault. HasCause fault seat.old (DropDatabase database)) }
+    {
+        self.call(rt, seat, &Command::DropDatabase { database })
+    }
+
+    /// Lists the saved databases.
+    pub fn databases<R: Wait>(&self, rt: &R, seat: &mut Seat<J, A>) -> Result<Reply<A>, CallFault>
+        ensures called { IfOk result (λ reply. HasCalled seat.old seat.new Databases reply) }
+        ensures refused { IfErr result (λ fault. LeavesSeat fault seat.old seat.new) }
+        ensures cause { IfErr result (λ fault. HasCause fault seat.old Databases) }
+    {
+        self.call(rt, seat, &Command::Databases)
+    }
+
+    /// Lists the live sessions.
+    pub fn sessions<R: Wait>(&self, rt: &R, seat: &mut Seat<J, A>) -> Result<Reply<A>, CallFault>
+        ensures called { IfOk result (λ reply. HasCalled seat.old seat.new Sessions reply) }
+        ensures refused { IfErr result (λ fault. LeavesSeat fault seat.old seat.new) }
+        ensures cause { IfErr result (λ fault. HasCause fault seat.old Sessions) }
+    {
+        self.call(rt, seat, &Command::Sessions)
     }
 
     /// Deletes a session.

@@ -1,18 +1,20 @@
 //! The state under the lock of the server.
 ghost use Rattle.std.specs.Prelude.{◌≡◌, ◌≢◌, ◌+◌, ◌<◌, ◌^◌, ◌⊎◌, ⊤, [], ◌∷◌, ◌++◌, length, IfOk, IfErr};
-ghost use Rattle.std.specs.Prelude.{OnOk, OnErr, Err};
+ghost use Rattle.std.specs.Prelude.{OnOk, OnErr, Ok, Err};
 ghost use Rattle.cap_core.specs.Answer.{event_by, reply_of};
 ghost use Rattle.cap_history.specs.History.{own};
 ghost use Rattle.cap_history.specs.Seat.{HasCalled, calls};
-ghost use Rattle.cap_locked.specs.Fault.{HasCauseAfter, LeavesSeat, MatchCallFault};
+ghost use Rattle.cap_locked.specs.Fault.{HasCause, HasCauseAfter, LeavesSeat, MatchCallFault};
+ghost use Rattle.cap_locked.specs.Fault.{MatchHookFault};
+ghost use Rattle.cap_locked.specs.Hook.{CanAsk, HasLeft, HasRefused};
 ghost use Rattle.cap_locked.specs.declared.fault.CallFault.TheVariants.{HistoryFull};
 ghost use Rattle.cap_server.specs.Close.{FirstHasSeen, HasAll, IsClosed, IsMissing, MatchCloseFault};
 ghost use Rattle.cap_server.specs.Close.{WasOvertaken};
 
 use crate::handed_back::{calls_agree, first_sees_all, missing_seat};
 use crate::{CloseFault, Closed, Front, List, Naming, Seat};
-use cap_core::{Command, Reply};
-use cap_locked::CallFault;
+use cap_core::{Command, CommitHook, Reply};
+use cap_locked::{CallFault, HookFault};
 use cap_value::{AllocHandle, OutOfMemory};
 use std::marker::{Model, PhantomData};
 
@@ -81,6 +83,36 @@ impl<J: Naming, A: AllocHandle> Locked<J, A> {
         ensures full_first { length self.old + 1 ≡ 2 ^ 63 → result ≡ Err HistoryFull }
     {
         self.locked.step(&front.front, &mut seat.seat, command)
+    }
+
+    /// The same with a commit hook, which is asked about the reply before the word is exchanged: where it
+    /// refuses there is no event. Where it allows the reply, the call may still be overtaken.
+    pub fn step_with_hook<C: CommitHook<A>>(
+        &mut self,
+        front: &Front<J, A>,
+        seat: &mut Seat<J, A>,
+        command: &Command<A>,
+        hook: &mut C,
+    ) -> Result<Reply<A>, HookFault<C::Refusal, CallFault>>
+        requires can_ask { CanAsk C.can_ask hook.old command.now }
+        ensures called { IfOk result (λ reply. HasCalled seat.old seat.new command.now reply) }
+        ensures reply { IfOk result (λ reply. reply ≡ reply_of self.old command.now) }
+        ensures allowed { IfOk result (λ reply. C.gives hook.old reply (Ok tt) hook.new) }
+        ensures added { IfOk result (λ reply. self.new
+            ≡ self.old ++ event_by seat.old.number command.now reply ∷ []) }
+        ensures seen { OnOk result (seat.new.seen ≡ self.new) }
+        ensures unchanged { OnErr result (self.new ≡ self.old) }
+        ensures refused { IfErr result (λ fault. MatchHookFault fault (λ why. seat.new ≡ seat.old)
+            (λ fault. LeavesSeat fault seat.old seat.new)) }
+        ensures hook { IfErr result (λ fault. MatchHookFault fault
+            (λ why. HasRefused C.gives command.now why hook.old hook.new)
+            (λ fault. HasLeft C.gives command.now fault hook.old hook.new)) }
+        ensures cause { IfErr result (λ fault. MatchHookFault fault (λ why. ⊤)
+            (λ fault. HasCause fault seat.old command.now)) }
+    {
+        let _events = self.locked.events();
+        self.locked
+            .step_with_hook(&front.front, &mut seat.seat, command, hook)
     }
 
     // The history.

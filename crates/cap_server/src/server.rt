@@ -1,16 +1,17 @@
 //! The server: calls, and opening and closing.
-ghost use Rattle.std.specs.Prelude.{◌≡◌, ◌<◌, ◌≤◌, ⊤, [], IfOk, IfErr, length};
+ghost use Rattle.std.specs.Prelude.{◌≡◌, ◌<◌, ◌≤◌, ⊤, [], IfOk, IfErr, Ok, length};
 ghost use mathlib.Core.List.{IsPrefix};
 ghost use Rattle.cap_history.specs.History.{longer};
 ghost use Rattle.cap_history.specs.Seat.{HasCalled, SeesMore, newcomers};
-ghost use Rattle.cap_locked.specs.Fault.{HasCause, LeavesSeat};
+ghost use Rattle.cap_locked.specs.Fault.{HasCause, LeavesSeat, MatchHookFault};
+ghost use Rattle.cap_locked.specs.Hook.{CanAsk, HasLeft, HasRefused};
 ghost use Rattle.cap_server.specs.Close.{ClosesOvertaken, FirstHasSeen, HasAll, IsClosed, IsMissing};
 ghost use Rattle.cap_server.specs.Close.{MatchCloseFault};
 
 use crate::{CloseFault, Closed, Front, Locked, Naming, Seat, named};
-use cap_core::{Command, Reply};
+use cap_core::{Command, CommitHook, Reply};
 use cap_history::Opened;
-use cap_locked::CallFault;
+use cap_locked::{CallFault, HookFault};
 use cap_value::{AllocHandle, OutOfMemory};
 use std::hint::spin_loop;
 use std::sync::{Mutex, MutexGuard, Wait};
@@ -55,6 +56,31 @@ impl<J: Naming, A: AllocHandle> Server<J, A> {
         ensures cause { IfErr result (λ fault. HasCause fault seat.old command.now) }
     {
         self.lock(rt).step(&self.front, seat, command)
+    }
+
+    /// The same with a commit hook, which is asked about the reply before the call is an event: where it
+    /// refuses, it is none. Where it allows the reply, the call may still be overtaken. It is asked while the
+    /// server is locked.
+    pub fn call_with_hook<R: Wait, C: CommitHook<A>>(
+        &self,
+        rt: &R,
+        seat: &mut Seat<J, A>,
+        command: &Command<A>,
+        hook: &mut C,
+    ) -> Result<Reply<A>, HookFault<C::Refusal, CallFault>>
+        requires can_ask { CanAsk C.can_ask hook.old command.now }
+        ensures called { IfOk result (λ reply. HasCalled seat.old seat.new command.now reply) }
+        ensures allowed { IfOk result (λ reply. C.gives hook.old reply (Ok tt) hook.new) }
+        ensures refused { IfErr result (λ fault. MatchHookFault fault (λ why. seat.new ≡ seat.old)
+            (λ fault. LeavesSeat fault seat.old seat.new)) }
+        ensures hook { IfErr result (λ fault. MatchHookFault fault
+            (λ why. HasRefused C.gives command.now why hook.old hook.new)
+            (λ fault. HasLeft C.gives command.now fault hook.old hook.new)) }
+        ensures cause { IfErr result (λ fault. MatchHookFault fault (λ why. ⊤)
+            (λ fault. HasCause fault seat.old command.now)) }
+    {
+        self.lock(rt)
+            .step_with_hook(&self.front, seat, command, hook)
     }
 
     // Takes the lock. A short wait is spent awake: to sleep and to be woken takes longer than many commits.

@@ -70,11 +70,11 @@ module _ {A : Type 0} where
         ap (λ (tables : AttachedTables A). cond session.enabled (record session { tables = tables }) session)
         (sym (one-table before session.indirect change tables) ∙ ap (λ touches. touch_table change.table touches tables) (touch-of-key session.indirect change key is))
 
-    pub one-change : (change : Change A) (key : Fields A) (sessions : NumberedSessions A) → change.key ≡ Some key → record_commit_each before (change ∷ []) sessions ≡ record_key_each change.table key change.cause (row_at before change.table key) sessions
+    pub one-change : (change : Change A) (key : Fields A) (sessions : NumberedSessions A) → change.key ≡ Some key → record_commit_each before (change ∷ []) [] sessions ≡ record_key_each change.table key change.cause (row_at before change.table key) sessions
     one-change change key [] is = refl
     one-change change key (s ∷ ss) is = ap₂ (λ (one : SessionState A) others. (s.0, one) ∷ others) (record_commit-one change key is s.1) (one-change change key ss is)
 
-    pub same-change : (change : Change A) (key : Fields A) (sessions : NumberedSessions A) → change.key ≡ Some key → record_commit_each before (change ∷ change ∷ []) sessions ≡ record_key_each change.table key change.cause (row_at before change.table key) sessions
+    pub same-change : (change : Change A) (key : Fields A) (sessions : NumberedSessions A) → change.key ≡ Some key → record_commit_each before (change ∷ change ∷ []) [] sessions ≡ record_key_each change.table key change.cause (row_at before change.table key) sessions
     same-change change key [] is = refl
     same-change change key (s ∷ ss) is =
         ap₂ (λ (one : SessionState A) others. (s.0, one) ∷ others) (record_commit-twice change s.1 ∙ record_commit-one change key is s.1) (same-change change key ss is)

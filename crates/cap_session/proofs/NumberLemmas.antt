@@ -4,10 +4,11 @@ use Rattle.std.specs.List.{remove}
 use Rattle.std.specs.Option.{option_map}
 use Rattle.cap_session.specs.declared.ending.Ending.{Ending}
 use Rattle.cap_session.specs.declared.numbered.Numbered.{Numbered}
+use Rattle.cap_session.specs.declared.which.Which.TheVariants.{One}
 use Rattle.cap_session.specs.Code.Ending.{after_ending}
 use Rattle.cap_session.specs.Code.Numbered.{made_of}
 use Rattle.cap_session.specs.Session.{SessionState, StagedSession, settled}
-use Rattle.cap_session.specs.Sessions.{NumberedSessions, session_numbered, with_session, with_session_if, without_session}
+use Rattle.cap_session.specs.Sessions.{NumberedSessions, is_one_of, session_numbered, with_session, with_session_if, without_session}
 use Rattle.cap_session.proofs.PlaceLemmas.{IsFirst, NonePass}
 
 module _ {A : Type 0} where
@@ -17,6 +18,10 @@ module _ {A : Type 0} where
   abbrev pub ended : Ending → ℕ × StagedSession A → ℕ × StagedSession A
   ended ending s = (s.0, settled (after_ending ending s.1.live s.1.staged))
 
+  -- what is made of a session, unless it is a quiet one
+  abbrev pub unless_quiet : (SessionState A → SessionState A) → List ℕ → ℕ × SessionState A → ℕ × SessionState A
+  unless_quiet make quiet s = (s.0, cond (is_one_of quiet s.0) s.1 (make s.1))
+
 module _ {A : Type 0} (number : ℕ) where
   abbrev pub has_number : Numbered A → Bool
   has_number numbered = nat_eq number numbered.number
@@ -25,7 +30,7 @@ module _ {A : Type 0} (number : ℕ) where
   later s sessions None not = refl
   later s sessions (Some new) not = ap (λ b. cond b ((s.0, new) ∷ sessions) (s ∷ with_session sessions number new)) not
 
-  pub made-none : (make : SessionState A → SessionState A) (sessions : NumberedSessions A) → session_numbered sessions number ≡ None → made_of make (Some number) sessions ≡ sessions
+  pub made-none : (make : SessionState A → SessionState A) (sessions : NumberedSessions A) → session_numbered sessions number ≡ None → made_of make (One number) sessions ≡ sessions
   made-none make sessions none = ap (λ found. with_session_if sessions number (option_map make found)) none
 
   module _ (shown : StagedSession A → SessionState A) where
@@ -57,7 +62,7 @@ module _ {A : Type 0} (number : ℕ) where
 
   -- a change of the one with the number, where each shows as before
   pub made-first : (make : SessionState A → SessionState A) (now before : StagedSession A → SessionState A) (sessions : List (Numbered A)) (i : ℕ) (new d : Numbered A) → IsFirst has_number sessions i → all now sessions ≡ all before sessions
-      → new.number ≡ (get_or sessions i d).number → now new.session ≡ make (before (get_or sessions i d).session) → all now (set sessions i new) ≡ made_of make (Some number) (all before sessions)
+      → new.number ≡ (get_or sessions i d).number → now new.session ≡ make (before (get_or sessions i d).session) → all now (set sessions i new) ≡ made_of make (One number) (all before sessions)
   made-first make now before [] i new d first same is made = absurd first
   made-first make now before (s ∷ ss) zero new d first same is made =
       let x : ℕ × SessionState A = (s.number, before s.session) in

@@ -72,10 +72,10 @@ pub fn disabled_session_gains_nothing<A: AllocHandle>()
 /// A commit that makes one change of a key, or the same change twice, is one touch of the key.
 pub fn changes_of_a_key_are_one_touch<A: AllocHandle>()
     ensures once { (before : Tables A) (change : Change A) (key : Fields A) (sessions : NumberedSessions A)
-        → change.key ≡ Some key → record_commit_each before (change ∷ []) sessions
+        → change.key ≡ Some key → record_commit_each before (change ∷ []) [] sessions
         ≡ record_key_each change.table key change.cause (row_at before change.table key) sessions }
     ensures twice { (before : Tables A) (change : Change A) (key : Fields A) (sessions : NumberedSessions A)
-        → change.key ≡ Some key → record_commit_each before (change ∷ change ∷ []) sessions
+        → change.key ≡ Some key → record_commit_each before (change ∷ change ∷ []) [] sessions
         ≡ record_key_each change.table key change.cause (row_at before change.table key) sessions }
 {}
 

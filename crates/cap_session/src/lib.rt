@@ -16,6 +16,7 @@ mod sessions;
 mod staged_records;
 mod staging;
 mod touch;
+mod which;
 
 pub use attached::Attached;
 pub use laws::{
@@ -23,6 +24,7 @@ pub use laws::{
     filter_decides, images_are_the_rows_before, records_stay_direct, rule_attaches_changed_tables,
     touches_make_these_records,
 };
+pub use numbered::Numbered;
 pub use record::Record;
 pub use records::Records;
 pub use records_iter::RecordsIter;

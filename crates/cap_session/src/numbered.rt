@@ -1,20 +1,24 @@
 //! Sessions by number: staging and publishing their changes.
-ghost use Rattle.std.specs.Prelude.{◌≡◌, IfOk, OnOk, Some, None, nat_eq};
+ghost use Rattle.std.specs.Prelude.{◌≡◌, IfOk, OnOk, if◌then◌else◌, nat_eq};
 ghost use Rattle.std.specs.List.{position};
-ghost use Rattle.cap_session.specs.Code.Numbered.{after_of, live_of, made_of, staged_of};
+ghost use Rattle.cap_session.specs.Code.Numbered.{after_of, live_of, made_of, made_of_each, staged_of};
 ghost use Rattle.cap_session.specs.Code.Staging.{staged_by};
 ghost use Rattle.cap_session.specs.Session.{changed_by};
+ghost use Rattle.cap_session.specs.Sessions.{is_one_of};
 
 use crate::ending::Ending;
 use crate::staging::Staging;
+use crate::which::Which;
 use crate::{Session, SessionChange};
 use cap_value::{AllocHandle, OutOfMemory};
 
-// A session and its number.
+/// A session and its number.
 #[derive(Drop)]
-pub(crate) struct Numbered<A: AllocHandle> {
-    pub(crate) number: u64,
-    pub(crate) session: Session<A>,
+pub struct Numbered<A: AllocHandle> {
+    /// Its number.
+    pub number: u64,
+    /// The session.
+    pub session: Session<A>,
 }
 
 // The index of the session with this number.
@@ -36,20 +40,19 @@ pub(crate) fn end_staging<A: AllocHandle>(sessions: &mut Vec<Numbered<A>, A>, en
     }
 }
 
-// Stages this in the session with this number, if any, or in each, after what is staged. On an error some may
-// be staged.
+// Stages this in these sessions, after what is staged. On an error some may be staged.
 pub(crate) fn stage<A: AllocHandle>(
     sessions: &mut Vec<Numbered<A>, A>,
-    number: Option<u64>,
+    which: Which<'_>,
     what: &Staging<'_, A>,
 ) -> Result<(), OutOfMemory>
     ensures kept { live_of sessions.new.items ≡ live_of sessions.old.items }
     ensures staged { OnOk result (staged_of sessions.new.items
-        ≡ made_of (staged_by what.now) number (staged_of sessions.old.items)) }
+        ≡ made_of (staged_by what.now) which.entry (staged_of sessions.old.items)) }
 {
-    match number {
-        Some(number) => stage_at(sessions, number, what),
-        None => stage_each(sessions, what),
+    match which {
+        Which::One(number) => stage_at(sessions, number, what),
+        Which::AllBut(quiet) => stage_each(sessions, quiet, what),
     }
 }
 
@@ -60,7 +63,7 @@ fn stage_at<A: AllocHandle>(
 ) -> Result<(), OutOfMemory>
     ensures kept { live_of sessions.new.items ≡ live_of sessions.old.items }
     ensures staged { OnOk result (staged_of sessions.new.items
-        ≡ made_of (staged_by what.now) (Some number) (staged_of sessions.old.items)) }
+        ≡ made_of (staged_by what.now) (Which.One number) (staged_of sessions.old.items)) }
 {
     match place_of(sessions, number) {
         Some(place) => sessions[place].session.stage(what),
@@ -70,16 +73,41 @@ fn stage_at<A: AllocHandle>(
 
 fn stage_each<A: AllocHandle>(
     sessions: &mut Vec<Numbered<A>, A>,
+    quiet: &[u64],
     what: &Staging<'_, A>,
 ) -> Result<(), OutOfMemory>
     ensures kept { live_of sessions.new.items ≡ live_of sessions.old.items }
     ensures staged { OnOk result (staged_of sessions.new.items
-        ≡ made_of (staged_by what.now) None (staged_of sessions.old.items)) }
+        ≡ made_of_each (staged_by what.now) quiet.now (staged_of sessions.old.items)) }
 {
     for place in 0..sessions.len() {
-        sessions[place].session.stage(what)?;
+        stage_unless(&mut sessions[place], quiet, what)?;
     }
     Ok(())
+}
+
+// Stages this in a session, unless it is a quiet one.
+fn stage_unless<A: AllocHandle>(
+    numbered: &mut Numbered<A>,
+    quiet: &[u64],
+    what: &Staging<'_, A>,
+) -> Result<(), OutOfMemory>
+    ensures kept { (numbered.new.number ≡ numbered.old.number)
+        × (numbered.new.session.live ≡ numbered.old.session.live) }
+    ensures staged { OnOk result (numbered.new.session.staged
+        ≡ (if is_one_of quiet.now numbered.old.number then numbered.old.session.staged
+        else staged_by what.now numbered.old.session.staged)) }
+{
+    if is_one_of(quiet, numbered.number) {
+        return Ok(());
+    }
+    numbered.session.stage(what)
+}
+
+fn is_one_of(numbers: &[u64], number: u64) -> bool
+    ensures { result ≡ is_one_of numbers.now number }
+{
+    numbers.iter().any(|other| number == *other)
 }
 
 // Changes the session with this number, if any. Nothing is staged then.
@@ -89,7 +117,7 @@ pub(crate) fn change<A: AllocHandle>(
     change: SessionChange<A>,
 )
     ensures changed { live_of sessions.new.items
-        ≡ made_of (changed_by change) (Some number) (live_of sessions.old.items) }
+        ≡ made_of (changed_by change) (Which.One number) (live_of sessions.old.items) }
     ensures none { staged_of sessions.new.items ≡ live_of sessions.new.items }
 {
     end_staging(sessions, Ending::Discard);

@@ -1,6 +1,6 @@
 //! All sessions of a core, by number.
 ghost use Rattle.std.specs.Prelude.{◌≡◌, [], ◌∷◌, ◌++◌, Ok, Err, Some, None, IfOk, IfErr, OnOk, OnErr};
-ghost use Rattle.std.specs.Prelude.{length};
+ghost use Rattle.std.specs.Prelude.{length, map};
 ghost use Rattle.std.specs.Option.{option_copied, option_map};
 ghost use Rattle.cap_value.specs.Memory.{MatchFault};
 ghost use Rattle.cap_session.specs.Code.Numbered.{made_of};
@@ -14,6 +14,7 @@ ghost use Rattle.cap_session.specs.Sessions.{without_session};
 use crate::ending::Ending;
 use crate::numbered::{Numbered, change, copies_of, end_staging, place_of, stage};
 use crate::staging::Staging;
+use crate::which::Which;
 use crate::{Session, SessionChange};
 use cap_compare::Difference;
 use cap_database::{Cause, Change, Database};
@@ -75,6 +76,13 @@ impl<A: AllocHandle> Sessions<A> {
         self.sessions.len()
     }
 
+    /// The sessions in the order in which they were created, each with its number.
+    pub fn numbered(&self) -> &[Numbered<A>]
+        ensures { map (λ numbered. (numbered.number, numbered.session.live)) result.now ≡ self.now.live }
+    {
+        self.sessions.as_slice()
+    }
+
     /// The session with this number, if any.
     pub fn get(&self, number: u64) -> Option<&Session<A>>
         ensures { option_map (λ session. session.now.live) result ≡ session_numbered self.now.live number }
@@ -118,18 +126,20 @@ impl<A: AllocHandle> Sessions<A> {
         }
     }
 
-    /// Stages the changes of one commit in each session. `before` is the database before it.
+    /// Stages the changes of one commit in each session but the quiet ones, whose numbers these are. `before`
+    /// is the database before it.
     pub fn stage_commit(
         &mut self,
         before: &Database<A>,
         changes: &[Change<A>],
+        quiet: &[u64],
     ) -> Result<(), OutOfMemory>
         ensures kept { self.new.live ≡ self.old.live }
         ensures staged { OnOk result
-            (self.new.staged ≡ record_commit_each before.now changes.now self.old.live) }
+            (self.new.staged ≡ record_commit_each before.now changes.now quiet.now self.old.live) }
         ensures nothing_staged { OnErr result (self.new.staged ≡ self.new.live) }
     {
-        self.stage(None, &Staging::Changes(before, changes))
+        self.stage(Which::AllBut(quiet), &Staging::Changes(before, changes))
     }
 
     /// Stages a commit that changes the row of this key alone in each session. `image` is the row before it.
@@ -145,7 +155,7 @@ impl<A: AllocHandle> Sessions<A> {
             ≡ record_key_each table.now key.now cause (option_copied image.entry) self.old.live) }
         ensures nothing_staged { OnErr result (self.new.staged ≡ self.new.live) }
     {
-        self.stage(None, &Staging::Key(table, key, cause, image))
+        self.stage(Which::AllBut(&[]), &Staging::Key(table, key, cause, image))
     }
 
     /// Stages attaching a table to the session with this number, if any.
@@ -155,7 +165,7 @@ impl<A: AllocHandle> Sessions<A> {
             (option_map (attached name.now) (session_numbered self.old.live number))) }
         ensures nothing_staged { OnErr result (self.new.staged ≡ self.new.live) }
     {
-        self.stage(Some(number), &Staging::Attach(name))
+        self.stage(Which::One(number), &Staging::Attach(name))
     }
 
     /// Stages a diff of a table in the session with this number, if any.
@@ -170,17 +180,17 @@ impl<A: AllocHandle> Sessions<A> {
             (option_map (record_diff name.now differences.now) (session_numbered self.old.live number))) }
         ensures nothing_staged { OnErr result (self.new.staged ≡ self.new.live) }
     {
-        self.stage(Some(number), &Staging::Diff(name, differences))
+        self.stage(Which::One(number), &Staging::Diff(name, differences))
     }
 
-    // Stages this in the session with this number, if any, or in each.
-    fn stage(&mut self, number: Option<u64>, what: &Staging<'_, A>) -> Result<(), OutOfMemory>
+    // Stages this in these sessions.
+    fn stage(&mut self, which: Which<'_>, what: &Staging<'_, A>) -> Result<(), OutOfMemory>
         ensures kept { self.new.live ≡ self.old.live }
-        ensures staged { OnOk result (self.new.staged ≡ made_of (staged_by what.now) number self.old.live) }
+        ensures staged { OnOk result (self.new.staged ≡ made_of (staged_by what.now) which.entry self.old.live) }
         ensures nothing_staged { OnErr result (self.new.staged ≡ self.new.live) }
     {
         end_staging(&mut self.sessions, Ending::Discard);
-        match stage(&mut self.sessions, number, what) {
+        match stage(&mut self.sessions, which, what) {
             Ok(()) => Ok(()),
             Err(fault) => {
                 end_staging(&mut self.sessions, Ending::Discard);

@@ -228,8 +228,9 @@ fn write_head<A: AllocHandle>(
     write_key_member(alloc, writer, schema.flags())
 }
 
+/// Writes a member of an object that is a string.
 #[tactic(auto, unfolding(crate::specs::Json::text_member))]
-fn write_text_member<A: AllocHandle>(
+pub fn write_text_member<A: AllocHandle>(
     writer: &mut Writer<A>,
     name: &str,
     text: &str,
@@ -306,13 +307,14 @@ fn write_fields<A: AllocHandle>(
     for (column, field) in fields.iter().enumerate() {
         if let Some(value) = field {
             writer.key(column_name(alloc, column)?.as_str())?;
-            write_value(alloc, writer, value)?;
+            write_json_value(alloc, writer, value)?;
         }
     }
     Ok(())
 }
 
-fn write_value<A: AllocHandle>(
+/// Writes a value as JSON: null, a number, a string, or `{"blob":..}` with hex digits.
+pub fn write_json_value<A: AllocHandle>(
     alloc: A,
     writer: &mut Writer<A>,
     value: &Value<A>,

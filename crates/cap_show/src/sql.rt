@@ -248,9 +248,9 @@ fn asked_value<'a, A: AllocHandle>(
     }
 }
 
-// A name between double quotes, with each of those in it doubled.
+/// A name between double quotes, with each of those in it doubled.
 #[derive(Drop)]
-struct Identifier<'a>(&'a str);
+pub struct Identifier<'a>(pub &'a str);
 
 impl<'a> Display for Identifier<'a> {
     ghost use Rattle.std.specs.Prelude.{Some};

@@ -1,4 +1,4 @@
-//! Each of the sixteen calls of a server, and what becomes of it with each request for memory refused.
+//! Each of the nineteen calls of a server, and what becomes of it with each request for memory refused.
 ghost use Rattle.std.specs.Prelude.{◌≡◌};
 
 use crate::carried::push_line;
@@ -12,9 +12,8 @@ use cap_value::AllocHandle;
 use std::alloc::Global;
 use std::marker::Brand;
 use std::sync::Wait;
-use std::test::*;
 
-// Each of the sixteen commands.
+// Each of the nineteen commands.
 pub(crate) const WORKLOAD: &str = "create t kv\n\
      commit insert t (1,'x')\n\
      session\n\
@@ -24,6 +23,8 @@ pub(crate) const WORKLOAD: &str = "create t kv\n\
      create audit kv\n\
      commit insert audit (1,'a') ; insert t (2,'y')\n\
      save old\n\
+     databases\n\
+     sessions\n\
      apply x'5402010074001200010000000000000001030179' omit omit replace\n\
      isempty 1\n\
      changeset 1\n\
@@ -35,6 +36,7 @@ pub(crate) const WORKLOAD: &str = "create t kv\n\
      diff 1 old t\n\
      changeset 1\n\
      scan t\n\
+     dropdatabase old\n\
      drop 1\n\
      isempty 1";
 
@@ -48,6 +50,10 @@ pub(crate) const REPLIES: &str = "ok version 1\n\
      ok version 3\n\
      ok version 4\n\
      ok\n\
+     databases 1\n\
+     \"old\"\n\
+     sessions 1\n\
+     1 enable on indirect off isempty false \"t\"\n\
      ok version 5, applied 1, omitted 0, skipped 0\n\
      false\n\
      changeset 5402010074001700010000000000000001030178000301791200010000000000000002030179\n\
@@ -60,6 +66,7 @@ pub(crate) const REPLIES: &str = "ok version 1\n\
      changeset 5402010074001701010000000000000001030178000301790901010000000000000002030179\n\
      rows 1\n\
      (1,'y')\n\
+     ok\n\
      ok\n\
      refused: E18 NoSession\n";
 
@@ -76,8 +83,13 @@ fn call_tables<J: Naming>(
     match command {
         Command::CreateTable { table, schema } => server.create_table(rt, seat, table, schema),
         Command::Commit(batch) => server.commit(rt, seat, batch),
-        Command::Apply { blob, policy } => server.apply(rt, seat, blob, policy),
+        Command::Apply {
+            blob,
+            policy,
+            quiet,
+        } => server.apply(rt, seat, blob, policy, quiet),
         Command::SaveAs { database } => server.save_as(rt, seat, database),
+        Command::DropDatabase { database } => server.drop_database(rt, seat, database),
         _ => Err(CallFault::OutOfMemory),
     }
 }
@@ -127,6 +139,8 @@ fn call_asks<J: Naming>(
 ) -> Called {
     match command {
         Command::Read => server.read(rt, seat),
+        Command::Databases => server.databases(rt, seat),
+        Command::Sessions => server.sessions(rt, seat),
         Command::IsEmpty { session } => server.is_empty(rt, seat, *session),
         Command::Capture { session } => server.capture(rt, seat, *session),
         Command::Restart { session } => server.restart(rt, seat, *session),
@@ -145,7 +159,8 @@ fn call<J: Naming>(
         Command::CreateTable { .. }
         | Command::Commit(_)
         | Command::Apply { .. }
-        | Command::SaveAs { .. } => call_tables(rt, server, seat, command),
+        | Command::SaveAs { .. }
+        | Command::DropDatabase { .. } => call_tables(rt, server, seat, command),
         Command::Attach { .. } | Command::SetFilter { .. } | Command::Diff { .. } => {
             call_sessions(rt, server, seat, command)
         }
@@ -293,36 +308,35 @@ fn starved<J: Naming + Send + Sync, A: AllocHandle>(
 }
 
 #[test]
-fn each_call_is_answered(rt: HostRuntime) -> Result<(), Fail> {
+fn each_call_is_answered(rt: HostRuntime) {
     let mut texts = String::new(rt.alloc());
     let called = each_call::<Brand>(&rt, Opened::new(), rt.alloc(), &mut texts);
-    assert!(rt; called == Some((22, 22)));
+    assert!(rt; called == Some((25, 25)));
     // They are the replies of the sequential server.
     assert!(rt; texts.as_str() == REPLIES);
-    Ok(())
 }
 
 #[test]
-fn a_call_without_memory_is_no_event(rt: HostRuntime) -> Result<(), Fail> {
+fn a_call_without_memory_is_no_event(rt: HostRuntime) {
     let memory = Memory::new(rt.alloc());
     let mut texts = String::new(rt.alloc());
     let answered = starved::<Brand, _>(&rt, Opened::new(), &memory, &memory, &mut texts);
     assert!(rt; answered == Some(()));
     assert!(rt; texts.as_str() == REPLIES);
-    Ok(())
 }
 
 #[test]
-fn each_request_of_an_opening_is_refused(rt: HostRuntime) -> Result<(), Fail> {
+fn each_request_of_an_opening_is_refused(rt: HostRuntime) {
     let memory = Memory::new(rt.alloc());
     for number in 1..REQUESTS_MAX {
         memory.refuse(number);
         let opened = is_opened::<Brand, _>(Opened::new(), &memory);
         if !memory.has_refused() {
             assert!(rt; opened == Some(true) && number > 2);
-            return Ok(());
+            return;
         }
         assert!(rt; opened.is_none());
     }
-    Err(Fail::from("never opened"))
+    // It is never opened.
+    assert!(rt; false);
 }

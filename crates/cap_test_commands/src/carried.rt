@@ -1,7 +1,15 @@
 //! What the tests of commands share: workloads that are carried out on the sequential server.
 use cap_core::{Core, EVENTS_MAX, NoHook};
-use cap_script::{Line, parse, print_reply};
+use cap_script::{Line, parse, print_reply, read_line};
 use cap_value::AllocHandle;
+
+// The command of a text of one line.
+pub(crate) fn line_of<A: AllocHandle>(alloc: A, text: &str) -> Option<Line<A>> {
+    match read_line(alloc, 1, text) {
+        Ok(line) => line,
+        Err(_) => None,
+    }
+}
 
 // The text of the reply to a line's command.
 fn answer<A: AllocHandle>(alloc: A, core: &mut Core<A>, line: &Line<A>) -> Option<String<A>> {

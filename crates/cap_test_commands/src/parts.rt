@@ -6,7 +6,6 @@ use cap_codec::{Contents, write_changes};
 use cap_core::Core;
 use cap_script::{Line, parse};
 use std::alloc::Global;
-use std::test::*;
 
 const START: &str = "create t kv\nsession\nattach 1 t\ncommit insert t (1,'x') ; insert t (2,'y')";
 
@@ -37,18 +36,16 @@ fn are_same(alloc: Global, commits: &str) -> Option<bool> {
 }
 
 #[test]
-fn two_parts_are_the_whole(rt: HostRuntime) -> Result<(), Fail> {
+fn two_parts_are_the_whole(rt: HostRuntime) {
     let commits = "commit update t key(1) set 1 = 'z' ; delete t key(2)\n\
                    commit update t key(1) set 1 = 'w' ; insert t (2,'v') ; insert t (3,'u')";
     assert!(rt; are_same(rt.alloc(), commits) == Some(true));
-    Ok(())
 }
 
 // The first commit changes the row and takes it back: it has no change, and its direct touch is lost.
 #[test]
-fn a_flag_without_a_change_is_lost(rt: HostRuntime) -> Result<(), Fail> {
+fn a_flag_without_a_change_is_lost(rt: HostRuntime) {
     let commits = "commit update t key(1) set 1 = 'z' ; update t key(1) set 1 = 'x'\n\
                    commit cascade update t key(1) set 1 = 'w'";
     assert!(rt; are_same(rt.alloc(), commits) == Some(false));
-    Ok(())
 }

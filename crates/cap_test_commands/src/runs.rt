@@ -1,47 +1,79 @@
 //! Runs of the sequential server, commands that are prepared, and captures as bytes.
 use crate::calls::{REPLIES, WORKLOAD};
-use crate::carried::{carry_out, push_line};
+use crate::carried::{carry_out, line_of, push_line};
 use cap_core::{Capture, Command, Core, EVENTS_MAX, NoHook, Reply};
 use cap_database::{Action, Cause, Op};
 use cap_row::{Row, Schema};
 use cap_script::{Line, parse, print_reply};
 use cap_txn::Batch;
-use cap_value::{Name, Value};
+use cap_value::{Name, OutOfMemory, Value};
 use std::alloc::Global;
-use std::test::Fail;
 
-// It is the first example of docs/manual/rattle.md.
-#[test]
-fn a_session_and_what_it_captures(rt: HostRuntime) -> Result<(), Fail> {
-    let alloc = rt.alloc();
-    let table = Name::new(alloc, "t")?;
-    let row = vec![in alloc; Value::Int(1), Value::text(alloc, "x")?]?;
+// The batch that inserts the row (1,'x').
+fn batch_of_a_row(alloc: Global, table: &Name<Global>) -> Option<Batch<Global>> {
+    let row = vec![in alloc; Value::Int(1), Value::text(alloc, "x").ok()?].ok()?;
     let mut batch = Batch::blind(alloc);
-    batch.push(Op {
-        table: table.copy()?,
+    let op = Op {
+        table: table.copy().ok()?,
         cause: Cause::Direct,
-        action: Action::Insert(Row::new(row)?),
-    })?;
+        action: Action::Insert(Row::new(row).ok()?),
+    };
+    batch.push(op).ok()?;
+    Some(batch)
+}
+
+// A session, and what it is to capture.
+fn session_and_row(alloc: Global) -> Option<Vec<Command<Global>>> {
+    let table = Name::new(alloc, "t").ok()?;
+    let batch = batch_of_a_row(alloc, &table)?;
     let commands = vec![in alloc;
         Command::CreateTable {
-            table: table.copy()?,
-            schema: Schema::new(alloc, &[true, false])?
+            table: table.copy().ok()?,
+            schema: Schema::new(alloc, &[true, false]).ok()?
         },
         Command::NewSession,
         Command::Attach { session: 1, table },
         Command::Commit(batch),
         Command::Capture { session: 1 },
-    ]?;
-    let (_core, replies) = Core::run(alloc, &commands)?;
+    ];
+    commands.ok()
+}
+
+// SQLite's changeset of the inserted row.
+const INSERTED: &[u8] = &[
+    0x54, 2, 1, 0, 0x74, 0, 0x12, 0, 1, 0, 0, 0, 0, 0, 0, 0, 1, 3, 1, 0x78,
+];
+
+fn are_bytes(found: Result<Vec<u8>, OutOfMemory>, expected: &[u8]) -> bool {
+    match found {
+        Ok(bytes) => bytes.as_slice() == expected,
+        Err(_) => false,
+    }
+}
+
+// Whether the last reply is the capture of that row, at this version.
+fn ends_with_a_capture(alloc: Global, replies: &[Reply<Global>]) -> bool {
     match replies.last() {
         Some(Reply::Capture(capture)) => {
-            assert!(rt; capture.version() == 2);
-            let bytes = capture.changeset(alloc)?;
-            assert!(rt; bytes.first() == Some(&0x54) && bytes.len() == 20);
+            capture.version() == 2 && are_bytes(capture.changeset(alloc), INSERTED)
         }
-        _ => assert!(rt; false),
+        _ => false,
     }
-    Ok(())
+}
+
+fn captures_a_row(alloc: Global) -> Option<bool> {
+    let commands = session_and_row(alloc)?;
+    if commands.len() != 5 {
+        return None;
+    }
+    let (_core, replies) = Core::run(alloc, &commands).ok()?;
+    Some(ends_with_a_capture(alloc, replies.as_slice()))
+}
+
+// It is the first example of docs/manual/rattle.md.
+#[test]
+fn a_session_and_what_it_captures(rt: HostRuntime) {
+    assert!(rt; captures_a_row(rt.alloc()) == Some(true));
 }
 
 // The commands of a workload.
@@ -67,20 +99,30 @@ fn push_replies(
     Some(())
 }
 
-#[test]
-fn a_run_answers_each_command(rt: HostRuntime) -> Result<(), Fail> {
-    let alloc = rt.alloc();
-    let mut texts = String::new(alloc);
-    let lines = parse(alloc, WORKLOAD)?.lines;
-    let commands = commands(alloc, WORKLOAD).ok_or("the commands")?;
-    if commands.len() != 22 {
-        return Err(Fail::from("not all commands"));
+// Whether a run of all commands has the replies of the calls.
+fn run_answers(
+    alloc: Global,
+    lines: &[Line<Global>],
+    commands: &[Command<Global>],
+) -> Option<bool> {
+    if commands.len() != 25 {
+        return None;
     }
-    let (core, replies) = Core::run(alloc, &commands)?;
-    assert!(rt; core.events() == 22);
-    assert!(rt; push_replies(alloc, &mut texts, &lines, &replies) == Some(()));
-    assert!(rt; texts.as_str() == REPLIES);
-    Ok(())
+    let (core, replies) = Core::run(alloc, commands).ok()?;
+    let mut texts = String::new(alloc);
+    push_replies(alloc, &mut texts, lines, replies.as_slice())?;
+    Some(core.events() == 25 && texts.as_str() == REPLIES)
+}
+
+fn is_answered(alloc: Global) -> Option<bool> {
+    let parsed = parse(alloc, WORKLOAD).ok()?;
+    let commands = commands(alloc, WORKLOAD)?;
+    run_answers(alloc, parsed.lines.as_slice(), commands.as_slice())
+}
+
+#[test]
+fn a_run_answers_each_command(rt: HostRuntime) {
+    assert!(rt; is_answered(rt.alloc()) == Some(true));
 }
 
 // The events of the server that a command makes, and the version that it writes.
@@ -96,15 +138,21 @@ fn prepared(core: &Core<Global>, command: &Command<Global>) -> Option<(u64, u64)
 }
 
 // The server on which a command was prepared goes on as if nothing had been.
+fn is_as_it_was(alloc: Global) -> bool {
+    let core = Core::new(alloc);
+    match line_of(alloc, "create t kv") {
+        Some(line) => {
+            prepared(&core, &line.command) == Some((1, 1))
+                && core.events() == 0
+                && prepared(&core, &line.command) == Some((1, 1))
+        }
+        None => false,
+    }
+}
+
 #[test]
-fn a_prepared_command_is_another_server(rt: HostRuntime) -> Result<(), Fail> {
-    let core = Core::new(rt.alloc());
-    let lines = parse(rt.alloc(), "create t kv")?.lines;
-    let line = lines.first().ok_or("no command")?;
-    assert!(rt; prepared(&core, &line.command) == Some((1, 1)));
-    assert!(rt; core.events() == 0);
-    assert!(rt; prepared(&core, &line.command) == Some((1, 1)));
-    Ok(())
+fn a_prepared_command_is_another_server(rt: HostRuntime) {
+    assert!(rt; is_as_it_was(rt.alloc()));
 }
 
 // A session that saw the update of (1,'x') to (1,'y').
@@ -119,11 +167,11 @@ const LATER: &str = "commit update t key(1) set 1 = 'z'\n\
      commit insert t (2,'w')\n\
      restart 1";
 
-const CHANGESET: [u8; 24] = [
+const CHANGESET: &[u8] = &[
     0x54, 2, 1, 0, 0x74, 0, 0x17, 0, 1, 0, 0, 0, 0, 0, 0, 0, 1, 3, 1, 0x78, 0, 3, 1, 0x79,
 ];
 
-const PATCHSET: [u8; 20] = [
+const PATCHSET: &[u8] = &[
     0x50, 2, 1, 0, 0x74, 0, 0x17, 0, 1, 0, 0, 0, 0, 0, 0, 0, 1, 3, 1, 0x79,
 ];
 
@@ -146,19 +194,23 @@ fn captured(core: &mut Core<Global>) -> Option<Capture<Global>> {
     }
 }
 
-#[test]
-fn a_capture_as_a_changeset_and_a_patchset(rt: HostRuntime) -> Result<(), Fail> {
-    let alloc = rt.alloc();
+fn is_the_update(alloc: Global, capture: &Capture<Global>) -> bool {
+    capture.version() == 3
+        && are_bytes(capture.changeset(alloc), CHANGESET)
+        && are_bytes(capture.patchset(alloc), PATCHSET)
+}
+
+// Whether the capture is that of the update, and stays so whatever is committed later.
+fn stays_the_update(alloc: Global) -> Option<bool> {
     let mut core = Core::new(alloc);
-    assert!(rt; carry_out(alloc, &mut core, UPDATE).is_some());
-    let capture = captured(&mut core).ok_or("a capture")?;
-    assert!(rt; capture.version() == 3);
-    assert!(rt; capture.changeset(alloc)?.as_slice() == CHANGESET.as_slice());
-    assert!(rt; capture.patchset(alloc)?.as_slice() == PATCHSET.as_slice());
-    // It stays what it was, whatever is committed later.
-    assert!(rt; carry_out(alloc, &mut core, LATER).is_some());
-    assert!(rt; capture.version() == 3);
-    assert!(rt; capture.changeset(alloc)?.as_slice() == CHANGESET.as_slice());
-    assert!(rt; capture.patchset(alloc)?.as_slice() == PATCHSET.as_slice());
-    Ok(())
+    carry_out(alloc, &mut core, UPDATE)?;
+    let capture = captured(&mut core)?;
+    let is_captured = is_the_update(alloc, &capture);
+    carry_out(alloc, &mut core, LATER)?;
+    Some(is_captured && is_the_update(alloc, &capture))
+}
+
+#[test]
+fn a_capture_as_a_changeset_and_a_patchset(rt: HostRuntime) {
+    assert!(rt; stays_the_update(rt.alloc()) == Some(true));
 }

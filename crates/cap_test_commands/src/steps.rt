@@ -1,12 +1,11 @@
 //! Steps of the sequential server that are refused, by the commit hook or out of memory.
 use crate::calls::REQUESTS_MAX;
-use crate::carried::give;
+use crate::carried::{give, line_of};
 use cap_core::{Command, CommitHook, Core, EVENTS_MAX, NoHook, Reply};
-use cap_script::{Line, parse, print_reply, read_line};
+use cap_script::{Line, parse, print_reply};
 use cap_test_support::{CountingHook, Memory};
 use cap_value::AllocHandle;
 use std::alloc::Global;
-use std::test::Fail;
 
 // A hook on the commits of a server that counts and answers.
 #[derive(Drop)]
@@ -39,7 +38,7 @@ const SERVER: &str = "create t kv\n\
      commit insert t (5,50)";
 
 // Commands to it, with whether they change anything, and whether they take memory.
-const COMMANDS: [(&str, bool, bool); 19] = [
+const COMMANDS: &[(&str, bool, bool)] = &[
     ("commit insert t (3,30)", true, true),
     ("commit update t key(1) set 1 = 11", true, true),
     ("commit delete t key(2)", true, true),
@@ -52,6 +51,9 @@ const COMMANDS: [(&str, bool, bool); 19] = [
         true,
     ),
     ("save a", true, true),
+    ("dropdatabase old", true, true),
+    ("databases", false, true),
+    ("sessions", false, true),
     ("session", true, false),
     ("drop 1", true, false),
     ("attach 3 t", true, true),
@@ -67,10 +69,11 @@ const COMMANDS: [(&str, bool, bool); 19] = [
 ];
 
 // Refused commands to a server at its limits, with their replies. Each refusal is known without memory.
-const REFUSALS: [(&str, &str); 19] = [
+const REFUSALS: &[(&str, &str)] = &[
     ("create t kv", "refused: E9 TableExists"),
     ("create z kv", "refused: E10 TooMany"),
     ("save z", "refused: E10 TooMany"),
+    ("dropdatabase new", "refused: E19 NoDatabase"),
     ("session", "refused: E10 TooMany"),
     (
         "commitat 1 insert t (3,30)",
@@ -110,6 +113,7 @@ const CONTENT: &str = "scan t\n\
      isempty 4\n\
      enable 1 ask\n\
      indirect 1 ask\n\
+     databases\n\
      isempty 3\n\
      commit insert t (9,90)\n\
      isempty 3\n\
@@ -196,7 +200,7 @@ fn is_whole_or_nothing<A: AllocHandle>(
     shown: &[Line<A>],
     (command, changes, grows): (&str, bool, bool),
 ) -> Option<bool> {
-    let line = read_line(alloc, 1, command).ok()??;
+    let line = line_of(alloc, command)?;
     let before = content(alloc, core, shown)?;
     let refused = refuse_in_turn(alloc, memory, core, &line, (shown, before.as_str()))?;
     let is_made = step(core, &line, true) == (true, 1) && core.events() == 11;
@@ -211,7 +215,7 @@ fn first_that_fails<A: AllocHandle>(alloc: A, memory: &Memory<Global>) -> Option
     for command in COMMANDS {
         let mut core = Core::new(alloc);
         give(alloc, &mut core, &server.lines)?;
-        if is_whole_or_nothing(alloc, memory, &mut core, &shown.lines, command) != Some(true) {
+        if is_whole_or_nothing(alloc, memory, &mut core, &shown.lines, *command) != Some(true) {
             return Some(command.0);
         }
     }
@@ -221,13 +225,9 @@ fn first_that_fails<A: AllocHandle>(alloc: A, memory: &Memory<Global>) -> Option
 // Each request of each command is refused, until the commit hook is asked, which refuses. Then it allows the
 // commit.
 #[test]
-fn a_write_without_memory_or_vetoed_by_the_hook_changes_nothing(
-    rt: HostRuntime,
-) -> Result<(), Fail> {
+fn a_write_without_memory_or_vetoed_by_the_hook_changes_nothing(rt: HostRuntime) {
     let memory = Memory::new(rt.alloc());
-    let failed = first_that_fails(&memory, &memory).ok_or("workloads")?;
-    assert!(rt; failed.is_empty(), "{failed}");
-    Ok(())
+    assert!(rt; first_that_fails(&memory, &memory) == Some(""));
 }
 
 // A server with 64 tables, 64 sessions and 16 saved databases.
@@ -272,7 +272,7 @@ fn refuse_each<A: AllocHandle>(
     core: &mut Core<A>,
     (command, reply): (&str, &str),
 ) -> Option<u64> {
-    let line = read_line(alloc, 1, command).ok()??;
+    let line = line_of(alloc, command)?;
     for number in 1..REQUESTS_MAX {
         let is_refused = reply_with_a_request_refused(alloc, memory, core, (&line, reply), number)?;
         if !is_refused {
@@ -291,19 +291,24 @@ fn first_that_waits<A: AllocHandle>(
     let mut core = full(alloc)?;
     let mut refused = 0u64;
     for (command, reply) in REFUSALS {
-        match refuse_each(alloc, memory, &mut core, (command, reply)) {
+        match refuse_each(alloc, memory, &mut core, (*command, *reply)) {
             Some(count) => refused = refused.saturating_add(count),
-            None => return Some((command, refused)),
+            None => return Some((*command, refused)),
         }
     }
     Some(("", refused))
 }
 
+// Whether each is the reply with each request refused, of which there are some.
+fn none_waits<A: AllocHandle>(alloc: A, memory: &Memory<Global>) -> bool {
+    match first_that_waits(alloc, memory) {
+        Some((failed, refused)) => failed.is_empty() && refused > 0,
+        None => false,
+    }
+}
+
 #[test]
-fn a_refusal_that_needs_no_memory_is_the_reply_without_it(rt: HostRuntime) -> Result<(), Fail> {
+fn a_refusal_that_needs_no_memory_is_the_reply_without_it(rt: HostRuntime) {
     let memory = Memory::new(rt.alloc());
-    let (failed, refused) = first_that_waits(&memory, &memory).ok_or("workloads")?;
-    assert!(rt; failed.is_empty(), "{failed}");
-    assert!(rt; refused > 0);
-    Ok(())
+    assert!(rt; none_waits(&memory, &memory));
 }

@@ -6,8 +6,14 @@ use cap_value::{Fault, OutOfMemory, Value};
 use std::alloc::Global;
 
 // An UPDATE of t: the key column is 1, the second column was 2 and is 3.
-const UPDATE: [u8; 36] = [
+const UPDATE: &[u8] = &[
     0x54, 2, 1, 0, b't', 0, 0x17, 1, 1, 0, 0, 0, 0, 0, 0, 0, 1, 1, 0, 0, 0, 0, 0, 0, 0, 2, 0, 1, 0,
+    0, 0, 0, 0, 0, 0, 3,
+];
+
+// The same UPDATE, direct.
+const DIRECT: &[u8] = &[
+    0x54, 2, 1, 0, b't', 0, 0x17, 0, 1, 0, 0, 0, 0, 0, 0, 0, 1, 1, 0, 0, 0, 0, 0, 0, 0, 2, 0, 1, 0,
     0, 0, 0, 0, 0, 0, 3,
 ];
 
@@ -73,15 +79,13 @@ fn has_records(alloc: Global, it: &mut BlobIter) -> bool {
 
 // Whether the buffer is empty before the conflict of the UPDATE is noted, and then the UPDATE with the answer.
 fn has_a_buffer(alloc: Global, it: &mut BlobIter) -> bool {
-    let empty = are_bytes(it.buffer(alloc, KeyFlags::Ones), &[]);
-    let mut buffer = UPDATE;
-    buffer[7] = 0;
+    let empty = are_bytes(it.buffer(alloc, KeyFlags::Ones), b"");
     let noted = matches!(it.note(Answer::Omit), Ok(true));
-    empty && noted && are_bytes(it.buffer(alloc, KeyFlags::Ones), &buffer)
+    empty && noted && are_bytes(it.buffer(alloc, KeyFlags::Ones), DIRECT)
 }
 
 fn has_records_and_a_buffer(alloc: Global) -> bool {
-    match BlobIter::open(alloc, &UPDATE) {
+    match BlobIter::open(alloc, UPDATE) {
         Ok(mut it) => {
             let none = matches!(it.note(Answer::Omit), Ok(false));
             none && has_records(alloc, &mut it) && has_a_buffer(alloc, &mut it)
@@ -97,7 +101,7 @@ fn the_records_and_the_buffer_of_an_update(rt: HostRuntime) {
 
 #[test]
 fn an_iterator_over_an_update(rt: HostRuntime) {
-    assert!(rt; opened(rt.alloc(), &UPDATE));
+    assert!(rt; opened(rt.alloc(), UPDATE));
 }
 
 #[test]
@@ -117,5 +121,5 @@ fn a_fault_that_no_further_bytes_can_mend(rt: HostRuntime) {
     });
     assert!(rt; decoder.feed(b"") == Ok(()));
     assert!(rt; decoder.feed(b"x") == Err(fault));
-    assert!(rt; decoder.feed(&UPDATE) == Err(fault));
+    assert!(rt; decoder.feed(UPDATE) == Err(fault));
 }

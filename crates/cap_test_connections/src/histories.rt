@@ -1,13 +1,12 @@
 //! Several connections to one history.
 use crate::captures::{has_changeset, version_of};
-use crate::texts::{accepts, answers};
+use crate::texts::{accepts, answers, opened};
 use cap_connection::Connection;
 use cap_hub::JoinFault;
 use std::alloc::Global;
-use std::test::Fail;
 
 // SQLite's changeset of two inserted rows, (1,'x') and (2,'y') of the table t, whose first column is its key.
-const BOTH: [u8; 34] = [
+const BOTH: &[u8] = &[
     0x54, 2, 1, 0, b't', 0, 0x12, 0, 1, 0, 0, 0, 0, 0, 0, 0, 1, 3, 1, b'x', 0x12, 0, 1, 0, 0, 0, 0,
     0, 0, 0, 2, 3, 1, b'y',
 ];
@@ -44,59 +43,111 @@ fn is_taken_again(alloc: Global, connection: &Connection, joined: Connection) ->
     }
 }
 
-#[test]
-fn what_one_commits_the_other_reads(rt: HostRuntime) -> Result<(), Fail> {
-    let alloc = rt.alloc();
-    let mut first = Connection::open(alloc)?;
-    let mut second = first.join(alloc)?;
-    let texts = ["create t kv", "commit insert t (1,'x')"];
-    assert!(rt; accepts(&mut first, alloc, &texts));
-    assert!(rt; version(&mut second) == Some(2));
-    assert!(rt; answers(&mut second, alloc, "get t key(1)", "row (1,'x')"));
-    assert!(rt; (first.calls(), second.calls()) == (2, 2));
-    Ok(())
+// Two connections to a history in which the first has made these commands.
+fn both(alloc: Global, texts: &[&str]) -> Option<(Connection, Connection)> {
+    let first = opened(alloc, texts)?;
+    match first.join(alloc) {
+        Ok(second) => Some((first, second)),
+        Err(_) => None,
+    }
+}
+
+const ROW: &[&str] = &["create t kv", "commit insert t (1,'x')"];
+
+fn read_by_the_other(alloc: Global) -> bool {
+    match both(alloc, ROW) {
+        Some((first, mut second)) => {
+            version(&mut second) == Some(2)
+                && answers(&mut second, alloc, "get t key(1)", "row (1,'x')")
+                && (first.calls(), second.calls()) == (2, 2)
+        }
+        None => false,
+    }
 }
 
 #[test]
-fn a_capture_has_what_both_committed(rt: HostRuntime) -> Result<(), Fail> {
-    let alloc = rt.alloc();
-    let mut first = Connection::open(alloc)?;
-    let mut second = first.join(alloc)?;
-    let texts = [
-        "create t kv",
-        "session",
-        "attach 1 t",
-        "commit insert t (2,'y')",
-    ];
-    assert!(rt; accepts(&mut first, alloc, &texts));
-    assert!(rt; accepts(&mut second, alloc, &["commit insert t (1,'x')"]));
-    let captured = second.capture(1);
-    assert!(rt; version_of(&captured) == Some(3));
-    assert!(rt; has_changeset(alloc, &captured, &BOTH));
-    Ok(())
+fn what_one_commits_the_other_reads(rt: HostRuntime) {
+    assert!(rt; read_by_the_other(rt.alloc()));
+}
+
+const WATCHED: &[&str] = &[
+    "create t kv",
+    "session",
+    "attach 1 t",
+    "commit insert t (2,'y')",
+];
+
+fn captured_by_the_other(alloc: Global) -> bool {
+    match both(alloc, WATCHED) {
+        Some((_first, mut second)) => {
+            let is_made = accepts(&mut second, alloc, &["commit insert t (1,'x')"]);
+            let captured = second.capture(1);
+            is_made && version_of(&captured) == Some(3) && has_changeset(alloc, &captured, BOTH)
+        }
+        None => false,
+    }
 }
 
 #[test]
-fn a_connection_sees_what_another_has_seen(rt: HostRuntime) -> Result<(), Fail> {
-    let alloc = rt.alloc();
-    let mut zero = Connection::open(alloc)?;
-    let mut first = zero.join(alloc)?;
-    let mut second = first.join(alloc)?;
-    assert!(rt; accepts(&mut zero, alloc, &["create t kv"]));
-    assert!(rt; first.front() == 1);
-    assert!(rt; (first.seen(), second.seen()) == (1, 0));
-    second.meet(&first);
-    assert!(rt; second.seen() == 1);
-    Ok(())
+fn a_capture_has_what_both_committed(rt: HostRuntime) {
+    assert!(rt; captured_by_the_other(rt.alloc()));
+}
+
+// Whether each has seen an event of the third one only once it has asked for it, or met who has seen it.
+fn see(
+    alloc: Global,
+    zero: &mut Connection,
+    first: &mut Connection,
+    second: &mut Connection,
+) -> bool {
+    let is_made = accepts(zero, alloc, &["create t kv"]);
+    let is_seen = first.front() == 1 && (first.seen(), second.seen()) == (1, 0);
+    second.meet(first);
+    is_made && is_seen && second.seen() == 1
+}
+
+fn seen_by_three(alloc: Global) -> bool {
+    let Some((mut zero, mut first)) = both(alloc, &[]) else {
+        return false;
+    };
+    match first.join(alloc) {
+        Ok(mut second) => see(alloc, &mut zero, &mut first, &mut second),
+        Err(_) => false,
+    }
 }
 
 #[test]
-fn a_65th_connection_is_refused(rt: HostRuntime) -> Result<(), Fail> {
-    let alloc = rt.alloc();
-    let zero = Connection::open(alloc)?;
-    let (mut joined, fault) = all_joined(alloc, &zero).ok_or("joins")?;
-    assert!(rt; joined.len() == 63 && fault == JoinFault::TooMany);
-    let last = joined.pop().ok_or("a connection")?;
-    assert!(rt; is_taken_again(alloc, &zero, last));
-    Ok(())
+fn a_connection_sees_what_another_has_seen(rt: HostRuntime) {
+    assert!(rt; seen_by_three(rt.alloc()));
+}
+
+// Whether 63 connections join before none can, and one whose seat is given back.
+fn joins_63(alloc: Global, zero: &Connection) -> bool {
+    match all_joined(alloc, zero) {
+        Some((mut joined, fault)) => {
+            joined.len() == 63
+                && fault == JoinFault::TooMany
+                && last_is_taken_again(alloc, zero, joined.pop())
+        }
+        None => false,
+    }
+}
+
+fn last_is_taken_again(alloc: Global, zero: &Connection, last: Option<Connection>) -> bool {
+    match last {
+        Some(last) => is_taken_again(alloc, zero, last),
+        None => false,
+    }
+}
+
+fn refuses_the_65th(alloc: Global) -> bool {
+    match opened(alloc, &[]) {
+        Some(zero) => joins_63(alloc, &zero),
+        None => false,
+    }
+}
+
+#[test]
+fn a_65th_connection_is_refused(rt: HostRuntime) {
+    assert!(rt; refuses_the_65th(rt.alloc()));
 }

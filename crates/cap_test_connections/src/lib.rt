@@ -1,5 +1,5 @@
-//! Tests of connections to a history, of iterators over blobs and of blobs in pieces, as a library in Rust has
-//! them, and of the records that they take.
+//! Tests of clients of one history, of connections to it, of iterators over blobs and of blobs in pieces, as a
+//! library in Rust has them, and of the records that they take.
 #![tactic(auto)]
 
 #[cfg(test)]
@@ -12,6 +12,8 @@ mod calls;
 mod captures;
 #[cfg(test)]
 mod histories;
+#[cfg(test)]
+mod hubs;
 #[cfg(test)]
 mod records;
 #[cfg(test)]

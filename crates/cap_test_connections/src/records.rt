@@ -1,7 +1,7 @@
 //! Records, and the operations of batches and transactions that are made of them.
 use crate::blobs::are_bytes;
-use crate::rows::{KEY, are, tables};
-use crate::texts::{accepts, answers};
+use crate::rows::{KEY, TWO, are, tables};
+use crate::texts::{answers, opened};
 use cap_connection::Connection;
 use cap_database::{Cause, Snapshot};
 use cap_records::{
@@ -10,29 +10,28 @@ use cap_records::{
 };
 use cap_txn::{Batch, Txn};
 use std::alloc::Global;
-use std::test::Fail;
 
 // The record of the row (2,'x'), of (5,50), and of new values of which the second column is 7.
-const ROW: [u8; 12] = [1, 0, 0, 0, 0, 0, 0, 0, 2, 3, 1, b'x'];
+const ROW: &[u8] = &[1, 0, 0, 0, 0, 0, 0, 0, 2, 3, 1, b'x'];
 
-const FIFTY: [u8; 18] = [1, 0, 0, 0, 0, 0, 0, 0, 5, 1, 0, 0, 0, 0, 0, 0, 0, 50];
+const FIFTY: &[u8] = &[1, 0, 0, 0, 0, 0, 0, 0, 5, 1, 0, 0, 0, 0, 0, 0, 0, 50];
 
-const SEVEN: [u8; 10] = [0, 1, 0, 0, 0, 0, 0, 0, 0, 7];
+const SEVEN: &[u8] = &[0, 1, 0, 0, 0, 0, 0, 0, 0, 7];
 
 // Makes an operation of each kind in a batch, on a table of the rows 2, 3 and 1 without a key.
 fn puts_three(alloc: Global, batch: &mut Batch<Global>) -> Option<()> {
     let direct = Cause::Direct;
-    put_op(batch, insert_op(alloc, b"t", &FIFTY, direct).ok()?).ok()?;
-    put_op(batch, update_op(alloc, b"t", &KEY, 0, &SEVEN, direct).ok()?).ok()?;
+    put_op(batch, insert_op(alloc, b"t", FIFTY, direct).ok()?).ok()?;
+    put_op(batch, update_op(alloc, b"t", KEY, 0, SEVEN, direct).ok()?).ok()?;
     put_op(batch, delete_op(alloc, b"t", b"", 1, direct).ok()?).ok()
 }
 
 // A transaction that sets row 2 and reads it again, and then all rows.
 fn sets_seven(alloc: Global, snapshot: &Snapshot<Global>) -> Option<Batch<Global>> {
     let mut txn = Txn::begin(alloc, snapshot).ok()?;
-    let set = update_op(alloc, b"t", &KEY, 0, &SEVEN, Cause::Direct).ok()?;
+    let set = update_op(alloc, b"t", KEY, 0, SEVEN, Cause::Direct).ok()?;
     txn_op(&mut txn, set).ok()?;
-    let is_read = are(txn_get(alloc, &mut txn, b"t", &KEY, 0), &[(0, 7)]);
+    let is_read = are(txn_get(alloc, &mut txn, b"t", KEY, 0), &[(0, 7)]);
     let are_all = are(txn_scan(alloc, &mut txn, b"t"), &[(0, 7), (1, 30)]);
     if is_read && are_all {
         Some(txn.into_batch())
@@ -58,29 +57,32 @@ fn is_item(alloc: Global, batch: &Batch<Global>, at: usize, kind: ItemKind, key:
 }
 
 fn is_spelled_again(alloc: Global) -> bool {
-    let Ok(row) = row_of(alloc, &ROW) else {
+    let Ok(row) = row_of(alloc, ROW) else {
         return false;
     };
     match record_of_row(alloc, &row) {
-        Ok(record) => row.width() == 2 && record.as_slice() == ROW.as_slice(),
+        Ok(record) => row.width() == 2 && record.as_slice() == ROW,
         Err(_) => false,
     }
 }
 
 fn is_read_as_its_record(alloc: Global, snapshot: &Snapshot<Global>) -> bool {
-    let Ok(mut rows) = get(alloc, snapshot, b"t", &KEY, 0) else {
+    let Ok(mut rows) = get(alloc, snapshot, b"t", KEY, 0) else {
         return false;
     };
-    matches!(rows.record(alloc), Ok(None)) && rows.step() && are_bytes(rows.record(alloc), &ROW)
+    matches!(rows.record(alloc), Ok(None)) && rows.step() && are_bytes(rows.record(alloc), ROW)
+}
+
+fn is_its_record(alloc: Global) -> bool {
+    match tables(alloc, &["create t kv", "commit insert t (2,'x')"]) {
+        Some(snapshot) => is_spelled_again(alloc) && is_read_as_its_record(alloc, &snapshot),
+        None => false,
+    }
 }
 
 #[test]
-fn a_row_is_its_record(rt: HostRuntime) -> Result<(), Fail> {
-    let texts = ["create t kv", "commit insert t (2,'x')"];
-    let snapshot = tables(rt.alloc(), &texts).ok_or("tables")?;
-    let read = is_spelled_again(rt.alloc()) && is_read_as_its_record(rt.alloc(), &snapshot);
-    assert!(rt; read);
-    Ok(())
+fn a_row_is_its_record(rt: HostRuntime) {
+    assert!(rt; is_its_record(rt.alloc()));
 }
 
 // Whether a batch of an operation of each kind is committed as the third version, and which rows it leaves.
@@ -96,19 +98,21 @@ fn commits_three(alloc: Global, connection: &mut Connection) -> bool {
     }
 }
 
+fn makes_three(alloc: Global) -> bool {
+    match opened(alloc, TWO) {
+        Some(mut connection) => commits_three(alloc, &mut connection),
+        None => false,
+    }
+}
+
 #[test]
-fn a_batch_of_each_operation(rt: HostRuntime) -> Result<(), Fail> {
-    let alloc = rt.alloc();
-    let mut connection = Connection::open(alloc)?;
-    let texts = ["create t kv", "commit insert t (2,20) ; insert t (null,30)"];
-    let made = accepts(&mut connection, alloc, &texts) && commits_three(alloc, &mut connection);
-    assert!(rt; made);
-    Ok(())
+fn a_batch_of_each_operation(rt: HostRuntime) {
+    assert!(rt; makes_three(rt.alloc()));
 }
 
 fn has_its_items(alloc: Global, batch: &Batch<Global>) -> bool {
     is_item(alloc, batch, 0, ItemKind::Table, b"")
-        && is_item(alloc, batch, 1, ItemKind::Row, &KEY)
+        && is_item(alloc, batch, 1, ItemKind::Row, KEY)
         && is_item(alloc, batch, 2, ItemKind::Scan, b"")
         && item_at(batch, 3).is_none()
 }
@@ -126,13 +130,17 @@ fn commits_seven(alloc: Global, connection: &mut Connection) -> bool {
     }
 }
 
+fn sets_a_row(alloc: Global) -> bool {
+    match opened(alloc, TWO) {
+        Some(mut connection) => {
+            commits_seven(alloc, &mut connection)
+                && answers(&mut connection, alloc, "get t key(2)", "row (2,7)")
+        }
+        None => false,
+    }
+}
+
 #[test]
-fn a_transaction_of_records(rt: HostRuntime) -> Result<(), Fail> {
-    let alloc = rt.alloc();
-    let mut connection = Connection::open(alloc)?;
-    let texts = ["create t kv", "commit insert t (2,20) ; insert t (null,30)"];
-    let made = accepts(&mut connection, alloc, &texts) && commits_seven(alloc, &mut connection);
-    assert!(rt; made);
-    assert!(rt; answers(&mut connection, alloc, "get t key(2)", "row (2,7)"));
-    Ok(())
+fn a_transaction_of_records(rt: HostRuntime) {
+    assert!(rt; sets_a_row(rt.alloc()));
 }

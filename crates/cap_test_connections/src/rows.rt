@@ -1,18 +1,16 @@
 //! Rows that are read of snapshots.
-use crate::texts::accepts;
+use crate::texts::opened;
 use cap_codec::{BlobFault, FaultKind};
-use cap_connection::Connection;
 use cap_database::Snapshot;
 use cap_records::{RecordFault, RowCursor, get, scan, scan_from};
 use cap_value::{Fault, Refusal, Value};
 use std::alloc::Global;
-use std::test::Fail;
 
 /// The record of the key (2).
-pub(crate) const KEY: [u8; 9] = [1, 0, 0, 0, 0, 0, 0, 0, 2];
+pub(crate) const KEY: &[u8] = &[1, 0, 0, 0, 0, 0, 0, 0, 2];
 
 // The record of the key (3).
-const ABSENT: [u8; 9] = [1, 0, 0, 0, 0, 0, 0, 0, 3];
+const ABSENT: &[u8] = &[1, 0, 0, 0, 0, 0, 0, 0, 3];
 
 const NO_TABLE: Fault<RecordFault> = Fault::Refused(RecordFault::Refused(Refusal::NoTable));
 
@@ -20,10 +18,7 @@ const MISUSE: Fault<RecordFault> = Fault::Refused(RecordFault::Misuse);
 
 /// The tables that these commands leave.
 pub(crate) fn tables(alloc: Global, texts: &[&str]) -> Option<Snapshot<Global>> {
-    let mut connection = Connection::open(alloc).ok()?;
-    if !accepts(&mut connection, alloc, texts) {
-        return None;
-    }
+    let mut connection = opened(alloc, texts)?;
     connection.read().ok()
 }
 
@@ -77,26 +72,31 @@ fn reads_in_order(alloc: Global, snapshot: &Snapshot<Global>) -> bool {
 }
 
 fn reads_from_a_key(alloc: Global, snapshot: &Snapshot<Global>) -> bool {
-    are(scan_from(alloc, snapshot, b"t", &KEY, 5), &[(0, 20)])
-        && are(scan_from(alloc, snapshot, b"t", &KEY, 0), &[])
+    are(scan_from(alloc, snapshot, b"t", KEY, 5), &[(0, 20)])
+        && are(scan_from(alloc, snapshot, b"t", KEY, 0), &[])
+}
+
+const THREE: &[&str] = &[
+    "create t kv",
+    "commit insert t (2,20) ; insert t (null,30) ; insert t (1,10)",
+];
+
+fn reads_three(alloc: Global) -> bool {
+    match tables(alloc, THREE) {
+        Some(snapshot) => reads_in_order(alloc, &snapshot) && reads_from_a_key(alloc, &snapshot),
+        None => false,
+    }
 }
 
 #[test]
-fn rows_in_the_order_of_their_keys(rt: HostRuntime) -> Result<(), Fail> {
-    let texts = [
-        "create t kv",
-        "commit insert t (2,20) ; insert t (null,30) ; insert t (1,10)",
-    ];
-    let snapshot = tables(rt.alloc(), &texts).ok_or("tables")?;
-    let read = reads_in_order(rt.alloc(), &snapshot) && reads_from_a_key(rt.alloc(), &snapshot);
-    assert!(rt; read);
-    Ok(())
+fn rows_in_the_order_of_their_keys(rt: HostRuntime) {
+    assert!(rt; reads_three(rt.alloc()));
 }
 
 fn reads_one_row(alloc: Global, snapshot: &Snapshot<Global>) -> bool {
-    are(get(alloc, snapshot, b"t", &KEY, 0), &[(0, 20)])
+    are(get(alloc, snapshot, b"t", KEY, 0), &[(0, 20)])
         && are(get(alloc, snapshot, b"t", b"", 1), &[(1, 30)])
-        && are(get(alloc, snapshot, b"t", &ABSENT, 0), &[])
+        && are(get(alloc, snapshot, b"t", ABSENT, 0), &[])
 }
 
 fn refuses_other_names(alloc: Global, snapshot: &Snapshot<Global>) -> bool {
@@ -106,16 +106,22 @@ fn refuses_other_names(alloc: Global, snapshot: &Snapshot<Global>) -> bool {
     };
     let malformed = Fault::Refused(RecordFault::Malformed(malformed));
     fault_of(get(alloc, snapshot, b"t", b"", 0)) == Some(MISUSE)
-        && fault_of(get(alloc, snapshot, b"t", &KEY, 1)) == Some(MISUSE)
+        && fault_of(get(alloc, snapshot, b"t", KEY, 1)) == Some(MISUSE)
         && fault_of(scan(alloc, snapshot, b"u")) == Some(NO_TABLE)
         && fault_of(get(alloc, snapshot, b"t", b"\x09", 0)) == Some(malformed)
 }
 
+/// A table with the rows (2,20) and (null,30).
+pub(crate) const TWO: &[&str] = &["create t kv", "commit insert t (2,20) ; insert t (null,30)"];
+
+fn reads_one_of_two(alloc: Global) -> bool {
+    match tables(alloc, TWO) {
+        Some(snapshot) => reads_one_row(alloc, &snapshot) && refuses_other_names(alloc, &snapshot),
+        None => false,
+    }
+}
+
 #[test]
-fn one_row_by_its_key_or_its_id(rt: HostRuntime) -> Result<(), Fail> {
-    let texts = ["create t kv", "commit insert t (2,20) ; insert t (null,30)"];
-    let snapshot = tables(rt.alloc(), &texts).ok_or("tables")?;
-    let read = reads_one_row(rt.alloc(), &snapshot) && refuses_other_names(rt.alloc(), &snapshot);
-    assert!(rt; read);
-    Ok(())
+fn one_row_by_its_key_or_its_id(rt: HostRuntime) {
+    assert!(rt; reads_one_of_two(rt.alloc()));
 }

@@ -78,21 +78,21 @@ module _ {A : Type 0} where
     pub told : State A
     pub middle : State A
     pub capture : IsCarriedOut before (command.Capture session) (reply.Capture side.captured) told
-    pub application : IsCarriedOut told (command.Apply (Changes side.changes) side.policy) (reply.Applied side.version side.report) middle
+    pub application : IsCarriedOut told (command.Apply (Changes side.changes) side.policy []) (reply.Applied side.version side.report) middle
     pub restart : IsCarriedOut middle (command.Restart session) (reply.Capture side.echo) after
 
   -- its events, the newest one first
   abbrev pub later : Past A → ℕ → Exchange A → Past A
   later past session side =
       event_by 0 (command.Restart session) (reply.Capture side.echo)
-      ∷ event_by 0 (command.Apply (Changes side.changes) side.policy) (reply.Applied side.version side.report)
+      ∷ event_by 0 (command.Apply (Changes side.changes) side.policy []) (reply.Applied side.version side.report)
       ∷ event_by 0 (command.Capture session) (reply.Capture side.captured) ∷ past
 
   module _ (past : Past A) (session : ℕ) (side : Exchange A) (before after : State A) (at : Leaves past before) (done : IsDone session side before after) where
     pub done-leaves : Leaves (later past session side) after
     done-leaves =
         let one = leaves-more past before done.told (command.Capture session) (reply.Capture side.captured) at done.capture in
-        let two = leaves-more _ done.told done.middle (command.Apply (Changes side.changes) side.policy) (reply.Applied side.version side.report) one done.application in
+        let two = leaves-more _ done.told done.middle (command.Apply (Changes side.changes) side.policy []) (reply.Applied side.version side.report) one done.application in
         leaves-more _ done.middle after (command.Restart session) (reply.Capture side.echo) two done.restart
 
     -- the application, to the tables of before
@@ -126,7 +126,7 @@ module _ {A : Type 0} where
 
         earlier : Past A
         earlier =
-            event_by 0 (command.Apply (Changes side.changes) side.policy) (reply.Applied side.version side.report)
+            event_by 0 (command.Apply (Changes side.changes) side.policy []) (reply.Applied side.version side.report)
             ∷ event_by 0 (command.Capture session) (reply.Capture side.captured) ∷ past
 
     -- the columns stay
@@ -341,14 +341,14 @@ module _ {A : Type 0} where
         told = steps.client_told;
         middle = steps.client_middle;
         capture = steps.client_captures;
-        application = subst (λ l. IsCarriedOut steps.client_told (command.Apply (Changes l) policy) (reply.Applied steps.version made.report) steps.client_middle) received_same steps.client_applies;
+        application = subst (λ l. IsCarriedOut steps.client_told (command.Apply (Changes l) policy []) (reply.Applied steps.version made.report) steps.client_middle) received_same steps.client_applies;
         restart = steps.client_restarts;
       };
       hub_steps = record {
         told = steps.hub_told;
         middle = steps.hub_middle;
         capture = steps.hub_captures;
-        application = subst (λ l. IsCarriedOut steps.hub_told (command.Apply (Changes l) steps.hub_policy) (reply.Applied steps.hub_version steps.hub_report) steps.hub_middle) sent_same steps.hub_applies;
+        application = subst (λ l. IsCarriedOut steps.hub_told (command.Apply (Changes l) steps.hub_policy []) (reply.Applied steps.hub_version steps.hub_report) steps.hub_middle) sent_same steps.hub_applies;
         restart = steps.hub_restarts;
       };
       received = refl;

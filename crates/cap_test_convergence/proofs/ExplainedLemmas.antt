@@ -79,7 +79,7 @@ module _ {A : Type 0} where
   refused-as s at reason (Ok left) e = cc
   refused-as s at reason (Err other) e = cc
 
-  pub is-refused : (s : State A) (blob : Contents A) (policy : Policy) (at : Option ℕ) (reason : Refusal) → (let told : Reply A = reply.Refused at reason in told) ≡ answer s (command.Apply blob policy) → apply s.main blob policy ≡ Err reason
+  pub is-refused : (s : State A) (blob : Contents A) (policy : Policy) (at : Option ℕ) (reason : Refusal) → (let told : Reply A = reply.Refused at reason in told) ≡ answer s (command.Apply blob policy []) → apply s.main blob policy ≡ Err reason
   is-refused s blob policy at reason e = refused-as s at reason (apply s.main blob policy) e
 
   abbrev pub IsNeither : Reply A → Type 0
@@ -89,7 +89,7 @@ module _ {A : Type 0} where
   one-of-both s (Ok left) neither = neither.0 (s.version + 1) left.report refl
   one-of-both s (Err reason) neither = neither.1 (change_refused reason) reason refl
 
-  pub is-either : (s : State A) (blob : Contents A) (policy : Policy) (told : Reply A) → told ≡ answer s (command.Apply blob policy) → IsNeither told → ⊥
+  pub is-either : (s : State A) (blob : Contents A) (policy : Policy) (told : Reply A) → told ≡ answer s (command.Apply blob policy []) → IsNeither told → ⊥
   is-either s blob policy told is neither = one-of-both s (apply s.main blob policy) (subst IsNeither is neither)
 
   -- ---- a first buffer
@@ -168,10 +168,10 @@ module _ {A : Type 0} where
       ] refl
 
   numbered-recorded : (before : Tables A) (changes : List (Change A)) (sessions : NumberedSessions A) (number : ℕ)
-      → is_some (session_numbered (record_commit_each before changes sessions) number) ≡ is_some (session_numbered sessions number)
+      → is_some (session_numbered (record_commit_each before changes [] sessions) number) ≡ is_some (session_numbered sessions number)
   numbered-recorded before changes [] number = refl
   numbered-recorded before changes (session ∷ sessions) number =
-      elim (nat_eq number session.0) as (λ b. is_some (cond b (Some (record_commit before changes session.1)) (session_numbered (record_commit_each before changes sessions) number)) ≡ is_some (cond b (Some session.1) (session_numbered sessions number))) [
+      elim (nat_eq number session.0) as (λ b. is_some (cond b (Some (record_commit before changes session.1)) (session_numbered (record_commit_each before changes [] sessions) number)) ≡ is_some (cond b (Some session.1) (session_numbered sessions number))) [
         | true ↦ refl
         | false ↦ numbered-recorded before changes sessions number
       ]
@@ -181,14 +181,14 @@ module _ {A : Type 0} where
 
   live-captured : (s : State A) (number : ℕ) → is_live s number ≡ true → is_live (next s (command.Capture number)) number ≡ true
   live-captured s number there =
-      elim (session_numbered s.sessions number) as (λ o. is_live (after_session s number o (session_left s (command.Capture number))) number ≡ true) [
+      elim (session_numbered s.sessions number) as (λ o. is_live (after_session s number o (session_left s.main s.saved (command.Capture number))) number ≡ true) [
         | None ↦ there
         | Some session ↦ numbered-with s.sessions number session ∙ there
       ]
 
-  live-applied : (s : State A) (blob : Contents A) (policy : Policy) (number : ℕ) → is_live s number ≡ true → is_live (next s (command.Apply blob policy)) number ≡ true
+  live-applied : (s : State A) (blob : Contents A) (policy : Policy) (number : ℕ) → is_live s number ≡ true → is_live (next s (command.Apply blob policy [])) number ≡ true
   live-applied s blob policy number there =
-      elim (apply s.main blob policy) as (λ r. is_live (after_write s (applied r)) number ≡ true) [
+      elim (apply s.main blob policy) as (λ r. is_live (after_write s [] (applied r)) number ≡ true) [
         | Ok left ↦ numbered-recorded s.main left.changes s.sessions number ∙ there
         | Err reason ↦ there
       ]
@@ -197,11 +197,11 @@ module _ {A : Type 0} where
 
   events-captured : (s : State A) (number : ℕ) → (next s (command.Capture number)).events ≡ s.events + 1
   events-captured s number =
-      elim (session_numbered s.sessions number) as (λ o. (after_session s number o (session_left s (command.Capture number))).events ≡ s.events + 1) [ None ↦ refl | Some session ↦ refl ]
+      elim (session_numbered s.sessions number) as (λ o. (after_session s number o (session_left s.main s.saved (command.Capture number))).events ≡ s.events + 1) [ None ↦ refl | Some session ↦ refl ]
 
-  events-applied : (s : State A) (blob : Contents A) (policy : Policy) → (next s (command.Apply blob policy)).events ≡ s.events + 1
+  events-applied : (s : State A) (blob : Contents A) (policy : Policy) → (next s (command.Apply blob policy [])).events ≡ s.events + 1
   events-applied s blob policy =
-      elim (apply s.main blob policy) as (λ r. (after_write s (applied r)).events ≡ s.events + 1) [ Ok left ↦ refl | Err reason ↦ refl ]
+      elim (apply s.main blob policy) as (λ r. (after_write s [] (applied r)).events ≡ s.events + 1) [ Ok left ↦ refl | Err reason ↦ refl ]
 
   module _ (before told : State A) (session : ℕ) (capture : CaptureState A) (captures : IsCarriedOut before (command.Capture session) (reply.Capture capture) told) where
     told-events : told.events ≡ before.events + 1
@@ -210,7 +210,7 @@ module _ {A : Type 0} where
     pub full-told : (HasRoom told.events → ⊥) → before.events + 3 < 2 ^ 63 → ⊥
     full-told none room = none (let same = told-events in omega arith)
 
-    module _ (middle : State A) (blob : Contents A) (policy : Policy) (answered : Reply A) (applies : IsCarriedOut told (command.Apply blob policy) answered middle) where
+    module _ (middle : State A) (blob : Contents A) (policy : Policy) (answered : Reply A) (applies : IsCarriedOut told (command.Apply blob policy []) answered middle) where
       pub full-middle : (HasRoom middle.events → ⊥) → before.events + 3 < 2 ^ 63 → ⊥
       full-middle none room =
           let same = told-events in
@@ -288,7 +288,7 @@ module _ {A : Type 0} where
         (both.remote, sym both.hub_captures.replied, (λ i. apply (sym client_main i) (Changes (sym same i)) policy) ∙ refused)
 
     module _ (received : List (TableChanges A)) (read : blob_at (list_bytes remote) ≡ Ok (Changes received)) (version : ℕ) (report : ReportState) (middle : State A)
-        (applies : IsCarriedOut both.client_told (command.Apply (Changes received) policy) (reply.Applied version report) middle) (local_writable : IsWritable (Changes local)) where
+        (applies : IsCarriedOut both.client_told (command.Apply (Changes received) policy []) (reply.Applied version report) middle) (local_writable : IsWritable (Changes local)) where
       received_same : received ≡ remote
       received_same = same_changes received remote (sym read ∙ is_read)
 

@@ -141,10 +141,10 @@ module _ {A : Type 0} where
 
       changes-stand : (event : Event A) → AllStand (main past) (changes_touch session event past)
       changes-stand event =
-          let found = filter_map (touch_of session past) (event_changes event past) in
+          let found = filter_map (touch_of session past) (event_changes session event past) in
           let recorded = filter (is_recorded (attachings session (event ∷ past))) found in
           elim (is_enabled session past) as (λ b. AllStand (main past) (cond b recorded [])) [
-            | true ↦ all-filtered (Stands (main past)) (is_recorded (attachings session (event ∷ past))) found (all-made (Stands (main past)) (touch_of session past) changed-stands (event_changes event past))
+            | true ↦ all-filtered (Stands (main past)) (is_recorded (attachings session (event ∷ past))) found (all-made (Stands (main past)) (touch_of session past) changed-stands (event_changes session event past))
             | false ↦ tt
           ]
 

@@ -62,11 +62,11 @@ module _ {A : Type 0} where
 
   pub main-captured : (s : State A) (number : ℕ) → (next s (command.Capture number)).main ≡ s.main
   main-captured s number =
-      elim (session_numbered s.sessions number) as (λ o. (after_session s number o (session_left s (command.Capture number))).main ≡ s.main) [ None ↦ refl | Some session ↦ refl ]
+      elim (session_numbered s.sessions number) as (λ o. (after_session s number o (session_left s.main s.saved (command.Capture number))).main ≡ s.main) [ None ↦ refl | Some session ↦ refl ]
 
   pub main-restarted : (s : State A) (number : ℕ) → (next s (command.Restart number)).main ≡ s.main
   main-restarted s number =
-      elim (session_numbered s.sessions number) as (λ o. (after_session s number o (session_left s (command.Restart number))).main ≡ s.main) [ None ↦ refl | Some session ↦ refl ]
+      elim (session_numbered s.sessions number) as (λ o. (after_session s number o (session_left s.main s.saved (command.Restart number))).main ≡ s.main) [ None ↦ refl | Some session ↦ refl ]
 
   -- a blob that was applied
   pub record WasApplied (s t : State A) (blob : Contents A) (policy : Policy) (report : ReportState) : Type 0 where
@@ -75,9 +75,9 @@ module _ {A : Type 0} where
     pub reported : report ≡ left.report
     pub tables : t.main ≡ left.database
 
-  pub was-applied : (s t : State A) (blob : Contents A) (policy : Policy) (version : ℕ) (report : ReportState) → IsCarriedOut s (command.Apply blob policy) (reply.Applied version report) t → WasApplied s t blob policy report
+  pub was-applied : (s t : State A) (blob : Contents A) (policy : Policy) (version : ℕ) (report : ReportState) → IsCarriedOut s (command.Apply blob policy []) (reply.Applied version report) t → WasApplied s t blob policy report
   was-applied s t blob policy version report step =
-      elim (apply s.main blob policy) as (λ r. apply s.main blob policy ≡ r → reply.Applied version report ≡ write_reply s (applied r) → t.main ≡ (after_write s (applied r)).main → WasApplied s t blob policy report) [
+      elim (apply s.main blob policy) as (λ r. apply s.main blob policy ≡ r → reply.Applied version report ≡ write_reply s (applied r) → t.main ≡ (after_write s [] (applied r)).main → WasApplied s t blob policy report) [
         | Ok left ↦ λ is e tables. record { left = left; is = is; reported = same_report version (s.version + 1) report left.report e; tables = tables }
         | Err why ↦ λ _ e tables. cc
       ] refl step.replied (ap (λ (u : State A). u.main) step.left)

@@ -87,7 +87,7 @@ module _ {A : Type 0} where
     pub read : blob_at (list_bytes remote.changes) ≡ Ok (Changes received)
     pub version : ℕ
     pub client_middle : State A
-    pub client_applies : IsCarriedOut client_told (command.Apply (Changes received) policy)
+    pub client_applies : IsCarriedOut client_told (command.Apply (Changes received) policy [])
         (reply.Applied version made.report) client_middle
     pub rebased :
         IsRebased (list_bytes remote.changes) made.report.conflicts local.changes made.rebased.items
@@ -97,7 +97,7 @@ module _ {A : Type 0} where
     pub hub_version : ℕ
     pub hub_report : ReportState
     pub hub_middle : State A
-    pub hub_applies : IsCarriedOut hub_told (command.Apply (Changes sent) hub_policy)
+    pub hub_applies : IsCarriedOut hub_told (command.Apply (Changes sent) hub_policy [])
         (reply.Applied hub_version hub_report) hub_middle
     pub client_echo : CaptureState A
     pub client_restarts : IsCarriedOut client_middle (command.Restart client_session)

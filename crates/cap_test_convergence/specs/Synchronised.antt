@@ -53,7 +53,7 @@ module _ {A : Type 0} where
   abbrev pub events_of : ℕ → Exchange A → List (Event A)
   events_of session exchange =
       event_by 0 (Capture session) (reply.Capture exchange.captured)
-      ∷ event_by 0 (Apply (Changes exchange.changes) exchange.policy)
+      ∷ event_by 0 (Apply (Changes exchange.changes) exchange.policy [])
       (reply.Applied exchange.version exchange.report)
       ∷ event_by 0 (Restart session) (reply.Capture exchange.echo) ∷ []
 

@@ -2,7 +2,5 @@
 #![tactic(auto)]
 
 mod synchronisation;
-#[cfg(test)]
-mod tests;
 
 pub use synchronisation::{NotSynchronised, Synchronised, synchronise};

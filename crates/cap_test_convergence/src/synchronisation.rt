@@ -1,5 +1,5 @@
 //! Synchronises a client with a hub.
-ghost use Rattle.std.specs.Prelude.{◌≡◌, ℕ, Err, Ok, IfErr, IfOk, List, MatchOption, OnErr, reverse};
+ghost use Rattle.std.specs.Prelude.{◌≡◌, ℕ, Err, Ok, IfErr, IfOk, List, [], MatchOption, OnErr, reverse};
 ghost use Rattle.cap_value.specs.declared.refusal.Refusal.{Refusal as Reason};
 ghost use Rattle.cap_codec.specs.BlobReading.{blob_at};
 ghost use Rattle.cap_codec.specs.Changeset.{list_bytes};
@@ -20,7 +20,9 @@ use cap_apply::{Answer, Policy, Report, applied_blobs_keep_columns, applied_blob
 use cap_changes::ChangeList;
 use cap_codec::{Contents, changes_are_writable, read_blob, write_changes};
 use cap_convergence::a_rebased_changeset_leads_from_the_hub_to_the_client;
-use cap_core::{Capture, Command, Core, EVENTS_MAX, Reply, bytes_of_a_capture_give_the_rows_now};
+use cap_core::{
+    Capture, Command, Core, EVENTS_MAX, QuietSessions, Reply, bytes_of_a_capture_give_the_rows_now,
+};
 use cap_database::{tables_keep_columns, tables_keep_order};
 use cap_rebase::{Rebaser, buffer_of};
 use cap_value::{AllocHandle, Fault, OutOfMemory, Refusal};
@@ -153,9 +155,13 @@ fn exchanged<A: AllocHandle>(
     };
     let sent = sent_by(alloc, &remote.capture)?;
     let changes = read_changes(alloc, sent.as_slice())?;
-    let received = applied_at(&local.core, changes, policy)?;
+    let received = applied_at(alloc, &local.core, changes, policy)?;
     let rebased = rebased_over(alloc, &local.capture, sent.as_slice(), &received.report)?;
-    let made = applied_at_hub(&remote.core, read_changes(alloc, rebased.as_slice())?)?;
+    let made = applied_at_hub(
+        alloc,
+        &remote.core,
+        read_changes(alloc, rebased.as_slice())?,
+    )?;
     let client_left = restarted(&received.core, client_session)?;
     let hub_left = restarted(&made.core, hub_session)?;
     Ok(BothLeft {
@@ -251,18 +257,20 @@ fn read_changes<A: AllocHandle>(alloc: A, bytes: &[u8]) -> Result<ChangeList<A>,
 
 // A changeset is applied.
 fn applied_at<A: AllocHandle>(
+    alloc: A,
     core: &Core<A>,
     list: ChangeList<A>,
     policy: Policy,
 ) -> Result<Received<A>, NotSynchronised>
     ensures step { IfOk result (λ made. (version : ℕ) × IsCarriedOut core.now
-        (command.Apply (Changes list) policy) (reply.Applied version made.report) made.core) }
+        (command.Apply (Changes list) policy []) (reply.Applied version made.report) made.core) }
     ensures hindered { IfErr result (Hinders (HasRoom core.now.events → ⊥)
         (λ why. apply core.now.main (Changes list) policy ≡ Err why) ⊥) }
 {
     let command = Command::Apply {
         blob: Contents::Changes(list),
         policy,
+        quiet: QuietSessions::none(alloc),
     };
     let Answered { core, reply } = carried_out(core, command)?;
     match reply {
@@ -277,11 +285,12 @@ fn applied_at<A: AllocHandle>(
 
 // The rebased changes are applied at the hub, without a conflict.
 fn applied_at_hub<A: AllocHandle>(
+    alloc: A,
     core: &Core<A>,
     list: ChangeList<A>,
 ) -> Result<Received<A>, NotSynchronised>
     ensures step { IfOk result (λ made. (policy : AppliedPolicy) × (version : ℕ)
-        × IsCarriedOut core.now (command.Apply (Changes list) policy)
+        × IsCarriedOut core.now (command.Apply (Changes list) policy [])
         (reply.Applied version made.report) made.core) }
     ensures hindered { IfErr result (Hinders (HasRoom core.now.events → ⊥) (λ _. ⊥)
         ((policy : AppliedPolicy) × (why : Reason) × (apply core.now.main (Changes list) policy ≡ Err why))) }
@@ -291,7 +300,7 @@ fn applied_at_hub<A: AllocHandle>(
         on_notfound: Answer::Abort,
         on_conflict: Answer::Abort,
     };
-    match applied_at(core, list, policy) {
+    match applied_at(alloc, core, list, policy) {
         Ok(made) => Ok(made),
         Err(NotSynchronised::NotApplied(_)) => Err(NotSynchronised::OtherBase),
         Err(why) => Err(why),

@@ -4,7 +4,6 @@ use cap_locked::CallFault;
 use cap_run::{RunFault, run_shell};
 use cap_test_support::{Failure, Memory, Sink, Source};
 use std::alloc::{AllocError, Global};
-use std::test::Fail;
 
 // More calls and requests than any shell makes.
 const CALLS_MAX: u64 = 100_000;
@@ -15,7 +14,7 @@ const SPARED_MAX: u64 = 0;
 const NO_MEMORY: &[u8] = b"refused for memory\n";
 
 // Lines, each with the reply and the fault that are written for it.
-const LINES: [(&[u8], &str, &str); 14] = [
+const LINES: &[(&[u8], &str, &str)] = &[
     (b"create t kv", "ok version 1\n", ""),
     (b"# a note", "", ""),
     (b"", "", ""),
@@ -106,19 +105,28 @@ fn answers_in_pieces(alloc: Global, lines: &Lines, most: usize) -> bool {
     outcome.is_ok() && replies.taken == lines.replies && faults.taken == lines.faults
 }
 
-// The last line lacks its line feed. The lines come in pieces of each length.
-#[test]
-fn lines_and_replies(rt: HostRuntime) -> Result<(), Fail> {
-    for count in 0..=LINES.len() {
-        let lines = first_lines(rt.alloc(), count)?;
-        for most in [1, 2, 3, 7, 10_000] {
-            assert!(rt;
-                answers_in_pieces(rt.alloc(), &lines, most),
-                "{count} {most}"
-            );
+// The lengths of the pieces.
+const LENGTHS: &[usize] = &[1, 2, 3, 7, 10_000];
+
+// Whether a shell does so with the first lines in pieces of each length.
+fn answers_lines(alloc: Global, count: usize) -> bool {
+    let Ok(lines) = first_lines(alloc, count) else {
+        return false;
+    };
+    for most in LENGTHS {
+        if !answers_in_pieces(alloc, &lines, *most) {
+            return false;
         }
     }
-    Ok(())
+    true
+}
+
+// The last line lacks its line feed. The lines come in pieces of each length.
+#[test]
+fn lines_and_replies(rt: HostRuntime) {
+    for count in 0..=LINES.len() {
+        assert!(rt; answers_lines(rt.alloc(), count), "{count}");
+    }
 }
 
 // Whether these are a beginning of the replies and of the faults.
@@ -145,11 +153,16 @@ fn reads_may_fail(alloc: Global, lines: &Lines) -> bool {
     false
 }
 
+fn reports_reads(alloc: Global) -> bool {
+    match first_lines(alloc, LINES.len()) {
+        Ok(lines) => reads_may_fail(alloc, &lines),
+        Err(_) => false,
+    }
+}
+
 #[test]
-fn each_read_of_a_shell_may_fail(rt: HostRuntime) -> Result<(), Fail> {
-    let lines = first_lines(rt.alloc(), LINES.len())?;
-    assert!(rt; reads_may_fail(rt.alloc(), &lines));
-    Ok(())
+fn each_read_of_a_shell_may_fail(rt: HostRuntime) {
+    assert!(rt; reports_reads(rt.alloc()));
 }
 
 // Whether a shell reports a write of a reply or a fault that fails, and writes a beginning of both.
@@ -162,21 +175,24 @@ fn is_write_reported(alloc: Global, lines: &Lines, first: Failure, second: Failu
         && is_beginning(lines, replies.taken.as_slice(), faults.taken.as_slice())
 }
 
-#[test]
-fn each_write_of_a_shell_may_fail(rt: HostRuntime) -> Result<(), Fail> {
-    let lines = first_lines(rt.alloc(), LINES.len())?;
+fn reports_writes(alloc: Global) -> bool {
+    let Ok(lines) = first_lines(alloc, LINES.len()) else {
+        return false;
+    };
     for call in 1..40 {
         let (fails, none) = (Failure::at(call), Failure::none());
-        assert!(rt;
-            is_write_reported(rt.alloc(), &lines, fails, none),
-            "{call}"
-        );
-        assert!(rt;
-            is_write_reported(rt.alloc(), &lines, none, fails),
-            "{call}"
-        );
+        if !is_write_reported(alloc, &lines, fails, none)
+            || !is_write_reported(alloc, &lines, none, fails)
+        {
+            return false;
+        }
     }
-    Ok(())
+    true
+}
+
+#[test]
+fn each_write_of_a_shell_may_fail(rt: HostRuntime) {
+    assert!(rt; reports_writes(rt.alloc()));
 }
 
 // Whether the first of the replies were written, and then the fault of a command.
@@ -211,13 +227,18 @@ fn spared(alloc: Global, lines: &Lines, most: usize) -> Option<u64> {
     None
 }
 
-// The input comes whole, and byte by byte.
-#[test]
-fn each_allocation_of_a_shell_may_be_refused(rt: HostRuntime) -> Result<(), Fail> {
-    let lines = first_lines(rt.alloc(), LINES.len())?;
-    for most in [1, 10_000] {
-        let spared = spared(rt.alloc(), &lines, most).ok_or("a request")?;
-        assert!(rt; spared <= SPARED_MAX, "{most} {spared}");
+// Whether few are refused without a fault, where the input comes byte by byte and whole.
+fn spares_few(alloc: Global) -> bool {
+    let Ok(lines) = first_lines(alloc, LINES.len()) else {
+        return false;
+    };
+    match (spared(alloc, &lines, 1), spared(alloc, &lines, 10_000)) {
+        (Some(by_byte), Some(whole)) => by_byte.max(whole) <= SPARED_MAX,
+        _ => false,
     }
-    Ok(())
+}
+
+#[test]
+fn each_allocation_of_a_shell_may_be_refused(rt: HostRuntime) {
+    assert!(rt; spares_few(rt.alloc()));
 }

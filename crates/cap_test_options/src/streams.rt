@@ -10,7 +10,6 @@ use cap_run::RunFault;
 use cap_test_support::{Failure, Sink, Source};
 use std::alloc::{AllocError, Global};
 use std::sync::Wait;
-use std::test::Fail;
 use std::thread::Threads;
 
 const WORKLOAD: &str =
@@ -33,7 +32,7 @@ enum Program {
 }
 
 // The programs, each with an input and its output.
-const PROGRAMS: [(Program, &str, &str); 6] = [
+const PROGRAMS: &[(Program, &str, &str)] = &[
     (Program::Core, WORKLOAD, REPLIES),
     (Program::Workload, WORKLOAD, REPLIES),
     (Program::Show, CHANGESET, SHOWN),
@@ -174,51 +173,47 @@ fn is_flush_reported<T: Threads + Wait + Sync>(
 
 // Nothing is run where a read fails.
 #[test]
-fn each_read_may_fail(rt: HostRuntime) -> Result<(), Fail> {
+fn each_read_may_fail(rt: HostRuntime) {
     for (program, text, output) in PROGRAMS {
         assert!(rt;
-            reads_may_fail(&rt, rt.alloc(), program, text, output),
+            reads_may_fail(&rt, rt.alloc(), *program, *text, *output),
             "{output}"
         );
     }
     assert!(rt; RunFault::Read.status() == 3);
-    Ok(())
 }
 
 // A beginning of the output is written where a write fails.
 #[test]
-fn each_write_may_fail(rt: HostRuntime) -> Result<(), Fail> {
+fn each_write_may_fail(rt: HostRuntime) {
     for (program, text, output) in PROGRAMS {
         assert!(rt;
-            writes_may_fail(&rt, rt.alloc(), program, text, output),
+            writes_may_fail(&rt, rt.alloc(), *program, *text, *output),
             "{output}"
         );
     }
     assert!(rt; RunFault::Write.status() == 3);
-    Ok(())
 }
 
 // An interrupted read or write is made again.
 #[test]
-fn each_call_may_be_interrupted(rt: HostRuntime) -> Result<(), Fail> {
+fn each_call_may_be_interrupted(rt: HostRuntime) {
     for (program, text, output) in PROGRAMS {
         assert!(rt;
-            calls_may_be_interrupted(&rt, rt.alloc(), program, text, output),
+            calls_may_be_interrupted(&rt, rt.alloc(), *program, *text, *output),
             "{output}"
         );
     }
-    Ok(())
 }
 
 #[test]
-fn a_flush_that_fails(rt: HostRuntime) -> Result<(), Fail> {
+fn a_flush_that_fails(rt: HostRuntime) {
     for (program, text, output) in PROGRAMS {
         assert!(rt;
-            is_flush_reported(&rt, rt.alloc(), program, text, output),
+            is_flush_reported(&rt, rt.alloc(), *program, *text, *output),
             "{output}"
         );
     }
-    Ok(())
 }
 
 // The text so many times.
@@ -230,31 +225,58 @@ fn repeated(alloc: Global, text: &str, count: usize) -> Result<String, AllocErro
     Ok(whole)
 }
 
+// Whether a program writes this, one byte at a time.
+fn writes<T: Threads + Wait + Sync>(
+    rt: &T,
+    alloc: Global,
+    program: Program,
+    text: &str,
+    output: &str,
+) -> bool {
+    let mut reader = source(text, Failure::none());
+    let mut writer = sink(alloc, Failure::none());
+    run(rt, alloc, program, &mut reader, &mut writer).is_ok()
+        && writer.taken.as_slice() == output.as_bytes()
+}
+
+fn write_many<T: Threads + Wait + Sync>(rt: &T, alloc: Global) -> bool {
+    let Ok(text) = repeated(alloc, "attach 1 t\n", 1_000) else {
+        return false;
+    };
+    match repeated(alloc, "refused: E18 NoSession\n", 1_000) {
+        Ok(replies) => {
+            writes(rt, alloc, Program::Core, text.as_str(), replies.as_str())
+                && writes(
+                    rt,
+                    alloc,
+                    Program::Workload,
+                    text.as_str(),
+                    replies.as_str(),
+                )
+        }
+        Err(_) => false,
+    }
+}
+
 // A long input and a long output, one byte at a time.
 #[test]
-fn many_replies(rt: HostRuntime) -> Result<(), Fail> {
-    let text = repeated(rt.alloc(), "attach 1 t\n", 1_000)?;
-    let replies = repeated(rt.alloc(), "refused: E18 NoSession\n", 1_000)?;
-    for program in [Program::Core, Program::Workload] {
-        let mut reader = source(text.as_str(), Failure::none());
-        let mut writer = sink(rt.alloc(), Failure::none());
-        assert!(rt; run(&rt, rt.alloc(), program, &mut reader, &mut writer).is_ok());
-        assert!(rt; writer.taken.as_slice() == replies.as_str().as_bytes());
-    }
-    Ok(())
+fn many_replies(rt: HostRuntime) {
+    assert!(rt; write_many(&rt, rt.alloc()));
+}
+
+// Whether a program refuses a text for its last byte, and writes nothing.
+fn is_no_text<T: Threads + Wait + Sync>(rt: &T, alloc: Global, program: Program) -> bool {
+    let mut reader = source("", Failure::none());
+    reader.bytes = b"session\nfrob\n'\xff'";
+    let mut writer = sink(alloc, Failure::none());
+    let outcome = run(rt, alloc, program, &mut reader, &mut writer);
+    matches!(outcome, Err(RunFault::NotUtf8)) && writer.taken.is_empty()
 }
 
 // The faults of the text before its end are not looked for.
 #[test]
-fn bytes_that_are_no_text(rt: HostRuntime) -> Result<(), Fail> {
-    for program in [Program::Core, Program::Workload] {
-        let mut reader = source("", Failure::none());
-        reader.bytes = b"session\nfrob\n'\xff'";
-        let mut writer = sink(rt.alloc(), Failure::none());
-        let outcome = run(&rt, rt.alloc(), program, &mut reader, &mut writer);
-        assert!(rt; matches!(outcome, Err(RunFault::NotUtf8)));
-        assert!(rt; writer.taken.is_empty());
-    }
+fn bytes_that_are_no_text(rt: HostRuntime) {
+    assert!(rt; is_no_text(&rt, rt.alloc(), Program::Core));
+    assert!(rt; is_no_text(&rt, rt.alloc(), Program::Workload));
     assert!(rt; RunFault::NotUtf8.status() == 1);
-    Ok(())
 }

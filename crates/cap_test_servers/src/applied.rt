@@ -1,18 +1,16 @@
 //! Changesets that other threads apply.
 ghost use Rattle.std.specs.Prelude.{◌≡◌};
 
-use crate::seats::{BEFORE, BEFORE_REPLIES, CHANGES, have_same_rows, is_answered, snapshot};
+use crate::seats::{changed, have_same_rows, is_answered, snapshot};
 use cap_apply::{Answer, Applied, Policy, apply};
 use cap_codec::read_blob;
-use cap_core::Reply;
+use cap_core::{QuietSessions, Reply};
 use cap_database::{Database, Snapshot};
 use cap_history::Opened;
 use cap_server::{Naming, Seat, Server};
 use std::alloc::Global;
 use std::marker::Brand;
-use std::process::Abort;
 use std::sync::Wait;
-use std::test::*;
 use std::thread;
 use std::thread::Threads;
 
@@ -31,6 +29,14 @@ const REPLACE: Policy = Policy {
     on_conflict: Answer::Replace,
 };
 
+// The bytes of the changeset that a reply has.
+fn bytes_in(alloc: Global, reply: &Reply<Global>) -> Option<Vec<u8>> {
+    match reply {
+        Reply::Capture(capture) => capture.changeset(alloc).ok(),
+        _ => None,
+    }
+}
+
 // The bytes of the changeset of session 1.
 fn changeset<J: Naming>(
     rt: &impl Wait,
@@ -38,9 +44,9 @@ fn changeset<J: Naming>(
     server: &Server<J, Global>,
     seat: &mut Seat<J, Global>,
 ) -> Option<Vec<u8>> {
-    match server.capture(rt, seat, 1).ok()? {
-        Reply::Capture(capture) => capture.changeset(alloc).ok(),
-        _ => None,
+    match server.capture(rt, seat, 1) {
+        Ok(reply) => bytes_in(alloc, &reply),
+        Err(_) => None,
     }
 }
 
@@ -93,31 +99,34 @@ fn is_applied(alloc: Global, left: Option<&Applied<Global>>, now: &Database<Glob
     }
 }
 
+// Whether the changes were applied to each replica.
+fn are_applied(alloc: Global, worked: &[Option<Applied<Global>>], now: &Database<Global>) -> bool {
+    for left in worked {
+        if !is_applied(alloc, left.as_ref(), now) {
+            return false;
+        }
+    }
+    worked.len() == usize::from(REPLICAS)
+}
+
 // What each thread applied is looked at on this one.
-fn apply_three_changes<J: Naming, R: Threads + Wait + Abort + Sync>(
+fn apply_three_changes<J: Naming, R: Threads + Wait + Sync>(
     rt: &R,
     alloc: Global,
     server: &Server<J, Global>,
     seat: &mut Seat<J, Global>,
-) -> Option<()> {
-    assert!(rt; is_answered(rt, alloc, server, seat, (BEFORE, BEFORE_REPLIES)));
-    let before = snapshot(rt, server, seat)?;
-    assert!(rt; is_answered(rt, alloc, server, seat, (CHANGES, "ok version 3\n")));
-    let after = snapshot(rt, server, seat)?;
+) -> Option<bool> {
+    let (before, after) = changed(rt, alloc, server, seat)?;
     let changeset = changeset(rt, alloc, server, seat)?;
     let worked = apply_to_replicas(rt, alloc, &before, changeset.as_slice())?;
-    assert!(rt; worked.len() == usize::from(REPLICAS));
-    for left in &worked {
-        assert!(rt; is_applied(alloc, left.as_ref(), after.database()));
-    }
-    Some(())
+    Some(are_applied(alloc, worked.as_slice(), after.database()))
 }
 
-fn applied_to_replicas<J: Naming + Send + Sync, R: Threads + Wait + Abort + Sync>(
+fn applied_to_replicas<J: Naming + Send + Sync, R: Threads + Wait + Sync>(
     rt: &R,
     opened: Opened<Global>,
     alloc: Global,
-) -> Option<()>
+) -> Option<bool>
     requires history { opened.seen.book ≡ J.book }
     requires seats { J.seats ≡ 1 }
 {
@@ -147,7 +156,8 @@ fn apply_through_seat<J: Naming, R: Wait>(
         changeset,
     } = job;
     let blob = read_blob(alloc, changeset).ok()?;
-    let reply = server.apply(rt, &mut seat, blob, REPLACE).ok()?;
+    let quiet = QuietSessions::none(alloc);
+    let reply = server.apply(rt, &mut seat, blob, REPLACE, quiet).ok()?;
     Some((seat, reply))
 }
 
@@ -205,31 +215,59 @@ const INSERTS: (&str, &str) = (
 // Their deletes, and the replies.
 const DELETES: (&str, &str) = ("commit delete t key(1) ; delete t key(2)", "ok version 3\n");
 
+// The tables with two rows that session 1 has seen inserted, and the bytes of their changeset, once the rows are
+// deleted again.
+fn inserted<J: Naming>(
+    rt: &impl Wait,
+    alloc: Global,
+    server: &Server<J, Global>,
+    seat: &mut Seat<J, Global>,
+) -> Option<(Snapshot<Global>, Vec<u8>)> {
+    if !is_answered(rt, alloc, server, seat, INSERTS) {
+        return None;
+    }
+    let tables = snapshot(rt, server, seat)?;
+    let changeset = changeset(rt, alloc, server, seat)?;
+    if is_answered(rt, alloc, server, seat, DELETES) {
+        Some((tables, changeset))
+    } else {
+        None
+    }
+}
+
+// Whether the tables have these rows now.
+fn has_rows<J: Naming>(
+    rt: &impl Wait,
+    alloc: Global,
+    server: &Server<J, Global>,
+    seat: &mut Seat<J, Global>,
+    tables: &Snapshot<Global>,
+) -> bool {
+    match snapshot(rt, server, seat) {
+        Some(now) => have_same_rows(alloc, now.database(), tables.database()),
+        None => false,
+    }
+}
+
 // The first thread that applies the changeset finds no rows, and each later one the rows of those before it.
-fn apply_two_inserts<J: Naming + Send + Sync, R: Threads + Wait + Abort + Sync>(
+fn apply_two_inserts<J: Naming + Send + Sync, R: Threads + Wait + Sync>(
     rt: &R,
     alloc: Global,
     server: &Server<J, Global>,
     last: &mut Seat<J, Global>,
     seats: Vec<Seat<J, Global>>,
-) -> Option<()> {
-    assert!(rt; is_answered(rt, alloc, server, last, INSERTS));
-    let tables = snapshot(rt, server, last)?;
-    let changeset = changeset(rt, alloc, server, last)?;
-    assert!(rt; is_answered(rt, alloc, server, last, DELETES));
+) -> Option<bool> {
+    let (tables, changeset) = inserted(rt, alloc, server, last)?;
     let worked = apply_through_seats(rt, alloc, server, seats, changeset.as_slice())?;
-    assert!(rt; worked.len() == 3);
-    assert!(rt; totals(worked.as_slice()) == Some((4 + 5 + 6, 2 + 2)));
-    let now = snapshot(rt, server, last)?;
-    assert!(rt; have_same_rows(alloc, now.database(), tables.database()));
-    Some(())
+    let is_right = worked.len() == 3 && totals(worked.as_slice()) == Some((4 + 5 + 6, 2 + 2));
+    Some(is_right && has_rows(rt, alloc, server, last, &tables))
 }
 
-fn applied_through_seats<J: Naming + Send + Sync, R: Threads + Wait + Abort + Sync>(
+fn applied_through_seats<J: Naming + Send + Sync, R: Threads + Wait + Sync>(
     rt: &R,
     opened: Opened<Global>,
     alloc: Global,
-) -> Option<()>
+) -> Option<bool>
     requires history { opened.seen.book ≡ J.book }
     requires seats { J.seats ≡ 4 }
 {
@@ -239,15 +277,13 @@ fn applied_through_seats<J: Naming + Send + Sync, R: Threads + Wait + Abort + Sy
 }
 
 #[test]
-fn what_is_applied_travels_between_threads(rt: HostRuntime) -> Result<(), Fail> {
+fn what_is_applied_travels_between_threads(rt: HostRuntime) {
     let applied = applied_to_replicas::<Brand, _>(&rt, Opened::new(), rt.alloc());
-    assert!(rt; applied == Some(()));
-    Ok(())
+    assert!(rt; applied == Some(true));
 }
 
 #[test]
-fn replies_to_an_apply_travel_between_threads(rt: HostRuntime) -> Result<(), Fail> {
+fn replies_to_an_apply_travel_between_threads(rt: HostRuntime) {
     let applied = applied_through_seats::<Brand, _>(&rt, Opened::new(), rt.alloc());
-    assert!(rt; applied == Some(()));
-    Ok(())
+    assert!(rt; applied == Some(true));
 }

@@ -39,12 +39,14 @@ fn is_key(row: &RowRef<Global>, number: i64) -> bool {
 }
 
 fn is_item(item: &Item<Global>, looked: Looked) -> bool {
-    let is_it = match (item, looked) {
-        (Item::Table(_), Looked::Table) => true,
-        (Item::Row(_, row), Looked::Row(number)) => is_key(row, number),
-        (Item::Scan(_), Looked::Scan) => true,
-        (Item::NextId(_), Looked::NextId) => true,
-        _ => false,
+    let is_it = match looked {
+        Looked::Table => matches!(item, Item::Table(_)),
+        Looked::Row(number) => match item {
+            Item::Row(_, row) => is_key(row, number),
+            _ => false,
+        },
+        Looked::Scan => matches!(item, Item::Scan(_)),
+        Looked::NextId => matches!(item, Item::NextId(_)),
     };
     is_it && item.table().as_str() == "t"
 }
@@ -83,13 +85,24 @@ fn are_rows(rows: Scan<'_, Global>, expected: &[Fields<'_>]) -> bool {
 }
 
 fn is_answer(answer: &Answer<Global>, told: &Told<'_>) -> bool {
-    match (answer, told) {
-        (Answer::Done, Told::Done) => true,
-        (Answer::Refused(found), Told::Refused(why)) => found == why,
-        (Answer::Row(Some(row)), Told::Row(fields)) => is_row(row, *fields),
-        (Answer::Rows(rows), Told::Rows(expected)) => are_rows(rows.scan(), expected),
-        (Answer::Mark(mark), Told::Mark(number)) => mark.number == *number,
-        _ => false,
+    match told {
+        Told::Done => matches!(answer, Answer::Done),
+        Told::Refused(why) => match answer {
+            Answer::Refused(found) => found == why,
+            _ => false,
+        },
+        Told::Row(fields) => match answer {
+            Answer::Row(Some(row)) => is_row(row, *fields),
+            _ => false,
+        },
+        Told::Rows(expected) => match answer {
+            Answer::Rows(rows) => are_rows(rows.scan(), expected),
+            _ => false,
+        },
+        Told::Mark(number) => match answer {
+            Answer::Mark(mark) => mark.number == *number,
+            _ => false,
+        },
     }
 }
 

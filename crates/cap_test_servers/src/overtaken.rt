@@ -1,14 +1,13 @@
 //! Calls that are overtaken: each of two locks over one front word takes itself to be the only one.
-ghost use Rattle.std.specs.Prelude.{◌≡◌};
+ghost use Rattle.std.specs.Prelude.{◌≡◌, []};
 
 use cap_core::Command;
 use cap_history::Opened;
 use cap_locked::CallFault;
-use cap_server::{Front, Locked, Naming, Seat, named};
+use cap_server::{Front, List, Locked, Naming, Seat, named};
 use std::alloc::Global;
 use std::marker::Brand;
 use std::process::Abort;
-use std::test::*;
 
 // Whether a read from the seat under the lock is overtaken by a history of two events. The seat has then seen
 // these, and has made so many calls.
@@ -45,29 +44,44 @@ fn call_under_both<J: Naming, R: Abort>(
     assert!(rt; is_overtaken(front, other, zero, 1));
 }
 
-fn two_locks<J: Naming, R: Abort>(rt: &R, opened: Opened<Global>, alloc: Global) -> Result<(), Fail>
+// The seats call in turn.
+fn call_from_three<J: Naming, R: Abort>(
+    rt: &R,
+    front: &Front<J, Global>,
+    one: &mut Locked<J, Global>,
+    other: &mut Locked<J, Global>,
+    seats: &mut Vec<Seat<J, Global>>,
+) -> Option<()> {
+    let mut second = seats.pop()?;
+    let mut first = seats.pop()?;
+    let mut zero = seats.pop()?;
+    call_under_both(rt, front, one, other, &mut zero, &mut first, &mut second);
+    Some(())
+}
+
+// Two locks over one list.
+fn locks<J: Naming>(
+    alloc: Global,
+    list: List<J, Global>,
+) -> Option<(Locked<J, Global>, Locked<J, Global>)>
+    requires list { list ≡ [] }
+    requires seats { J.seats ≡ 3 }
+{
+    let one = Locked::open(alloc, list.again(), 3).ok()?;
+    let other = Locked::open(alloc, list, 3).ok()?;
+    Some((one, other))
+}
+
+fn two_locks<J: Naming, R: Abort>(rt: &R, opened: Opened<Global>, alloc: Global) -> Option<()>
     requires history { opened.seen.book ≡ J.book }
     requires seats { J.seats ≡ 3 }
 {
-    let (front, list, mut seats) = named::<J, Global>(opened, alloc, 3)?;
-    let mut second = seats.pop().ok_or("seat 2")?;
-    let mut first = seats.pop().ok_or("seat 1")?;
-    let mut zero = seats.pop().ok_or("seat 0")?;
-    let mut one = Locked::open(alloc, list.again(), 3)?;
-    let mut other = Locked::open(alloc, list, 3)?;
-    call_under_both(
-        rt,
-        &front,
-        &mut one,
-        &mut other,
-        &mut zero,
-        &mut first,
-        &mut second,
-    );
-    Ok(())
+    let (front, list, mut seats) = named::<J, Global>(opened, alloc, 3).ok()?;
+    let (mut one, mut other) = locks(alloc, list)?;
+    call_from_three(rt, &front, &mut one, &mut other, &mut seats)
 }
 
 #[test]
-fn a_call_under_another_lock_is_overtaken(rt: HostRuntime) -> Result<(), Fail> {
-    two_locks::<Brand, _>(&rt, Opened::new(), rt.alloc())
+fn a_call_under_another_lock_is_overtaken(rt: HostRuntime) {
+    assert!(rt; two_locks::<Brand, _>(&rt, Opened::new(), rt.alloc()) == Some(()));
 }

@@ -1,7 +1,7 @@
 //! A replica that captures keep up to date.
 ghost use Rattle.std.specs.Prelude.{◌≡◌};
 
-use crate::seats::{BEFORE, BEFORE_REPLIES, CHANGES, have_same_rows, is_answered, snapshot};
+use crate::seats::{changed, have_same_rows};
 use cap_apply::{Answer, Policy};
 use cap_database::Database;
 use cap_history::Opened;
@@ -11,7 +11,6 @@ use std::alloc::Global;
 use std::marker::Brand;
 use std::process::Abort;
 use std::sync::Wait;
-use std::test::*;
 
 const OMIT: Policy = Policy {
     on_data: Answer::Omit,
@@ -46,18 +45,27 @@ fn replicate_thrice<J: Naming, R: Wait + Abort>(
     server: &Server<J, Global>,
     seat: &mut Seat<J, Global>,
     form: Form,
-) -> Option<()> {
-    assert!(rt; is_answered(rt, alloc, server, seat, (BEFORE, BEFORE_REPLIES)));
-    let replica = snapshot(rt, server, seat)?;
-    assert!(rt; is_answered(rt, alloc, server, seat, (CHANGES, "ok version 3\n")));
-    let now = snapshot(rt, server, seat)?;
-    let (before, after) = (replica.database(), now.database());
+    (before, after): (&Database<Global>, &Database<Global>),
+) {
     let made = replicated(rt, alloc, server, seat, (1, form), (before, after));
     assert!(rt; made == Ok(3));
     let missing = replicated(rt, alloc, server, seat, (2, form), (before, after));
     assert!(rt; missing == Err(NotReplicated::NoCapture));
     let twice = replicated(rt, alloc, server, seat, (1, form), (after, after));
     assert!(rt; matches!(twice, Err(NotReplicated::NotApplied(_))));
+}
+
+// The same from the tables before the changes and behind them.
+fn replicate_changes<J: Naming, R: Wait + Abort>(
+    rt: &R,
+    alloc: Global,
+    server: &Server<J, Global>,
+    seat: &mut Seat<J, Global>,
+    form: Form,
+) -> Option<()> {
+    let (before, after) = changed(rt, alloc, server, seat)?;
+    let both = (before.database(), after.database());
+    replicate_thrice(rt, alloc, server, seat, form, both);
     Some(())
 }
 
@@ -72,14 +80,14 @@ fn replicated_in<J: Naming + Send + Sync, R: Wait + Abort>(
 {
     let (server, mut seats) = Server::<J, Global>::open(opened, alloc, 1).ok()?;
     let mut seat = seats.pop()?;
-    replicate_thrice(rt, alloc, &server, &mut seat, form)
+    replicate_changes(rt, alloc, &server, &mut seat, form)
 }
 
 #[test]
-fn a_replica_has_the_rows_of_the_server(rt: HostRuntime) -> Result<(), Fail> {
-    for form in [Form::Changeset, Form::Patchset] {
-        let replicated = replicated_in::<Brand, _>(&rt, Opened::new(), rt.alloc(), form);
-        assert!(rt; replicated == Some(()));
-    }
-    Ok(())
+fn a_replica_has_the_rows_of_the_server(rt: HostRuntime) {
+    let (changeset, patchset) = (Form::Changeset, Form::Patchset);
+    let replicated = replicated_in::<Brand, _>(&rt, Opened::new(), rt.alloc(), changeset);
+    assert!(rt; replicated == Some(()));
+    let replicated = replicated_in::<Brand, _>(&rt, Opened::new(), rt.alloc(), patchset);
+    assert!(rt; replicated == Some(()));
 }

@@ -2,22 +2,29 @@
 use cap_compare::compare;
 use cap_core::Reply;
 use cap_database::{Database, Snapshot};
-use cap_script::{Line, parse, print_reply};
+use cap_script::{Line, parse, print_reply, read_line};
 use cap_server::{Naming, Seat, Server};
 use cap_value::Name;
 use std::alloc::Global;
 use std::sync::Wait;
 
 // A table that session 1 watches, with two rows, and the replies.
-pub(crate) const BEFORE: &str =
+const BEFORE: &str =
     "create t kv\nsession\nattach 1 t\ncommit insert t (1,'x') ; insert t (2,'y')\nrestart 1";
 
-pub(crate) const BEFORE_REPLIES: &str = "ok version 1\nsession 1\nok\nok version 2\n\
+const BEFORE_REPLIES: &str = "ok version 1\nsession 1\nok\nok version 2\n\
      changeset 54020100740012000100000000000000010301781200010000000000000002030179\n";
 
 // Three changes of its rows.
-pub(crate) const CHANGES: &str =
-    "commit update t key(1) set 1 = 'z' ; delete t key(2) ; insert t (3,'w')";
+const CHANGES: &str = "commit update t key(1) set 1 = 'z' ; delete t key(2) ; insert t (3,'w')";
+
+// The command of a text of one line.
+pub(crate) fn line_of(alloc: Global, text: &str) -> Option<Line<Global>> {
+    match read_line(alloc, 1, text) {
+        Ok(line) => line,
+        Err(_) => None,
+    }
+}
 
 // The text of the reply to a line's command.
 fn answer<J: Naming>(
@@ -85,6 +92,24 @@ pub(crate) fn snapshot<J: Naming>(
         Ok(reply) => tables_in(reply),
         Err(_) => None,
     }
+}
+
+// The tables before three changes that session 1 sees, and behind them.
+pub(crate) fn changed<J: Naming>(
+    rt: &impl Wait,
+    alloc: Global,
+    server: &Server<J, Global>,
+    seat: &mut Seat<J, Global>,
+) -> Option<(Snapshot<Global>, Snapshot<Global>)> {
+    if !is_answered(rt, alloc, server, seat, (BEFORE, BEFORE_REPLIES)) {
+        return None;
+    }
+    let before = snapshot(rt, server, seat)?;
+    if !is_answered(rt, alloc, server, seat, (CHANGES, "ok version 3\n")) {
+        return None;
+    }
+    let after = snapshot(rt, server, seat)?;
+    Some((before, after))
 }
 
 // Whether t has the same rows in both databases.

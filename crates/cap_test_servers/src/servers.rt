@@ -1,18 +1,16 @@
 //! Servers that threads share.
 ghost use Rattle.std.specs.Prelude.{◌≡◌};
 
-use crate::seats::is_answered;
+use crate::seats::{is_answered, line_of};
 use cap_core::{Command, Core, EVENTS_MAX, Reply};
 use cap_database::Snapshot;
 use cap_history::Opened;
-use cap_script::read_line;
 use cap_server::{CloseFault, Naming, Seat, Server};
 use cap_value::Name;
 use std::alloc::Global;
 use std::marker::Brand;
 use std::process::Abort;
 use std::sync::Wait;
-use std::test::*;
 use std::thread;
 use std::thread::Threads;
 
@@ -90,9 +88,9 @@ fn is_committed<J: Naming>(
     let Ok(text) = format!(in alloc; "commit insert t ({key},'x')") else {
         return false;
     };
-    match read_line(alloc, 1, text.as_str()) {
-        Ok(Some(line)) => is_written(rt, server, seat, &line.command),
-        _ => false,
+    match line_of(alloc, text.as_str()) {
+        Some(line) => is_written(rt, server, seat, &line.command),
+        None => false,
     }
 }
 
@@ -236,15 +234,14 @@ fn missed<J: Naming>(
     seats: Vec<Seat<J, Global>>,
     missing: u64,
 ) -> Option<(Server<J, Global>, Vec<Seat<J, Global>>)> {
-    match server.close(seats) {
-        Err((server, seats, fault)) => {
-            if fault == (CloseFault::MissingSeat { number: missing }) {
-                Some((server, seats))
-            } else {
-                None
-            }
-        }
-        Ok(_) => None,
+    let Err(refused) = server.close(seats) else {
+        return None;
+    };
+    let (server, seats, fault) = refused;
+    if fault == (CloseFault::MissingSeat { number: missing }) {
+        Some((server, seats))
+    } else {
+        None
     }
 }
 
@@ -281,22 +278,19 @@ fn missing_seats<J: Naming + Send + Sync>(opened: Opened<Global>, alloc: Global)
 }
 
 #[test]
-fn a_seat_reads_its_own_commit(rt: HostRuntime) -> Result<(), Fail> {
+fn a_seat_reads_its_own_commit(rt: HostRuntime) {
     let left = three_seats::<Brand, _>(&rt, Opened::new(), rt.alloc());
     assert!(rt; left == Some((4, 2)));
-    Ok(())
 }
 
 #[test]
-fn four_threads_commit(rt: HostRuntime) -> Result<(), Fail> {
+fn four_threads_commit(rt: HostRuntime) {
     let left = four_threads::<Brand, _>(&rt, Opened::new(), rt.alloc());
     assert!(rt; left == Some((401, 400)));
-    Ok(())
 }
 
 #[test]
-fn a_server_is_not_closed_without_its_seats(rt: HostRuntime) -> Result<(), Fail> {
+fn a_server_is_not_closed_without_its_seats(rt: HostRuntime) {
     let left = missing_seats::<Brand>(Opened::new(), rt.alloc());
     assert!(rt; left == Some(0));
-    Ok(())
 }

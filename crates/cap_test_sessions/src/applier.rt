@@ -11,18 +11,18 @@ use linked_list_allocator::LocalHeap;
 use std::test::Fail;
 
 // Blobs of one change of the row with key 1 of the table t, a key and a value, written out by hand.
-const CHANGE_INSERT: [u8; 20] = [
+const CHANGE_INSERT: &[u8] = &[
     0x54, 2, 1, 0, 0x74, 0, 0x12, 0, 1, 0, 0, 0, 0, 0, 0, 0, 1, 3, 1, 0x79,
 ];
 
-const CHANGE_UPDATE: [u8; 24] = [
+const CHANGE_UPDATE: &[u8] = &[
     0x54, 2, 1, 0, 0x74, 0, 0x17, 0, 1, 0, 0, 0, 0, 0, 0, 0, 1, 3, 1, 0x78, 0, 3, 1, 0x79,
 ];
 
-const PATCH_DELETE: [u8; 17] = [0x50, 2, 1, 0, 0x74, 0, 0x09, 0, 1, 0, 0, 0, 0, 0, 0, 0, 1];
+const PATCH_DELETE: &[u8] = &[0x50, 2, 1, 0, 0x74, 0, 0x09, 0, 1, 0, 0, 0, 0, 0, 0, 0, 1];
 
 // The insert of the row (1,'q'), to which they are applied.
-const FIRST_ROW: [u8; 20] = [
+const FIRST_ROW: &[u8] = &[
     0x54, 2, 1, 0, 0x74, 0, 0x12, 0, 1, 0, 0, 0, 0, 0, 0, 0, 1, 3, 1, 0x71,
 ];
 
@@ -117,7 +117,7 @@ fn apply_in_refused_memory<A: AllocHandle>(
         return None;
     }
     let table = Name::new(alloc, "t").ok()?;
-    let made = applied(alloc, &empty, &FIRST_ROW)?;
+    let made = applied(alloc, &empty, FIRST_ROW)?;
     let blob = read_blob(alloc, bytes).ok()?;
     Some(apply_in_turn(alloc, memory, made.database(), &table, &blob))
 }
@@ -128,9 +128,9 @@ fn apply_in_refused_memory<A: AllocHandle>(
 fn each_growth_refused(rt: HostRuntime) -> Result<(), Fail> {
     let heap = LocalHeap::new(rt.alloc(), 32768)?;
     let memory = Memory::new(&heap);
-    assert!(rt; apply_in_refused_memory(&memory, &memory, &CHANGE_INSERT) == Some(true));
-    assert!(rt; apply_in_refused_memory(&memory, &memory, &CHANGE_UPDATE) == Some(true));
-    assert!(rt; apply_in_refused_memory(&memory, &memory, &PATCH_DELETE) == Some(true));
+    assert!(rt; apply_in_refused_memory(&memory, &memory, CHANGE_INSERT) == Some(true));
+    assert!(rt; apply_in_refused_memory(&memory, &memory, CHANGE_UPDATE) == Some(true));
+    assert!(rt; apply_in_refused_memory(&memory, &memory, PATCH_DELETE) == Some(true));
     assert!(rt; heap.used() == 0);
     Ok(())
 }

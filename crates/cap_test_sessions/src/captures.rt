@@ -7,7 +7,6 @@ use cap_row::Schema;
 use cap_session::Session;
 use cap_value::Name;
 use std::alloc::Global;
-use std::test::Fail;
 
 // The bytes of the changeset of a session, or none where it is not captured.
 fn bytes_of(
@@ -50,13 +49,13 @@ fn is_captured_against(alloc: Global, session: &Session<Global>, flags: &[bool])
 }
 
 // The update of (1,'x') to (1,'z'), the delete of (2,'y') and the insert of (3,'w').
-const CHANGESET: [u8; 52] = [
+const CHANGESET: &[u8] = &[
     0x54, 2, 1, 0, 0x74, 0, 0x17, 0, 1, 0, 0, 0, 0, 0, 0, 0, 1, 3, 1, 0x78, 0, 3, 1, 0x7a, 0x09, 0,
     1, 0, 0, 0, 0, 0, 0, 0, 2, 3, 1, 0x79, 0x12, 0, 1, 0, 0, 0, 0, 0, 0, 0, 3, 3, 1, 0x77,
 ];
 
 #[test]
-fn a_session_is_captured_against_the_later_database(rt: HostRuntime) -> Result<(), Fail> {
+fn a_session_is_captured_against_the_later_database(rt: HostRuntime) {
     let alloc = rt.alloc();
     let mut database = Database::empty(alloc);
     let mut session = Session::new(alloc);
@@ -66,13 +65,12 @@ fn a_session_is_captured_against_the_later_database(rt: HostRuntime) -> Result<(
     assert!(rt; attach(alloc, &mut session, "t"));
     let text = "commit update t key(1) set 1 = 'z' ; delete t key(2) ; insert t (3,'w')";
     assert!(rt; commit(alloc, &mut database, &mut session, text));
-    assert!(rt; has_bytes(alloc, &session, &database, &CHANGESET));
-    Ok(())
+    assert!(rt; has_bytes(alloc, &session, &database, CHANGESET));
 }
 
 // A first image is no row of a table that is wider, has another key, or is not there.
 #[test]
-fn a_session_is_not_captured_against_other_columns(rt: HostRuntime) -> Result<(), Fail> {
+fn a_session_is_not_captured_against_other_columns(rt: HostRuntime) {
     let alloc = rt.alloc();
     let mut database = Database::empty(alloc);
     let mut session = Session::new(alloc);
@@ -93,13 +91,12 @@ fn a_session_is_not_captured_against_other_columns(rt: HostRuntime) -> Result<()
     assert!(rt; is_captured_against(alloc, &session, &[false, true]) == Some(false));
     assert!(rt; is_captured_against(alloc, &session, &[true, true]) == Some(false));
     assert!(rt; !can_capture(&session, &Database::empty(alloc)));
-    Ok(())
 }
 
 // A session without first images is captured against any database. What it saw is no change where the table
 // is gone.
 #[test]
-fn a_session_without_images_is_captured_against_any_database(rt: HostRuntime) -> Result<(), Fail> {
+fn a_session_without_images_is_captured_against_any_database(rt: HostRuntime) {
     let alloc = rt.alloc();
     let mut database = Database::empty(alloc);
     let mut session = Session::new(alloc);
@@ -114,8 +111,7 @@ fn a_session_without_images_is_captured_against_any_database(rt: HostRuntime) ->
     );
     assert!(rt; !session.is_empty());
     let mut other = Database::empty(alloc);
-    assert!(rt; has_bytes(alloc, &session, &other, &[]));
+    assert!(rt; has_bytes(alloc, &session, &other, b""));
     assert!(rt; create_with(alloc, &mut other, &[true]) == Some(()));
-    assert!(rt; has_bytes(alloc, &session, &other, &[]));
-    Ok(())
+    assert!(rt; has_bytes(alloc, &session, &other, b""));
 }

@@ -9,7 +9,6 @@ use cap_row::{Key, Row, Schema};
 use cap_table::RowRef;
 use cap_value::{Fault, Name, Refusal, Value};
 use std::alloc::Global;
-use std::test::*;
 
 // A key, a time and a text: (1,5,'a'), (2,9,'b') and (3,1,'c') are inserted into t.
 const ROWS: &str =
@@ -165,11 +164,16 @@ fn is_newest(alloc: Global, database: &Database<Global>) -> bool {
     }
 }
 
+fn keeps_the_newest(alloc: Global) -> bool {
+    match begun(alloc) {
+        Some(database) => is_newest(alloc, &database),
+        None => false,
+    }
+}
+
 #[test]
-fn the_newest_time_wins(rt: HostRuntime) -> Result<(), Fail> {
-    let database = begun(rt.alloc()).ok_or("database")?;
-    assert!(rt; is_newest(rt.alloc(), &database));
-    Ok(())
+fn the_newest_time_wins(rt: HostRuntime) {
+    assert!(rt; keeps_the_newest(rt.alloc()));
 }
 
 // The kind, the number and the place of the conflict, and whether the row that it met is (5,1,'p').
@@ -208,16 +212,23 @@ fn is_merged(alloc: Global, applier: Applier<Global>) -> bool {
     }
 }
 
-#[test]
-fn a_merged_row_in_place_of_a_change(rt: HostRuntime) -> Result<(), Fail> {
-    let alloc = rt.alloc();
-    let database = begun(alloc).ok_or("database")?;
-    let applier = applier(alloc, &database, TWICE, None).ok_or("applier")?;
-    assert!(rt; shown(&applier) == Some((ConflictKind::Conflict, 1, 1, true)));
+// Whether it stands at its conflict, and takes a row with the key of the change alone.
+fn takes_a_row(alloc: Global, applier: Applier<Global>) -> bool {
+    let is_shown = shown(&applier) == Some((ConflictKind::Conflict, 1, 1, true));
     let other = refusal(&applier, row(alloc, 6, 3, "pq"));
-    assert!(rt; other == Some(MergeRefusal::OtherKey));
-    assert!(rt; is_merged(alloc, applier));
-    Ok(())
+    let is_merged = is_merged(alloc, applier);
+    is_shown && other == Some(MergeRefusal::OtherKey) && is_merged
+}
+
+fn merges(alloc: Global) -> Option<bool> {
+    let database = begun(alloc)?;
+    let applier = applier(alloc, &database, TWICE, None)?;
+    Some(takes_a_row(alloc, applier))
+}
+
+#[test]
+fn a_merged_row_in_place_of_a_change(rt: HostRuntime) {
+    assert!(rt; merges(rt.alloc()) == Some(true));
 }
 
 fn why(fault: Fault<Refusal>) -> Option<Refusal> {
@@ -235,13 +246,15 @@ fn refused_answer(applier: Option<Applier<Global>>, answer: Answer) -> Option<Re
     }
 }
 
+// Why an application is aborted.
+fn aborted(alloc: Global) -> Option<Refusal> {
+    let database = begun(alloc)?;
+    refused_answer(applier(alloc, &database, TWICE, None), Answer::Abort)
+}
+
 #[test]
-fn an_answer_that_ends_the_application(rt: HostRuntime) -> Result<(), Fail> {
-    let alloc = rt.alloc();
-    let database = begun(alloc).ok_or("database")?;
-    let aborted = refused_answer(applier(alloc, &database, TWICE, None), Answer::Abort);
-    assert!(rt; aborted == Some(Refusal::Aborted { at: 1 }));
-    Ok(())
+fn an_answer_that_ends_the_application(rt: HostRuntime) {
+    assert!(rt; aborted(rt.alloc()) == Some(Refusal::Aborted { at: 1 }));
 }
 
 // The numbers of the groups that are passed over, and whether u has the row and t has not.
@@ -256,10 +269,12 @@ fn filtered(alloc: Global, database: &Database<Global>) -> Option<bool> {
     Some(is_passed && is_there && is_absent && !is_skipped)
 }
 
+fn is_filtered(alloc: Global) -> Option<bool> {
+    let database = begun(alloc)?;
+    filtered(alloc, &database)
+}
+
 #[test]
-fn a_table_that_the_filter_does_not_accept(rt: HostRuntime) -> Result<(), Fail> {
-    let alloc = rt.alloc();
-    let database = begun(alloc).ok_or("database")?;
-    assert!(rt; filtered(alloc, &database) == Some(true));
-    Ok(())
+fn a_table_that_the_filter_does_not_accept(rt: HostRuntime) {
+    assert!(rt; is_filtered(rt.alloc()) == Some(true));
 }

@@ -1,5 +1,5 @@
-//! Tests of sessions, of blobs that are applied, of changegroups and of rebasing, through their public calls; and
-//! an application that stops at conflicts, answered as a policy answers.
+//! Tests of sessions, of blobs that are applied, of dumps, of changegroups, of rebasing and of synchronising, through
+//! their public calls; and an application that stops at conflicts, answered as a policy answers.
 #![tactic(auto)]
 
 mod answered;
@@ -15,6 +15,10 @@ mod captures;
 mod changesets;
 #[cfg(test)]
 mod conflicts;
+#[cfg(test)]
+mod convergence;
+#[cfg(test)]
+mod dumps;
 #[cfg(test)]
 mod groups;
 #[cfg(test)]

@@ -21,7 +21,7 @@ enum Call {
 
 // Each with the number of tables that are attached afterwards, and of images that are held. Before it nine
 // tables are attached and one image held.
-const CALLS: [(Call, usize, u128); 4] = [
+const CALLS: &[(Call, usize, u128)] = &[
     (Call::Attach, 10, 1),
     (Call::Commit, 10, 4),
     (Call::Diff, 10, 3),
@@ -29,7 +29,7 @@ const CALLS: [(Call, usize, u128); 4] = [
 ];
 
 // The tables that are attached, t among them. A copy of the session has no room for another one.
-const ATTACHED: [&str; 9] = ["t", "a", "b", "c", "d", "e", "f", "g", "h"];
+const ATTACHED: &[&str] = &["t", "a", "b", "c", "d", "e", "f", "g", "h"];
 
 // What they are made with: a table, a database, and what a commit made of it that changes one row of t and
 // two of u.
@@ -95,7 +95,7 @@ fn prepare<A: AllocHandle>(alloc: A, database: &mut Database<A>, session: &mut S
         return false;
     }
     for name in ATTACHED {
-        if !attach(alloc, session, name) {
+        if !attach(alloc, session, *name) {
             return false;
         }
     }
@@ -156,7 +156,7 @@ fn each_call_may_be_refused<A: AllocHandle>(alloc: A, memory: &Memory<&LocalHeap
         return false;
     };
     for call in CALLS {
-        if first_unused_request(memory, &session, call, &given) <= 1 {
+        if first_unused_request(memory, &session, *call, &given) <= 1 {
             return false;
         }
     }

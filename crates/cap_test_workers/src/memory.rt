@@ -5,7 +5,6 @@ use cap_run::{NoGate, Pace, ReplyForm, RunFault, run_core, run_workload};
 use cap_test_support::{Failure, Memory, Source};
 use std::alloc::Global;
 use std::sync::Wait;
-use std::test::Fail;
 use std::thread::Threads;
 
 // More requests than any run makes.
@@ -95,17 +94,33 @@ fn spared<T: Threads + Wait + Sync>(
     None
 }
 
+// Whether few are refused without a fault, where the input comes byte by byte and whole.
+fn spares_few<T: Threads + Wait + Sync>(
+    rt: &T,
+    alloc: Global,
+    is_served: bool,
+    text: &str,
+    replies: &str,
+) -> bool {
+    let by_byte = spared(rt, alloc, is_served, 1, text, replies);
+    match (by_byte, spared(rt, alloc, is_served, 10_000, text, replies)) {
+        (Some(by_byte), Some(whole)) => by_byte.max(whole) <= SPARED_MAX,
+        _ => false,
+    }
+}
+
 #[test]
-fn each_allocation_of_a_run_may_be_refused(rt: HostRuntime) -> Result<(), Fail> {
+fn each_allocation_of_a_run_may_be_refused(rt: HostRuntime) {
     for (text, replies) in WORKLOADS {
-        for is_served in [false, true] {
-            for most in [1, 10_000] {
-                let spared = spared(&rt, rt.alloc(), is_served, most, text, replies).ok_or(text)?;
-                assert!(rt; spared <= SPARED_MAX, "{text} {is_served} {most} {spared}");
-            }
-        }
+        assert!(rt;
+            spares_few(&rt, rt.alloc(), false, *text, *replies),
+            "{text}"
+        );
+        assert!(rt;
+            spares_few(&rt, rt.alloc(), true, *text, *replies),
+            "{text}"
+        );
     }
     assert!(rt; RunFault::OutOfMemory.status() == 3);
     assert!(rt; RunFault::Call(CallFault::OutOfMemory).status() == 3);
-    Ok(())
 }

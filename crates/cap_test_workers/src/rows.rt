@@ -37,10 +37,10 @@ const APPLY: (&str, &str) = (
 );
 
 /// Workloads with their replies, each of which is one line, for runs whose memory is refused.
-pub(crate) const WORKLOADS: [(&str, &str); 6] = [INSERT, FILTER, DUPLICATE, DIFF, WORKERS, APPLY];
+pub(crate) const WORKLOADS: &[(&str, &str)] = &[INSERT, FILTER, DUPLICATE, DIFF, WORKERS, APPLY];
 
 /// Workloads of one thread with their replies.
-pub(crate) const ROWS: [(&str, &str); 43] = [
+pub(crate) const ROWS: &[(&str, &str)] = &[
     (
         "create t kv\nsession\nattach 1 t\nisempty 1\nchangeset 1\n",
         "ok version 1\nsession 1\nok\ntrue\nchangeset -\n",

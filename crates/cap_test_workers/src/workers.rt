@@ -7,7 +7,6 @@ use cap_run::{Gate, NoGate, Pace, ReplyForm, RunFault, run_workload};
 use std::alloc::Global;
 use std::sync::Wait;
 use std::sync::atomic::{AtomicU64, Ordering};
-use std::test::Fail;
 use std::thread::{Threads, yield_now};
 
 // The most turns for which a gate waits.
@@ -35,7 +34,7 @@ const EIGHT_CHANGESET: &str =
 const BEFORE_REPLIES: &str = "ok version 1\nsession 1\nok\n";
 
 // The replies to commits, by their places.
-const COMMIT_REPLIES: [&str; 8] = [
+const COMMIT_REPLIES: &[&str] = &[
     "ok version 2\n",
     "ok version 3\n",
     "ok version 4\n",
@@ -127,19 +126,17 @@ fn replies_at(alloc: Global, places: &[usize], last: &str) -> Option<String> {
 }
 
 #[test]
-fn two_workers(rt: HostRuntime) -> Result<(), Fail> {
-    for threads in [1, 4] {
-        assert!(rt; ends_with(&rt, rt.alloc(), &NoGate, threads, TWO, 2, TWO_CHANGESET));
-    }
-    Ok(())
+fn two_workers(rt: HostRuntime) {
+    assert!(rt; ends_with(&rt, rt.alloc(), &NoGate, 1, TWO, 2, TWO_CHANGESET));
+    assert!(rt; ends_with(&rt, rt.alloc(), &NoGate, 4, TWO, 2, TWO_CHANGESET));
 }
 
 #[test]
-fn eight_lines(rt: HostRuntime) -> Result<(), Fail> {
-    for threads in [1, 3, 4, 8] {
-        assert!(rt; ends_with(&rt, rt.alloc(), &NoGate, threads, EIGHT, 8, EIGHT_CHANGESET));
-    }
-    Ok(())
+fn eight_lines(rt: HostRuntime) {
+    assert!(rt; ends_with(&rt, rt.alloc(), &NoGate, 1, EIGHT, 8, EIGHT_CHANGESET));
+    assert!(rt; ends_with(&rt, rt.alloc(), &NoGate, 3, EIGHT, 8, EIGHT_CHANGESET));
+    assert!(rt; ends_with(&rt, rt.alloc(), &NoGate, 4, EIGHT, 8, EIGHT_CHANGESET));
+    assert!(rt; ends_with(&rt, rt.alloc(), &NoGate, 8, EIGHT, 8, EIGHT_CHANGESET));
 }
 
 // Waits until the cell shows the number. Says so in `missed` where it does not come.
@@ -181,19 +178,24 @@ fn runs_free<T: Threads + Wait + Sync>(rt: &T, alloc: Global) -> bool {
 
 // A run whose call is overtaken has no reply to it, and does not end well.
 #[test]
-fn no_call_is_overtaken(rt: HostRuntime) -> Result<(), Fail> {
+fn no_call_is_overtaken(rt: HostRuntime) {
     for round in 0..100 {
         assert!(rt; runs_free(&rt, rt.alloc()), "{round}");
     }
-    Ok(())
 }
 
-#[test]
-fn worker_beyond_the_last(rt: HostRuntime) -> Result<(), Fail> {
-    let mut written = Vec::new(rt.alloc());
-    let alloc = rt.alloc();
+// Whether this is the fault of the line, and its text.
+fn is_fault_of_the_line(alloc: Global, fault: &RunFault) -> bool {
+    match format!(in alloc; "{fault}") {
+        Ok(text) => fault.status() == 1 && text.as_str() == "line 1: G1 Syntax at 1",
+        Err(_) => false,
+    }
+}
+
+fn refuses_worker_64<T: Threads + Wait + Sync>(rt: &T, alloc: Global) -> bool {
+    let mut written = Vec::new(alloc);
     let outcome = run(
-        &rt,
+        rt,
         alloc,
         &NoGate,
         4,
@@ -201,11 +203,15 @@ fn worker_beyond_the_last(rt: HostRuntime) -> Result<(), Fail> {
         "@64 session",
         &mut written,
     );
-    let fault = outcome.err().ok_or("no fault")?;
-    assert!(rt; fault.status() == 1);
-    assert!(rt; format!(in rt.alloc(); "{fault}")?.as_str() == "line 1: G1 Syntax at 1");
-    assert!(rt; written.is_empty());
-    Ok(())
+    match outcome {
+        Ok(()) => false,
+        Err(fault) => is_fault_of_the_line(alloc, &fault) && written.is_empty(),
+    }
+}
+
+#[test]
+fn worker_beyond_the_last(rt: HostRuntime) {
+    assert!(rt; refuses_worker_64(&rt, rt.alloc()));
 }
 
 // Lets no call begin before the other worker's is to begin.
@@ -230,22 +236,28 @@ impl Gate for Meeting {
     fn after(&self, _worker: u64, _call: u64) {}
 }
 
-// A run on one thread cannot pass this gate.
-#[test]
-fn two_calls_meet(rt: HostRuntime) -> Result<(), Fail> {
+fn is_either(written: &[u8]) -> bool {
+    written == b"session 1\nsession 2\n".as_slice()
+        || written == b"session 2\nsession 1\n".as_slice()
+}
+
+fn meet<T: Threads + Wait + Sync>(rt: &T, alloc: Global) -> bool {
     let gate = Meeting {
         first: AtomicU64::new(0),
         second: AtomicU64::new(0),
         missed: AtomicU64::new(0),
     };
-    let mut written = Vec::new(rt.alloc());
+    let mut written = Vec::new(alloc);
     let text = "@0 session\n@1 session\n";
-    assert!(rt; run(&rt, rt.alloc(), &gate, 2, Pace::Free, text, &mut written).is_ok());
-    assert!(rt; gate.missed.load(Ordering::SeqCst) == 0);
-    let first = written.as_slice() == "session 1\nsession 2\n".as_bytes();
-    let second = written.as_slice() == "session 2\nsession 1\n".as_bytes();
-    assert!(rt; first || second);
-    Ok(())
+    run(rt, alloc, &gate, 2, Pace::Free, text, &mut written).is_ok()
+        && gate.missed.load(Ordering::SeqCst) == 0
+        && is_either(written.as_slice())
+}
+
+// A run on one thread cannot pass this gate.
+#[test]
+fn two_calls_meet(rt: HostRuntime) {
+    assert!(rt; meet(&rt, rt.alloc()));
 }
 
 // Lets four workers call one after the other, each when its turn has come.
@@ -278,7 +290,7 @@ impl Gate for Turns {
 }
 
 // Each order in which four workers may call.
-const ORDERS: [[usize; 4]; 24] = [
+const ORDERS: &[[usize; 4]] = &[
     [0, 1, 2, 3],
     [0, 1, 3, 2],
     [0, 2, 1, 3],
@@ -322,11 +334,10 @@ fn answers_at<T: Threads + Wait + Sync>(rt: &T, alloc: Global, places: [usize; 4
 // Whatever the order of the calls, each line's reply is that of its own call, and they stand in the order of
 // the lines.
 #[test]
-fn every_order_of_four_calls(rt: HostRuntime) -> Result<(), Fail> {
+fn every_order_of_four_calls(rt: HostRuntime) {
     for places in ORDERS {
-        assert!(rt; answers_at(&rt, rt.alloc(), places), "{places:?}");
+        assert!(rt; answers_at(&rt, rt.alloc(), *places), "{places:?}");
     }
-    Ok(())
 }
 
 // Holds the workers of the first lines up before their calls.
@@ -345,25 +356,35 @@ impl Gate for LastFirst {
     fn after(&self, _worker: u64, _call: u64) {}
 }
 
-// In turn each line is called behind those before it, though their workers are slower.
-#[test]
-fn lines_in_turn(rt: HostRuntime) -> Result<(), Fail> {
-    let places = [0, 1, 2, 3, 4, 5, 6, 7];
-    let replies = replies_at(rt.alloc(), &places, EIGHT_CHANGESET).ok_or("no memory")?;
-    for threads in [1, 3, 8] {
-        assert!(rt;
+const IN_ORDER: &[usize] = &[0, 1, 2, 3, 4, 5, 6, 7];
+
+// Whether the replies stand in the order of the lines.
+fn answers_in_turn<T: Threads + Wait + Sync>(rt: &T, alloc: Global, threads: u64) -> bool
+    requires { (1 ≤ threads) × (threads ≤ 63) }
+{
+    match replies_at(alloc, IN_ORDER, EIGHT_CHANGESET) {
+        Some(replies) => {
+            let pace = Pace::InTurn;
             writes(
-                &rt,
-                rt.alloc(),
+                rt,
+                alloc,
                 &LastFirst,
                 threads,
-                Pace::InTurn,
+                pace,
                 EIGHT,
-                replies.as_str()
+                replies.as_str(),
             )
-        );
+        }
+        None => false,
     }
-    Ok(())
+}
+
+// In turn each line is called behind those before it, though their workers are slower.
+#[test]
+fn lines_in_turn(rt: HostRuntime) {
+    assert!(rt; answers_in_turn(&rt, rt.alloc(), 1));
+    assert!(rt; answers_in_turn(&rt, rt.alloc(), 3));
+    assert!(rt; answers_in_turn(&rt, rt.alloc(), 8));
 }
 
 // Counts each worker's calls, and the calls that do not come in their order or behind the gate.
@@ -405,9 +426,25 @@ fn are_counts(counts: &[AtomicU64; 3], wanted: [u64; 3]) -> bool {
     true
 }
 
-// Each worker's calls pass the gate one after the other, numbered over all blocks, and the others do not.
-#[test]
-fn calls_at_the_gate(rt: HostRuntime) -> Result<(), Fail> {
+// Whether each worker's calls are these, numbered from 0.
+fn has_counted(gate: &Counting) -> bool {
+    gate.odd.load(Ordering::SeqCst) == 0
+        && are_counts(&gate.before, [4, 1, 1])
+        && are_counts(&gate.after, [4, 1, 1])
+}
+
+// Whether there are eight replies, of which these are the last.
+fn are_eight(written: &[u8]) -> bool {
+    match str::from_utf8(written) {
+        Ok(replies) => {
+            replies.lines().count() == 8
+                && replies.ends_with("session 3\ntrue\nrefused: E18 NoSession\ntrue\ntrue\n")
+        }
+        Err(_) => false,
+    }
+}
+
+fn counts_calls<T: Threads + Wait + Sync>(rt: &T, alloc: Global) -> bool {
     let gate = Counting {
         before: [AtomicU64::new(0), AtomicU64::new(0), AtomicU64::new(0)],
         after: [AtomicU64::new(0), AtomicU64::new(0), AtomicU64::new(0)],
@@ -415,15 +452,16 @@ fn calls_at_the_gate(rt: HostRuntime) -> Result<(), Fail> {
     };
     let text =
         "@0 session\n@3 isempty 1\n@2 session\nsession\nisempty 3\n@1 isempty 9\n@0 isempty 1\n@63 isempty 1\n";
-    let mut written = Vec::new(rt.alloc());
-    assert!(rt; run(&rt, rt.alloc(), &gate, 3, Pace::Free, text, &mut written).is_ok());
-    assert!(rt; gate.odd.load(Ordering::SeqCst) == 0);
-    assert!(rt; are_counts(&gate.before, [4, 1, 1]));
-    assert!(rt; are_counts(&gate.after, [4, 1, 1]));
-    let replies = str::from_utf8(written.as_slice())?;
-    assert!(rt; replies.lines().count() == 8);
-    assert!(rt; replies.ends_with("session 3\ntrue\nrefused: E18 NoSession\ntrue\ntrue\n"));
-    Ok(())
+    let mut written = Vec::new(alloc);
+    run(rt, alloc, &gate, 3, Pace::Free, text, &mut written).is_ok()
+        && has_counted(&gate)
+        && are_eight(written.as_slice())
+}
+
+// Each worker's calls pass the gate one after the other, numbered over all blocks, and the others do not.
+#[test]
+fn calls_at_the_gate(rt: HostRuntime) {
+    assert!(rt; counts_calls(&rt, rt.alloc()));
 }
 
 // Holds each worker up for a while before its call.
@@ -442,21 +480,19 @@ impl Gate for Slow {
 
 // A line behind a block is called when the block has ended, and so is a block behind a line.
 #[test]
-fn a_block_ends_before_what_follows(rt: HostRuntime) -> Result<(), Fail> {
+fn a_block_ends_before_what_follows(rt: HostRuntime) {
     let text = "@0 session\nisempty 1\n@1 drop 1\nisempty 1\n@1 session\n@1 isempty 2\ndrop 2\n";
     let replies = "session 1\ntrue\nok\nrefused: E18 NoSession\nsession 2\ntrue\nok\n";
     assert!(rt; writes(&rt, rt.alloc(), &Slow, 2, Pace::Free, text, replies));
-    Ok(())
 }
 
 // One worker's thread writes what one thread writes.
 #[test]
-fn rows_of_one_worker(rt: HostRuntime) -> Result<(), Fail> {
+fn rows_of_one_worker(rt: HostRuntime) {
     for (text, replies) in ROWS {
         assert!(rt;
-            writes(&rt, rt.alloc(), &NoGate, 1, Pace::Free, text, replies),
+            writes(&rt, rt.alloc(), &NoGate, 1, Pace::Free, *text, *replies),
             "{text}"
         );
     }
-    Ok(())
 }

@@ -7,14 +7,13 @@ use Rattle.cap_value.specs.declared.refusal.Refusal.TheVariants.{TooMany}
 use Rattle.cap_table.specs.Sound.{IsRising}
 use Rattle.cap_table.specs.Table.{TableState}
 use Rattle.cap_database.specs.Snapshot.{SnapshotState}
-use Rattle.cap_txn.specs.Batch.{refused_push}
 use Rattle.cap_database.specs.Operation.{act, step}
 use Rattle.cap_database.specs.Read.{read, rows_of}
 use Rattle.cap_txn.specs.Standing.{IsStanding, Leaves}
 use Rattle.cap_database.specs.Tables.{EachRises, Tables}
-use Rattle.cap_txn.specs.Workspace.{WorkspaceState, after_back, after_op, after_savepoint, back_at, begin, numbered, op_made, op_unless, refused_savepoint, savepoint_unless, up_to}
+use Rattle.cap_txn.specs.Workspace.{WorkspaceState, after_back, after_op, after_savepoint, back_at, begin, numbered, op_made, refused_savepoint, savepoint_unless, up_to}
 use Rattle.cap_txn.specs.Footprint.{Unchanged, op_items, with_items}
-use Rattle.cap_txn.specs.Calls.{GoesThrough, after_call, after_calls, answer_to, answers_from, done, footprint, items_from, items_of, items_unless, left, mark_answer, row_answer, rows_answer, unless_refused, whole}
+use Rattle.cap_txn.specs.Calls.{GoesThrough, after_call, after_calls, answer_to, answers_from, done, footprint, items_from, items_of, left, mark_answer, row_answer, rows_answer, unless_refused, whole}
 use Rattle.cap_txn.specs.declared.look.Answer.{Answer}
 use Rattle.cap_txn.specs.declared.look.Answer.TheVariants as answer
 use Rattle.cap_txn.specs.declared.look.Asked.{Asked}
@@ -112,16 +111,12 @@ module _ {A : Type 0} where
     made-alike op twins (Ok x) (Err b) never = absurd never
     made-alike op twins (Err a) (Ok y) never = absurd never
 
-    op-alike : (op : Op A) (refused : Option Refusal) → AllByRecursion (LooksSame s.database t.database) (items_unless refused (op_items s.database op)) → AreTwins rest s t
-        → GoesAlike (done (op_unless refused s op)) (done (op_unless refused t op)) (unless_refused s (op_unless refused s op)) (unless_refused t (op_unless refused t op))
-    op-alike op (Some why) looks twins = (refl, twins)
-    op-alike op None looks twins = made-alike op twins (step s.database op) (step t.database op) (step-same acts s.database t.database op rest twins.near looks)
-
     op-goes : (op : Op A) → AreTwins (items_of s (asked.Op op) ++ rest) s t → GoesAlike (answer_to s (asked.Op op)) (answer_to t (asked.Op op)) (after_call s (asked.Op op)) (after_call t (asked.Op op))
     op-goes op twins =
-        subst (λ (refused : Option Refusal). GoesAlike (done (op_unless (refused_push s.ops) s op)) (done (op_unless refused t op)) (unless_refused s (op_unless (refused_push s.ops) s op)) (unless_refused t (op_unless refused t op)))
-        (ap refused_push (sym twins.ops))
-        (op-alike op (refused_push s.ops) (all-parts (LooksSame s.database t.database) (items_of s (asked.Op op)) rest twins.near.looks).0 (fewer-twins (items_of s (asked.Op op)) rest s t twins))
+        let items = op_items s.database op in
+        let less = fewer-twins items rest s t twins in
+        made-alike op less (step s.database op) (step t.database op)
+        (step-same acts s.database t.database op rest less.near (all-parts (LooksSame s.database t.database) items rest twins.near.looks).0)
 
     savepoint-alike : (refused : Option Refusal) → AreTwins rest s t
         → GoesAlike (mark_answer s.made (savepoint_unless refused s)) (mark_answer t.made (savepoint_unless refused t)) (unless_refused s (savepoint_unless refused s)) (unless_refused t (savepoint_unless refused t))
@@ -188,13 +183,9 @@ module _ {A : Type 0} where
 
   -- the base stays
 
-  op-base : (txn : WorkspaceState A) (op : Op A) (refused : Option Refusal) → (unless_refused txn (op_unless refused txn op)).base ≡ txn.base
-  op-base txn op (Some why) = refl
-  op-base txn op None = inner (step txn.database op)
-    where
-      inner : (r : Result (Tables A) Refusal) → (unless_refused txn (op_made txn op r)).base ≡ txn.base
-      inner (Ok next) = refl
-      inner (Err why) = refl
+  op-base : (txn : WorkspaceState A) (op : Op A) (r : Result (Tables A) Refusal) → (unless_refused txn (op_made txn op r)).base ≡ txn.base
+  op-base txn op (Ok next) = refl
+  op-base txn op (Err why) = refl
 
   savepoint-base : (txn : WorkspaceState A) (refused : Option Refusal) → (unless_refused txn (savepoint_unless refused txn)).base ≡ txn.base
   savepoint-base txn (Some why) = refl
@@ -205,7 +196,7 @@ module _ {A : Type 0} where
   back-base txn n (Some s) = refl
 
   pub call-base : (txn : WorkspaceState A) (call : Asked A) → (after_call txn call).base ≡ txn.base
-  call-base txn (asked.Op op) = op-base txn op (refused_push txn.ops)
+  call-base txn (asked.Op op) = op-base txn op (step txn.database op)
   call-base txn (asked.Get name row) = refl
   call-base txn (asked.Scan name) = refl
   call-base txn asked.Savepoint = savepoint-base txn (refused_savepoint txn)
@@ -243,13 +234,9 @@ module _ {A : Type 0} where
   result-made txn (Ok next) rises = rises
   result-made txn (Err why) rises = omega arith
 
-  op-made : (txn : WorkspaceState A) (op : Op A) (refused : Option Refusal) → IfOk (op_unless refused txn op) (λ next. txn.made ≤ next.made)
-  op-made txn op (Some why) = tt
-  op-made txn op None = inner (step txn.database op)
-    where
-      inner : (r : Result (Tables A) Refusal) → IfOk (op_made txn op r) (λ next. txn.made ≤ next.made)
-      inner (Ok next) = omega arith
-      inner (Err why) = tt
+  op-made : (txn : WorkspaceState A) (op : Op A) (r : Result (Tables A) Refusal) → IfOk (op_made txn op r) (λ next. txn.made ≤ next.made)
+  op-made txn op (Ok next) = omega arith
+  op-made txn op (Err why) = tt
 
   savepoint-made : (txn : WorkspaceState A) (refused : Option Refusal) → IfOk (savepoint_unless refused txn) (λ next. txn.made ≤ next.made)
   savepoint-made txn (Some why) = tt
@@ -260,7 +247,7 @@ module _ {A : Type 0} where
   back-made txn n (Some s) = omega arith
 
   call-made : (txn : WorkspaceState A) (call : Asked A) → txn.made ≤ (after_call txn call).made
-  call-made txn (asked.Op op) = result-made txn (after_op txn op) (op-made txn op (refused_push txn.ops))
+  call-made txn (asked.Op op) = result-made txn (after_op txn op) (op-made txn op (step txn.database op))
   call-made txn (asked.Get name row) = omega arith
   call-made txn (asked.Scan name) = omega arith
   call-made txn asked.Savepoint = result-made txn (after_savepoint txn) (savepoint-made txn (refused_savepoint txn))

@@ -4,11 +4,10 @@ use Rattle.std.specs.Prelude.{IfOk, ◌==◌}
 use Rattle.std.specs.List.{AllByRecursion}
 use Rattle.cap_value.specs.declared.refusal.Refusal.{Refusal}
 use Rattle.cap_database.specs.Snapshot.{SnapshotState}
-use Rattle.cap_txn.specs.Batch.{refused_push}
 use Rattle.cap_database.specs.Operation.{changes, step}
 use Rattle.cap_txn.specs.Standing.{AreInOrder, AreNumbered, IsSavepoint, IsStanding, Leaves}
 use Rattle.cap_database.specs.Tables.{Tables}
-use Rattle.cap_txn.specs.Workspace.{WorkspaceState, after_back, after_op, after_savepoint, back_at, begin, numbered, op_made, op_unless, refused_savepoint, savepoint_unless, up_to}
+use Rattle.cap_txn.specs.Workspace.{WorkspaceState, after_back, after_op, after_savepoint, back_at, begin, numbered, op_made, refused_savepoint, savepoint_unless, up_to}
 use Rattle.cap_database.specs.declared.op.Op.{Op}
 use Rattle.cap_txn.specs.declared.savepoint.Savepoint.{Savepoint}
 use Rattle.cap_database.proofs.RunLemmas.{run-push}
@@ -72,7 +71,7 @@ module _ {A : Type 0} where
   }
 
   pub op-stands : (txn : WorkspaceState A) (op : Op A) → IsStanding txn → IfOk (after_op txn op) IsStanding
-  op-stands txn op h = unless (refused_push txn.ops)
+  op-stands txn op h = made (step txn.database op) refl
     where
       made : (r : Result (Tables A) Refusal) → step txn.database op ≡ r → IfOk (op_made txn op r) IsStanding
       made (Err why) is = tt
@@ -82,10 +81,6 @@ module _ {A : Type 0} where
         rising = h.rising;
         numbers = h.numbers;
       }
-
-      unless : (refused : Option Refusal) → IfOk (op_unless refused txn op) IsStanding
-      unless (Some why) = tt
-      unless None = made (step txn.database op) refl
 
   -- ---- a savepoint
 

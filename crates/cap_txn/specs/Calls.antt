@@ -2,7 +2,6 @@
 -- they leave.
 use Rattle.std.specs.Prelude.{◌≡◌, ℕ, Option, Some, None, Result, Ok, Err, List, [], ◌∷◌, ◌++◌}
 use Rattle.cap_database.specs.Snapshot.{SnapshotState}
-use Rattle.cap_txn.specs.Batch.{refused_push}
 use Rattle.cap_row.specs.Fields.{Fields}
 use Rattle.cap_txn.specs.Footprint.{op_items, read_items, with_items}
 use Rattle.cap_database.specs.Read.{read, rows_of}
@@ -57,20 +56,16 @@ module _ {A : Type 0} where
   after_call txn Savepoint = unless_refused txn (after_savepoint txn)
   after_call txn (BackTo mark) = unless_refused txn (after_back txn mark.number)
 
-  abbrev pub items_unless : Option Refusal → List (Item A) → List (Item A)
-  items_unless None items = items
-  items_unless (Some why) items = []
-
-  -- what a call looks at in a database; an operation that is refused as one too many looks at nothing
-  abbrev pub items_at : Tables A → Option Refusal → Asked A → List (Item A)
-  items_at tables refused (Op op) = items_unless refused (op_items tables op)
-  items_at tables refused (Get table row) = read_items tables table (item.Row table row)
-  items_at tables refused (Scan table) = read_items tables table (item.Scan table)
-  items_at tables refused Savepoint = []
-  items_at tables refused (BackTo mark) = []
+  -- what a call looks at in a database
+  abbrev pub items_at : Tables A → Asked A → List (Item A)
+  items_at tables (Op op) = op_items tables op
+  items_at tables (Get table row) = read_items tables table (item.Row table row)
+  items_at tables (Scan table) = read_items tables table (item.Scan table)
+  items_at tables Savepoint = []
+  items_at tables (BackTo mark) = []
 
   abbrev pub items_of : WorkspaceState A → Asked A → List (Item A)
-  items_of txn call = items_at txn.database (refused_push txn.ops) call
+  items_of txn call = items_at txn.database call
 
   -- ---- one after another
 

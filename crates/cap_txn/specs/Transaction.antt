@@ -1,5 +1,5 @@
 -- A transaction: what stands of it, what it looked at, and its calls with their answers.
-use Rattle.std.specs.Prelude.{◌≡◌, ℕ, ◌<◌, ⊤, Option, Some, Result, Ok, Err, List, [], ◌∷◌, ◌++◌, map}
+use Rattle.std.specs.Prelude.{◌≡◌, ℕ, ◌<◌, ⊤, Option, Some, None, Result, Ok, Err, List, [], ◌∷◌, ◌++◌, map}
 use Rattle.std.specs.List.{AllByRecursion}
 use Rattle.cap_value.specs.Memory.{AnswersUnlessMemory}
 use Rattle.cap_value.specs.declared.memory.Fault.{Fault}
@@ -52,6 +52,12 @@ module _ {A : Type 0} where
   IsAnswered form (Err (fault.Refused why)) call old new =
       (answer.Refused why ≡ answer_to old.standing call) × (new ≡ traced old call)
   IsAnswered form (Err fault.OutOfMemory) call old new = new ≡ old
+
+  -- The same of a call that may be refused beforehand, which then leaves all as before and is not of the trace.
+  abbrev pub IsAnsweredUnless : {X : Type 0} → Option Refusal → (X → Answer A) → Result X (Fault Refusal)
+      → Asked A → TxnState A → TxnState A → Type 0
+  IsAnsweredUnless None form result call old new = IsAnswered form result call old new
+  IsAnsweredUnless (Some why) form result call old new = (result ≡ Err (fault.Refused why)) × (new ≡ old)
 
   abbrev pub calls_of : List (Look A) → List (Asked A)
   calls_of trace = map (λ look. look.call) trace

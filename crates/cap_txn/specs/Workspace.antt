@@ -8,7 +8,6 @@ use Rattle.cap_database.specs.Operation.{step}
 use Rattle.cap_database.specs.Snapshot.{SnapshotState}
 use Rattle.cap_database.specs.Tables.{Tables}
 use Rattle.cap_database.specs.declared.op.Op.{Op}
-use Rattle.cap_txn.specs.Batch.{refused_push}
 use Rattle.cap_txn.specs.declared.savepoint.Savepoint.{Savepoint}
 
 -- savepoints stand the oldest first; so many were made, the undone ones too
@@ -29,13 +28,9 @@ module _ {A : Type 0} where
   op_made txn op (Ok next) = Ok (record txn { database = next; ops = txn.ops ++ op ∷ [] })
   op_made txn op (Err why) = Err why
 
-  abbrev pub op_unless : Option Refusal → WorkspaceState A → Op A → Result (WorkspaceState A) Refusal
-  op_unless (Some why) txn op = Err why
-  op_unless None txn op = op_made txn op (step txn.database op)
-
   -- one operation more, on what stands
   abbrev pub after_op : WorkspaceState A → Op A → Result (WorkspaceState A) Refusal
-  after_op txn op = op_unless (refused_push txn.ops) txn op
+  after_op txn op = op_made txn op (step txn.database op)
 
   -- at most 10,000 savepoints are made
   abbrev pub refused_savepoint : WorkspaceState A → Option Refusal

@@ -22,7 +22,7 @@ pub struct Batch<A: AllocHandle> {
 }
 
 impl<A: AllocHandle> Model for Batch<A> {
-    ghost use Rattle.std.specs.Prelude.{◌≤◌, length};
+    ghost use Rattle.std.specs.Prelude.{◌≡◌, ◌≤◌, None, length};
     ghost use Rattle.cap_txn.specs.Batch.{BatchState, WhereSeen};
     ghost use Rattle.cap_txn.specs.Stale.{StandsFor};
 
@@ -30,7 +30,7 @@ impl<A: AllocHandle> Model for Batch<A> {
 
     ghost view = { λ b. record { base = b.base; ops = b.ops.items; seen = b.seen } };
 
-    ghost invariant = { λ b. (length b.ops.items ≤ 10000)
+    ghost invariant = { λ b. (b.seen ≡ None → length b.ops.items ≤ 10000)
         × WhereSeen b.base b.seen (StandsFor b.ops.items) };
 }
 
@@ -59,7 +59,6 @@ impl<A: AllocHandle> Batch<A> {
 
     // The batch of a transaction.
     pub(crate) fn of_ops(version: u64, ops: Vec<Op<A>, A>, seen: Seen<A>) -> Self
-        requires few { length ops.items ≤ OPS_MAX }
         requires stands { StandsFor ops.items version seen }
         ensures { result ≡ record { base = Some version; ops = ops.items; seen = Some seen } }
     {
@@ -88,10 +87,10 @@ impl<A: AllocHandle> Batch<A> {
         Ok(())
     }
 
-    /// The operations, in order.
+    /// The operations, in order: at most `OPS_MAX` unless a transaction made the batch.
     pub fn ops(&self) -> &[Op<A>]
         ensures ops { result.now ≡ self.now.ops }
-        ensures few { length self.now.ops ≤ OPS_MAX }
+        ensures few { self.now.seen ≡ None → length self.now.ops ≤ OPS_MAX }
     {
         self.ops.as_slice()
     }

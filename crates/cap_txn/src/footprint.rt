@@ -4,7 +4,6 @@ ghost use Rattle.std.specs.Prelude.{if◌then◌else◌};
 ghost use Rattle.cap_row.specs.Key.{key_of};
 ghost use Rattle.cap_row.specs.Row.{are_columns, columns_of, row_with};
 ghost use Rattle.cap_table.specs.Operation.{row_of};
-ghost use Rattle.cap_value.specs.declared.refusal.Refusal.TheVariants.{TooMany};
 ghost use Rattle.cap_txn.specs.Calls.{items_at};
 ghost use Rattle.cap_txn.specs.Footprint.{action_items, moved_items, op_items, place_items, read_items};
 ghost use Rattle.cap_txn.specs.Footprint.{updated_items};
@@ -15,23 +14,16 @@ use cap_row::{Key, Row, are_columns, key_of};
 use cap_table::{RowRef, Table};
 use cap_value::{AllocHandle, Fault, Name, OutOfMemory};
 
-// What a call looks at in a database, in order. An operation that is one too many looks at nothing.
+// What a call looks at in a database, in order.
 pub(crate) fn items_at<A: AllocHandle>(
     alloc: A,
     database: &Database<A>,
-    is_full: bool,
     call: &Asked<A>,
 ) -> Result<Vec<Item<A>, A>, OutOfMemory>
-    ensures { IfOk result (λ items. items.items
-        ≡ items_at database.now (if is_full then Some TooMany else None) call.now) }
+    ensures { IfOk result (λ items. items.items ≡ items_at database.now call.now) }
 {
     match call {
-        Asked::Op(op) => {
-            if is_full {
-                return Ok(Vec::new(alloc));
-            }
-            op_items(alloc, database, op)
-        }
+        Asked::Op(op) => op_items(alloc, database, op),
         Asked::Get(name, row) => {
             let item = Item::Row(name.copy()?, row.copy()?);
             read_items(alloc, database, name, item)

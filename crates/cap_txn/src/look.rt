@@ -7,7 +7,7 @@ use cap_value::{AllocHandle, Name, Refusal};
 
 /// A call of a transaction.
 pub enum Asked<A: AllocHandle> {
-    /// `Txn::op`.
+    /// `Txn::op` or `Txn::op_without_limit`.
     Op(Op<A>),
     /// `Txn::get` of a row of a table.
     Get(Name<A>, RowRef<A>),

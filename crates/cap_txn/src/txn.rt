@@ -1,10 +1,11 @@
 //! Transactions.
 ghost use Rattle.std.specs.Prelude.{◌≡◌, ◌∷◌, [], ◌++◌, IfOk, OnErr, OnOk};
 ghost use Rattle.cap_database.specs.Read.{read, rows_of};
+ghost use Rattle.cap_txn.specs.Batch.{refused_push};
 ghost use Rattle.cap_txn.specs.Calls.{items_of, row_answer, rows_answer};
 ghost use Rattle.cap_txn.specs.Footprint.{with_items};
 ghost use Rattle.cap_txn.specs.Standing.{IsStanding};
-ghost use Rattle.cap_txn.specs.Transaction.{IsAnswered, IsNewMark, IsTraced, ReadsStanding};
+ghost use Rattle.cap_txn.specs.Transaction.{IsAnswered, IsAnsweredUnless, IsNewMark, IsTraced, ReadsStanding};
 ghost use Rattle.cap_txn.specs.Transaction.{batch_of, begin_traced, handed_on};
 ghost use Rattle.cap_txn.specs.declared.look.Answer.{Answer};
 ghost use Rattle.cap_txn.specs.declared.look.Asked.{Asked};
@@ -66,10 +67,22 @@ impl<A: AllocHandle> Txn<A> {
         let _standing = &self.standing;
     }
 
-    /// Makes an operation on what stands. Refused with `TooMany` where `OPS_MAX` operations stand, and then
-    /// as the operation itself. The call is the last of the trace, also where it is refused. When out of
-    /// memory, the transaction is as before.
+    /// Makes an operation on what stands. Refused with `TooMany` where `OPS_MAX` operations stand: then the
+    /// transaction is as before, without the call. Else as `op_without_limit`.
     pub fn op(&mut self, op: Op<A>) -> Result<(), Fault<Refusal>>
+        ensures { IsAnsweredUnless (refused_push self.old.standing.ops) (λ _. Answer.Done) result
+            (Asked.Op op) self.old self.new }
+    {
+        if self.standing.is_full() {
+            return Err(Fault::Refused(Refusal::TooMany));
+        }
+        self.op_without_limit(op)
+    }
+
+    /// Makes an operation on what stands, however many stand: for who makes a transaction of what was done
+    /// elsewhere, as an application. Refused as the operation itself. The call is the last of the trace, also
+    /// where it is refused. When out of memory, the transaction is as before.
+    pub fn op_without_limit(&mut self, op: Op<A>) -> Result<(), Fault<Refusal>>
         ensures { IsAnswered (λ _. Answer.Done) result (Asked.Op op) self.old self.new }
     {
         let call = Asked::Op(copy_of_op(self.alloc, &op)?);
@@ -261,7 +274,7 @@ fn items_of<A: AllocHandle>(
 ) -> Result<Vec<Item<A>, A>, OutOfMemory>
     ensures { IfOk result (λ items. items.items ≡ items_of standing.now call.now) }
 {
-    items_at(alloc, standing.database(), standing.is_full(), call)
+    items_at(alloc, standing.database(), call)
 }
 
 fn handed_on<T>(found: Result<T, Refusal>) -> Result<T, Fault<Refusal>>

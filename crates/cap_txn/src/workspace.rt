@@ -1,5 +1,5 @@
 //! What stands of a transaction.
-ghost use Rattle.std.specs.Prelude.{◌≡◌, ◌<◌, ◌≤◌, ◌+◌, Some, None, length, take, slice_index_or};
+ghost use Rattle.std.specs.Prelude.{◌≡◌, ◌<◌, ◌+◌, Some, None, length, take, slice_index_or};
 ghost use Rattle.std.specs.Prelude.{MatchOption, IfOk, OnErr, if◌then◌else◌};
 ghost use Rattle.std.specs.Result.{result_err};
 ghost use Rattle.cap_value.specs.Memory.{LeavesUnlessMemory, RefusesFirst};
@@ -36,7 +36,6 @@ pub(crate) struct Workspace<A: AllocHandle> {
 }
 
 impl<A: AllocHandle> Model for Workspace<A> {
-    ghost use Rattle.std.specs.Prelude.{◌≤◌, length};
     ghost use Rattle.cap_txn.specs.Workspace.{WorkspaceState};
 
     ghost Value = { WorkspaceState A };
@@ -48,8 +47,6 @@ impl<A: AllocHandle> Model for Workspace<A> {
       savepoints = t.savepoints.items;
       made = t.made;
     } };
-
-    ghost invariant = { λ t. length t.ops.items ≤ 10000 };
 }
 
 impl<A: AllocHandle> Workspace<A> {
@@ -66,16 +63,12 @@ impl<A: AllocHandle> Workspace<A> {
         })
     }
 
-    // Makes an operation on what stands. Refused with `TooMany` where `OPS_MAX` operations stand, and then as
-    // the operation itself. On an error the transaction is as before.
+    // Makes an operation on what stands, or is refused as the operation itself. On an error the transaction is
+    // as before.
     pub(crate) fn op(&mut self, op: Op<A>) -> Result<(), Fault<Refusal>>
         ensures txn { LeavesUnlessMemory result (after_op self.old op) self.new }
         ensures kept { OnErr result (self.new ≡ self.old) }
-        ensures first { RefusesFirst (refused_push self.old.ops) result }
     {
-        if self.ops.len() >= OPS_MAX {
-            return Err(Fault::Refused(Refusal::TooMany));
-        }
         self.ops.reserve(1)?;
         self.database.step(&op)?;
         let Ok(()) = self.ops.push(op) else {
@@ -160,7 +153,7 @@ impl<A: AllocHandle> Workspace<A> {
         &self.database
     }
 
-    // Whether one operation more is refused.
+    // Whether an operation more is one too many.
     pub(crate) fn is_full(&self) -> bool
         ensures { refused_push self.now.ops ≡ (if result then Some TooMany else None) }
     {
@@ -170,7 +163,6 @@ impl<A: AllocHandle> Workspace<A> {
     // The snapshot, and the operations that stand. It takes no memory.
     pub(crate) fn into_left(self) -> Left<A>
         ensures left { (result.base ≡ self.base) × (result.ops.items ≡ self.ops) }
-        ensures few { length result.ops.items ≤ OPS_MAX }
     {
         let Workspace {
             base,

@@ -1,6 +1,9 @@
 //! Commands on files.
 use cap_codec::{Contents, read_blob};
 use cap_command_line::{Asked, Options};
+use cap_console::{
+    TableColumns, named_json, named_sql, named_text, other_width, table_columns, with_sizes,
+};
 use cap_files::{FileBlob, FileForm, around, file_blob, file_text, summary};
 use cap_run::{
     BlobListFault, Combination, Conversion, Encoding, Form, RunFault, combine_blobs, convert_blob,
@@ -17,6 +20,8 @@ use std::{fs, io};
 pub enum FileFault {
     // A file is refused, or cannot be read or written: a line that names it.
     Refused(String),
+    // The words for an option are refused: a line that names them.
+    Misused(String),
     // Standard output cannot be written, or memory ran out.
     Failed,
 }
@@ -133,7 +138,8 @@ fn checked(alloc: Global, name: &str, bytes: &[u8]) -> Result<String, FileFault>
 
 fn summarized(alloc: Global, name: &str, bytes: &[u8]) -> Result<String, FileFault> {
     let contents = contents_of(alloc, name, bytes)?;
-    Ok(summary(alloc, &contents)?)
+    let lines = summary(alloc, &contents)?;
+    Ok(with_sizes(alloc, lines.as_str(), bytes, &contents)?)
 }
 
 // What is said of each blob.
@@ -156,17 +162,80 @@ fn looked_at(
     Ok(text)
 }
 
+// How a blob is shown.
+#[derive(Drop)]
+struct Manner {
+    form: Form,
+    is_lines: bool,
+    columns: Vec<TableColumns>,
+}
+
+// The words of `--columns`.
+fn columns(alloc: Global, words: &[String]) -> Result<Vec<TableColumns>, FileFault> {
+    let mut all = Vec::new(alloc);
+    for word in words {
+        let Some(one) = table_columns(alloc, word.as_str())? else {
+            let line = format!(in alloc;
+                "error: --columns {word}: not T=NAME,.. with different names"
+            )?;
+            return Err(FileFault::Misused(line));
+        };
+        if all.push(one).is_err() {
+            return Err(FileFault::Failed);
+        }
+    }
+    Ok(all)
+}
+
 fn shown(
     alloc: Global,
     name: &str,
     blob: &FileBlob<Global>,
-    form: Form,
+    manner: &Manner,
 ) -> Result<Vec<u8>, FileFault> {
     let mut text = Vec::new(alloc);
     let mut bytes = blob.bytes.as_slice();
-    match show_blob(alloc, form, Encoding::Binary, &mut bytes, &mut text) {
-        Ok(()) => Ok(text),
-        Err(fault) => Err(refused_run(alloc, name, fault)),
+    match show_blob(alloc, manner.form, Encoding::Binary, &mut bytes, &mut text) {
+        Ok(()) => {}
+        Err(fault) => return Err(refused_run(alloc, name, fault)),
+    }
+    if !manner.columns.is_empty() {
+        return with_names(alloc, name, blob, manner, text.as_slice());
+    }
+    if manner.is_lines {
+        return Ok(named_json(alloc, text.as_slice(), &[], true)?);
+    }
+    Ok(text)
+}
+
+// What is shown of a blob, of which this is the text without names, with names for its columns.
+fn with_names(
+    alloc: Global,
+    name: &str,
+    blob: &FileBlob<Global>,
+    manner: &Manner,
+    text: &[u8],
+) -> Result<Vec<u8>, FileFault> {
+    let contents = contents_of(alloc, name, blob.bytes.as_slice())?;
+    let all = manner.columns.as_slice();
+    if let Some(other) = other_width(all, &contents) {
+        let (table, columns, names) = (other.table, other.columns, other.names);
+        let why = format!(in alloc;
+            "table {table} has {columns} columns, and --columns has {names} names"
+        )?;
+        return Err(refused(alloc, name, why.as_str()));
+    }
+    match manner.form {
+        Form::Text => Ok(named_text(alloc, &contents, all)?.into_bytes()),
+        Form::Json => Ok(named_json(alloc, text, all, manner.is_lines)?),
+        Form::Sql => Ok(renamed_sql(alloc, text, all)?),
+    }
+}
+
+fn renamed_sql(alloc: Global, text: &[u8], all: &[TableColumns]) -> Result<Vec<u8>, AllocError> {
+    match str::from_utf8(text) {
+        Ok(sql) => Ok(named_sql(alloc, sql, all)?.into_bytes()),
+        Err(_) => Err(AllocError),
     }
 }
 
@@ -242,19 +311,27 @@ fn combined(
 // What the command makes of the files.
 fn made<R: Files + Input + AllocGlobal>(
     rt: &R,
-    options: Options,
+    asked: &Asked,
     names: &[String],
 ) -> Result<Vec<u8>, FileFault> {
     let alloc = rt.alloc();
+    let columns = columns(alloc, asked.manner.columns.as_slice())?;
     let blobs = blobs_in(rt, names)?;
     let (Some(name), Some(blob)) = (names.first(), blobs.first()) else {
         return Err(FileFault::Failed);
     };
     let name = name.as_str();
-    match options {
+    match asked.options {
         Options::Check => looked_at(alloc, names, blobs.as_slice(), false),
         Options::Summary => looked_at(alloc, names, blobs.as_slice(), true),
-        Options::Show { form, encoding: _ } => shown(alloc, name, blob, form),
+        Options::Show { form, .. } => {
+            let manner = Manner {
+                form,
+                is_lines: asked.manner.is_lines,
+                columns,
+            };
+            shown(alloc, name, blob, &manner)
+        }
         Options::Convert(conversion) => converted(alloc, name, blob, conversion),
         Options::Combine(combination) => combined(alloc, names, blobs.as_slice(), combination),
         Options::Run { .. } | Options::Shell => Err(FileFault::Failed),
@@ -292,9 +369,9 @@ pub fn with_files<R: Files + Input + Print + AllocGlobal>(
 ) -> Result<(), FileFault> {
     let made = if asked.files.is_empty() {
         let input = [String::from_str(rt.alloc(), "-")?];
-        made(rt, asked.options, input.as_slice())?
+        made(rt, asked, input.as_slice())?
     } else {
-        made(rt, asked.options, asked.files.as_slice())?
+        made(rt, asked, asked.files.as_slice())?
     };
     match &asked.output {
         Some(name) => write_file(rt, name.as_str(), made.as_slice()),

@@ -274,6 +274,31 @@ class Server:
         """Saves the tables under a name, for `Session.diff`."""
         self._client().save(database)
 
+    def load(self, blob: Blob) -> Report:
+        """Creates the tables of a blob, and applies it to them: what `Snapshot.dump` wrote of one server and is loaded
+        into another gives the same tables. Refused where one of its tables is there already, or a change is no insert
+        of a new row, and then nothing is made.
+
+        >>> with Server() as server, Server() as copy:
+        ...     server.create_table("t", [True, False])
+        ...     server.commit(("insert", "t", (1, "x")))
+        ...     copy.load(server.snapshot().dump("t")).applied
+        ...     copy.get("t", (1,)).values
+        ...     copy.snapshot().dump("t") == server.snapshot().dump("t")
+        1
+        2
+        1
+        (1, 'x')
+        True
+        """
+        try:
+            return Report(*self._client().load(blob))
+        except Refused as refused:
+            if refused.at is None:
+                raise
+            change = next(islice(iterate(blob), refused.at, None), None)
+            raise Refused(refused.kind, refused.at, change=change) from None
+
     def apply(self, blob: Blob, data: int = ABORT, notfound: int = ABORT, conflict: int | Decide = ABORT,
               rebase: bool = False, filter: str | Callable[[str], bool] | None = None, tries: int = 100) -> Report:
         """Applies a changeset or a patchset, with an answer where a row differs, where it is missing, and where its
@@ -284,7 +309,7 @@ class Server:
         the row that is there. With it, or with a filter, which is a text or a function of the name of a table, the
         blob is applied to a snapshot and committed as a transaction that looked at each row that a change names: no
         call of another thread comes between. It is applied again where one of those has changed, as often as `tries`
-        says in all, and at most 10,000 rows change.
+        says in all.
 
         >>> import changecap
         >>> with Server() as server:
@@ -569,6 +594,12 @@ class Snapshot:
     def scan_from(self, table: str, key: Sequence[Given], limit: int = _ALL) -> list[Row]:
         """The rows with a key that is not below the given one, at most `limit` of them."""
         return self._handle.scan_from(table, key, limit)
+
+    def dump(self, *tables: str, key_flags: int = KEYS_PLACES) -> bytes:
+        """These tables as one changeset, with an insert for each row that has a key, for `Server.load`. A table
+        without rows is in it; a table without key columns and a row without a key are not."""
+        flags = _key_flags(key_flags)
+        return b"".join(self._handle.dump(table, flags) for table in tables)
 
     def close(self) -> None:
         """Frees what the snapshot alone has. Closing it again does nothing."""

@@ -1,5 +1,5 @@
 -- The outcome of a command that asks a commit hook.
-use Rattle.std.specs.Prelude.{◌≡◌, ◌+◌, Result, Ok, Err, IsOk}
+use Rattle.std.specs.Prelude.{◌≡◌, ◌+◌, Result, Ok, Err, IsOk, []}
 use Rattle.cap_value.specs.Memory.{MatchFault}
 use Rattle.cap_value.specs.declared.memory.Fault.{Fault}
 use Rattle.cap_table.specs.NotMade.{MatchNotMade}
@@ -27,7 +27,7 @@ module _ {A S E : Type 0} (gives : S → Reply A → Result Unit E → S → Typ
   ReportsStep op old new before after (Ok answered) =
       (answered ≡ Written (old.version + 1)) × gives before (Written (old.version + 1)) (Ok tt) after
       × ((left : Tables A) × (step old.main op ≡ Ok left)
-      × (new ≡ written old left (changes old.main op)))
+      × (new ≡ written old left (changes old.main op) []))
   ReportsStep op old new before after (Err fault) =
       (new ≡ old) × MatchNotMade fault (λ why. (step old.main op ≡ Err why) × (after ≡ before))
       (after ≡ before)

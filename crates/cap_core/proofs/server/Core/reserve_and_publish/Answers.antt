@@ -9,7 +9,7 @@ invariant_of-self-2 g c =
     let inside = c.self.inside in
     let tables = c.args.tables in
     let kept : KeepsColumns inside.main tables = subst (λ (s : State g.row.A.Denot). KeepsColumns s.main tables) (sym c.self.view_is) c.requires.kept in
-    let all = record_commit_each-stand inside.main tables c.rows_stand.ensures kept c.args.changes.now inside.sessions.live c.self.invariant.2 in (
+    let all = record_commit_each-stand inside.main tables c.rows_stand.ensures kept c.args.changes.now c.args.quiet.now inside.sessions.live c.self.invariant.2 in (
       omega (arith, c.self.invariant.0),
       omega (arith, c.self.invariant.1),
       ap (sessions_stand tables) (c.publish.ensures.published ∙ c.in_ok-stage_commit.ensures.staged) ∙ all,

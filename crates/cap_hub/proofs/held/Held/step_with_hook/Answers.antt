@@ -1,7 +1,7 @@
 use Rattle.std.proofs.Common.{◌∙◌, All, subst, sym}
 use Rattle.logbook.specs.Pages.{Book}
 use Rattle.cap_hub.specs.Code.Held.{IsFree}
-use Rattle.cap_hub.proofs.Hooks.{caused_after_some, left_after_some}
+use Rattle.cap_locked.proofs.Hooks.{caused_after_some, left_after_some}
 use Rattle.cap_hub.proofs.held.Held.step_with_hook.Goals as goal
 
 pub invariant_of-self : goal.invariant_of-self

@@ -1,0 +1,4 @@
+mod RowLemmas
+mod LoadLemmas
+mod SpelledLemmas
+mod WayLemmas

@@ -1,5 +1,0 @@
-//! Tests of clients of one history.
-#![tactic(auto)]
-
-#[cfg(test)]
-mod hubs;
