@@ -191,6 +191,9 @@ class Maker:
     def databases(self):
         self.add(self.pick(("databases", "databases", f"dropdatabase {self.pick(('old', 'older'))}")))
 
+    def list_or_dump(self):
+        self.add(self.pick(("tables", "dump", "dump places")))
+
     def diff(self):
         saved = sorted(self.server.saved) if self.server.saved and self.chance(0.9) else ("old", "older")
         self.add(f"diff {self.session()} {self.pick(saved)} {self.table()}")
@@ -221,7 +224,7 @@ class Maker:
         """One line of any kind."""
         weights = {self.commit: 45, self.commit_at: 2, self.apply: 9, self.capture: 8, self.ask: 4, self.set_flag: 8,
                    self.attach: 6, self.filter: 3, self.new_session: 3, self.save: 2, self.databases: 1,
-                   self.diff: 4, self.create: 3, self.restart: 3, self.read: 6, self.drop: 1}
+                   self.list_or_dump: 1, self.diff: 4, self.create: 3, self.restart: 3, self.read: 6, self.drop: 1}
         self.random.choices(list(weights), list(weights.values()))[0]()
 
     def finish(self):

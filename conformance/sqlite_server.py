@@ -312,6 +312,35 @@ class SqliteServer:
         lines = [row_text(row) for row in keyed] + [f"loose {number} {row_text(row)}" for number, row in loose]
         return [f"rows {len(lines)}"] + lines
 
+    def do_tables(self):
+        lines = [f"tables {len(self.tables)}"]
+        for name, table in sorted(self.tables.items()):
+            keyed, loose = self.rows(name)
+            shape = "".join("k" if column in table.key else "v" for column in range(table.width))
+            lines.append(f"{quoted(name)} {shape} keyed {len(keyed)} loose {len(loose)}")
+        return lines
+
+    def do_dump(self, has_places):
+        """What SQLite's diff finds of each table beside one without rows."""
+        self.connection.execute("ATTACH ':memory:' AS blank")
+        try:
+            content = b"".join(self.dumped(table) for _, table in sorted(self.tables.items()) if table.key)
+        finally:
+            self.connection.execute("DETACH blank")
+        return self.capture("changeset", content, has_places)
+
+    def dumped(self, table):
+        """A table as a changeset. SQLite writes no group without changes: there it is the header alone."""
+        self.connection.execute(table.sql("blank"))
+        session = self.connection.session()
+        try:
+            session.attach(table.name)
+            session.diff("blank", table.name)
+            flags = bytes(table.key.index(column) + 1 if column in table.key else 0 for column in range(table.width))
+            return session.changeset() or blob.write([blob.Group(blob.CHANGESET, flags, table.name, [])])
+        finally:
+            session.delete()
+
     def do_save(self, name):
         """The tables are copied into an attached database, which is what SQLite's diff compares with."""
         database = f"saved_{name}"

@@ -167,9 +167,12 @@ def ops_of(tokens):
     return ops
 
 
+def has_places(tokens):
+    return not tokens.is_done() and tokens.word("places") == "places"
+
+
 def capture_of(tokens):
-    number = tokens.number()
-    return number, not tokens.is_done() and tokens.word("places") == "places"
+    return tokens.number(), has_places(tokens)
 
 
 def application_of(tokens):
@@ -195,6 +198,8 @@ FORMS = {
     "save": lambda tokens: (tokens.word(),),
     "dropdatabase": lambda tokens: (tokens.word(),),
     "databases": lambda tokens: (),
+    "tables": lambda tokens: (),
+    "dump": lambda tokens: (has_places(tokens),),
     "sessions": lambda tokens: (),
     "session": lambda tokens: (),
     "drop": lambda tokens: (tokens.number(),),

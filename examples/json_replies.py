@@ -109,6 +109,12 @@ def session_text(session):
                      *map(name_text, session["tables"])])
 
 
+def table_text(table):
+    if list(table) != ["table", "columns", "keyed", "loose"]:
+        raise ValueError(f"{table!r} is no table")
+    return f"{name_text(table['table'])} {table['columns']} keyed {table['keyed']} loose {table['loose']}"
+
+
 def listed(word, items, text_of_item):
     return "\n".join([f"{word} {len(items)}", *map(text_of_item, items)])
 
@@ -134,6 +140,8 @@ def text_of(members, command):
         return listed("databases", members.take("databases", list), name_text)
     if kind == "sessions":
         return listed("sessions", members.objects("sessions"), session_text)
+    if kind == "tables":
+        return listed("tables", members.objects("tables"), table_text)
     if kind == "flag":
         is_on = members.take("flag", bool)
         return str(is_on).lower() if command.split()[0] == "isempty" else on_text(is_on)

@@ -15,7 +15,7 @@ from server import Server
 
 WORKER = re.compile(r" *@([0-9]+) ")
 # The first line of a reply that says how many lines follow.
-COUNTED = re.compile(r"(?:rows|sessions|databases) ([0-9]+)$")
+COUNTED = re.compile(r"(?:rows|sessions|databases|tables) ([0-9]+)$")
 MOST_STEPS = 200_000
 
 

@@ -75,6 +75,12 @@ def quoted(name):
     return '"' + name.replace('"', '""') + '"'
 
 
+def marks_of(flags, places):
+    """The key flags of a group: positions within the key, or ones."""
+    numbers = [sum(flags[:column + 1]) if flag else 0 for column, flag in enumerate(flags)]
+    return bytes(numbers if places else map(bool, flags))
+
+
 @dataclass
 class Record:
     """What a session has of a key: the row before its first touch, or None, and whether all touches were indirect."""
@@ -209,6 +215,22 @@ class Server:
         lines = [("" if number is None else f"loose {number} ") + row_text(values) for number, values in rows]
         return "\n".join([f"rows {len(rows)}", *lines])
 
+    def do_tables(self):
+        lines = [f"tables {len(self.tables)}"]
+        for name, table in sorted(self.tables.items(), key=lambda it: it[0].encode()):
+            shape = "".join("k" if flag else "v" for flag in table.flags)
+            lines.append(f"{quoted(name)} {shape} keyed {len(table.rows)} loose {len(table.loose)}")
+        return "\n".join(lines)
+
+    def do_dump(self, places):
+        groups = []
+        for name, table in sorted(self.tables.items(), key=lambda it: it[0].encode()):
+            if any(table.flags):
+                inserts = [change_of(Record(None, False), table.rows[key], table.flags, INSERT)
+                           for key in sorted(table.rows, key=in_order)]
+                groups.append(blob.Group(blob.CHANGESET, marks_of(table.flags, places), name, inserts))
+        return f"changeset {blob.write(groups).hex() or '-'}"
+
     def do_save(self, name):
         if name not in self.saved and len(self.saved) == LIMITS["saved"]:
             raise Refusal(10)
@@ -308,8 +330,7 @@ class Server:
         groups = []
         for name, records in self.captured(number):
             flags = self.tables[name].flags if name in self.tables else ()
-            numbers = [sum(flags[:column + 1]) if flag else 0 for column, flag in enumerate(flags)]
-            marks = bytes(numbers if places else map(bool, flags))
+            marks = marks_of(flags, places)
             changes = [change_of(record, now, flags, what) for _, record, now, what in records if what]
             if changes:
                 groups.append(blob.Group(blob.CHANGESET, marks, name, changes))

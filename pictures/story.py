@@ -4,7 +4,7 @@ from dataclasses import dataclass, field
 from server import Server
 from workload import row_text, value_text
 
-READS = "get", "scan", "isempty", "sessions", "databases"
+READS = "get", "scan", "isempty", "sessions", "databases", "tables"
 CAPTURES = "changeset", "patchset", "restart"
 WRITES = "create", "commit", "commitat", "apply", "applyquiet"
 

@@ -105,6 +105,8 @@ Tables:
   commitat N OP ..    commit one that was made on version N: commitat 2 insert t (1,'x')
   get T REF           read a row: get t key(1)
   scan T              read all rows: scan t
+  tables              list the tables, with their columns and how many rows they have
+  dump                print all tables as one changeset, which makes them of nothing
   save B              save all tables under a name: save old
   databases           list what is saved
   dropdatabase B      drop a saved database: dropdatabase old

@@ -22,10 +22,13 @@ use Rattle.cap_core.proofs.quiet.QuietSessions.TheSendSync as quiet
 use Rattle.cap_core.specs.contracts.capture.Capture as Capture
 use Rattle.cap_core.specs.contracts.server.Core as Core
 use Rattle.cap_core.specs.contracts.command.Command as Command
+use Rattle.cap_core.specs.contracts.dump.Dump as Dump
 use Rattle.cap_core.specs.contracts.listed_session.ListedSession as ListedSession
+use Rattle.cap_core.specs.contracts.listed_table.ListedTable as ListedTable
 use Rattle.cap_core.specs.contracts.names.NameList as NameList
 use Rattle.cap_core.specs.contracts.reply.Reply as Reply
 use Rattle.cap_core.specs.contracts.session_list.SessionList as SessionList
+use Rattle.cap_core.specs.contracts.table_list.TableList as TableList
 
 ruleset sends = (name.the_send, schema.the_send, batch_send, contents.the_field_send, policy.the_field_send, quiet.the_send, filter_send, sendable)
 
@@ -82,7 +85,13 @@ module _ (A : RattleType) (h : handle.Ghosts A.Denot) (a : allocator.Ghosts A.De
                                     search sends depth 20,
                                     (
                                       search sends depth 20,
-                                      (search sends depth 20, tt),
+                                      (
+                                        search sends depth 20,
+                                        (
+                                          search sends depth 20,
+                                          (search sends depth 20, tt),
+                                        ),
+                                      ),
                                     ),
                                   ),
                                 ),
@@ -142,7 +151,13 @@ module _ (A : RattleType) (h : handle.Ghosts A.Denot) (a : allocator.Ghosts A.De
                                     search syncs depth 20,
                                     (
                                       search syncs depth 20,
-                                      (search syncs depth 20, tt),
+                                      (
+                                        search syncs depth 20,
+                                        (
+                                          search syncs depth 20,
+                                          (search syncs depth 20, tt),
+                                        ),
+                                      ),
                                     ),
                                   ),
                                 ),
@@ -190,8 +205,98 @@ module _ (A : RattleType) (h : handle.Ghosts A.Denot) (a : allocator.Ghosts A.De
   sessions_listed_sync : IsSync (SessionList.the_row A a)
   sessions_listed_sync = search (listed_sync, sendable, crosses) depth 20
 
+  listed_table_send : IsSend (ListedTable.the_row A a)
+  listed_table_send = search (name.the_send, schema.the_send, sendable) depth 20
+
+  listed_table_sync : IsSync (ListedTable.the_row A a)
+  listed_table_sync = search (name.the_sync, schema.the_sync, sendable) depth 20
+
+  tables_listed_send : IsSend (TableList.the_row A a)
+  tables_listed_send = search (listed_table_send, sendable, crosses) depth 20
+
+  tables_listed_sync : IsSync (TableList.the_row A a)
+  tables_listed_sync = search (listed_table_sync, sendable, crosses) depth 20
+
+  dump_send : IsSend (Dump.the_row A h a c)
+  dump_send = search (snapshot_send, sendable) depth 40 fits 100000
+
+  dump_sync : IsSync (Dump.the_row A h a c)
+  dump_sync = search (snapshot_sync, sendable) depth 40 fits 100000
+
+  reply_variants_send : EachSend (variants (Reply.the_type A h a c))
+  reply_variants_send = (
+    search (report.the_send, snapshot_send, capture_send, names_send, sessions_listed_send, tables_listed_send, dump_send, refusal.the_field_send, sendable) depth 40 fits 100000,
+    (
+      search (report.the_send, snapshot_send, capture_send, names_send, sessions_listed_send, tables_listed_send, dump_send, refusal.the_field_send, sendable) depth 40 fits 100000,
+      (
+        search (report.the_send, snapshot_send, capture_send, names_send, sessions_listed_send, tables_listed_send, dump_send, refusal.the_field_send, sendable) depth 40 fits 100000,
+        (
+          search (report.the_send, snapshot_send, capture_send, names_send, sessions_listed_send, tables_listed_send, dump_send, refusal.the_field_send, sendable) depth 40 fits 100000,
+          (
+            search (report.the_send, snapshot_send, capture_send, names_send, sessions_listed_send, tables_listed_send, dump_send, refusal.the_field_send, sendable) depth 40 fits 100000,
+            (
+              search (report.the_send, snapshot_send, capture_send, names_send, sessions_listed_send, tables_listed_send, dump_send, refusal.the_field_send, sendable) depth 40 fits 100000,
+              (
+                search (report.the_send, snapshot_send, capture_send, names_send, sessions_listed_send, tables_listed_send, dump_send, refusal.the_field_send, sendable) depth 40 fits 100000,
+                (
+                  search (report.the_send, snapshot_send, capture_send, names_send, sessions_listed_send, tables_listed_send, dump_send, refusal.the_field_send, sendable) depth 40 fits 100000,
+                  (
+                    search (report.the_send, snapshot_send, capture_send, names_send, sessions_listed_send, tables_listed_send, dump_send, refusal.the_field_send, sendable) depth 40 fits 100000,
+                    (
+                      search (report.the_send, snapshot_send, capture_send, names_send, sessions_listed_send, tables_listed_send, dump_send, refusal.the_field_send, sendable) depth 40 fits 100000,
+                      (
+                        search (report.the_send, snapshot_send, capture_send, names_send, sessions_listed_send, tables_listed_send, dump_send, refusal.the_field_send, sendable) depth 40 fits 100000,
+                        (search (report.the_send, snapshot_send, capture_send, names_send, sessions_listed_send, tables_listed_send, dump_send, refusal.the_field_send, sendable) depth 40 fits 100000, tt),
+                      ),
+                    ),
+                  ),
+                ),
+              ),
+            ),
+          ),
+        ),
+      ),
+    ),
+  )
+
   pub reply_send : IsSend (Reply.the_row A h a c)
-  reply_send = search (report.the_send, snapshot_send, capture_send, names_send, sessions_listed_send, refusal.the_field_send, sendable) depth 40 fits 100000
+  reply_send = let O = Reply.the_type A h a c in recorded_send (Enum (shape O)) O.D O.to O.to_one (enum_send (shape O) reply_variants_send)
+
+  reply_variants_sync : EachSync (variants (Reply.the_type A h a c))
+  reply_variants_sync = (
+    search (report.the_sync, snapshot_sync, capture_sync, names_sync, sessions_listed_sync, tables_listed_sync, dump_sync, refusal.the_field_sync, sendable) depth 40 fits 100000,
+    (
+      search (report.the_sync, snapshot_sync, capture_sync, names_sync, sessions_listed_sync, tables_listed_sync, dump_sync, refusal.the_field_sync, sendable) depth 40 fits 100000,
+      (
+        search (report.the_sync, snapshot_sync, capture_sync, names_sync, sessions_listed_sync, tables_listed_sync, dump_sync, refusal.the_field_sync, sendable) depth 40 fits 100000,
+        (
+          search (report.the_sync, snapshot_sync, capture_sync, names_sync, sessions_listed_sync, tables_listed_sync, dump_sync, refusal.the_field_sync, sendable) depth 40 fits 100000,
+          (
+            search (report.the_sync, snapshot_sync, capture_sync, names_sync, sessions_listed_sync, tables_listed_sync, dump_sync, refusal.the_field_sync, sendable) depth 40 fits 100000,
+            (
+              search (report.the_sync, snapshot_sync, capture_sync, names_sync, sessions_listed_sync, tables_listed_sync, dump_sync, refusal.the_field_sync, sendable) depth 40 fits 100000,
+              (
+                search (report.the_sync, snapshot_sync, capture_sync, names_sync, sessions_listed_sync, tables_listed_sync, dump_sync, refusal.the_field_sync, sendable) depth 40 fits 100000,
+                (
+                  search (report.the_sync, snapshot_sync, capture_sync, names_sync, sessions_listed_sync, tables_listed_sync, dump_sync, refusal.the_field_sync, sendable) depth 40 fits 100000,
+                  (
+                    search (report.the_sync, snapshot_sync, capture_sync, names_sync, sessions_listed_sync, tables_listed_sync, dump_sync, refusal.the_field_sync, sendable) depth 40 fits 100000,
+                    (
+                      search (report.the_sync, snapshot_sync, capture_sync, names_sync, sessions_listed_sync, tables_listed_sync, dump_sync, refusal.the_field_sync, sendable) depth 40 fits 100000,
+                      (
+                        search (report.the_sync, snapshot_sync, capture_sync, names_sync, sessions_listed_sync, tables_listed_sync, dump_sync, refusal.the_field_sync, sendable) depth 40 fits 100000,
+                        (search (report.the_sync, snapshot_sync, capture_sync, names_sync, sessions_listed_sync, tables_listed_sync, dump_sync, refusal.the_field_sync, sendable) depth 40 fits 100000, tt),
+                      ),
+                    ),
+                  ),
+                ),
+              ),
+            ),
+          ),
+        ),
+      ),
+    ),
+  )
 
   pub reply_sync : IsSync (Reply.the_row A h a c)
-  reply_sync = search (report.the_sync, snapshot_sync, capture_sync, names_sync, sessions_listed_sync, refusal.the_field_sync, sendable) depth 40 fits 100000
+  reply_sync = let O = Reply.the_type A h a c in recorded_sync (Enum (shape O)) O.D O.to O.to_one (enum_sync (shape O) reply_variants_sync)

@@ -22,12 +22,13 @@ use Rattle.cap_core.specs.declared.command.Command.TheVariants as command
 use Rattle.cap_core.specs.declared.event.Event.{Event}
 use Rattle.cap_core.specs.declared.reply.Reply.{Reply}
 use Rattle.cap_core.specs.declared.reply.Reply.TheVariants.{Done, Written, Applied, Session, Snapshot, Flag}
-use Rattle.cap_core.specs.declared.reply.Reply.TheVariants.{Capture, Databases, Refused, Sessions}
+use Rattle.cap_core.specs.declared.reply.Reply.TheVariants.{Capture, Databases, Dump, Refused, Sessions}
+use Rattle.cap_core.specs.declared.reply.Reply.TheVariants.{Tables as TablesListed}
 use Rattle.cap_core.specs.Capture.{session_changes}
 use Rattle.cap_core.specs.Diff.{diff}
 use Rattle.cap_core.specs.Flags.{session_named, sessions_made}
 use Rattle.cap_core.specs.History.{Databases as Saved, main, saved, version}
-use Rattle.cap_core.specs.Listed.{listed_sessions}
+use Rattle.cap_core.specs.Listed.{listed_sessions, listed_tables}
 use Rattle.cap_core.specs.Outcome.{Effect, Refused as Why, outcome}
 use Rattle.cap_core.specs.Past.{Past}
 use Rattle.cap_core.specs.Session.{sessions}
@@ -129,6 +130,8 @@ module _ {A : Type 0} where
   own_answer state (command.DropDatabase name) = drop_reply state.saved name
   own_answer state command.Databases = Databases (keys_of state.saved)
   own_answer state command.Sessions = Sessions (listed_sessions state.sessions)
+  own_answer state command.Tables = TablesListed (listed_tables state.main)
+  own_answer state command.Dump = Dump (snapshot_of state)
   own_answer state command.NewSession = new_session_reply state
   own_answer state _ = Snapshot (snapshot_of state)
 

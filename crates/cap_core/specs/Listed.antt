@@ -1,9 +1,12 @@
--- The live sessions as they are listed.
-use Rattle.std.specs.Prelude.{ℕ, List, map, nat_eq}
+-- The live sessions and the tables as they are listed.
+use Rattle.std.specs.Prelude.{ℕ, List, length, map, nat_eq}
 use Rattle.std.specs.Map.{keys_of}
+use Rattle.cap_table.specs.Table.{TableState}
+use Rattle.cap_database.specs.Tables.{Tables}
 use Rattle.cap_session.specs.Session.{SessionState, stored}
 use Rattle.cap_session.specs.Sessions.{NumberedSessions}
 use Rattle.cap_core.specs.declared.listed_session.ListedSession.{ListedSession}
+use Rattle.cap_core.specs.declared.listed_table.ListedTable.{ListedTable}
 
 module _ {A : Type 0} where
   -- a session with its number: its flags, whether it has no record, and the names of its attached tables
@@ -18,3 +21,15 @@ module _ {A : Type 0} where
 
   abbrev pub listed_sessions : NumberedSessions A → List (ListedSession A)
   listed_sessions sessions = map listed_session sessions
+
+  -- a table with its name: its columns, and how many rows it has that have a key, and that have none
+  abbrev pub listed_table : List ℕ × TableState A → ListedTable A
+  listed_table named = record {
+    name = named.0;
+    schema = named.1.schema;
+    keyed = length named.1.keyed;
+    loose = length named.1.loose;
+  }
+
+  abbrev pub listed_tables : Tables A → List (ListedTable A)
+  listed_tables tables = map listed_table tables

@@ -37,6 +37,11 @@ pub enum Command<A: AllocHandle> {
     },
     /// Takes a snapshot of the tables. The reply is `Snapshot`.
     Read,
+    /// Lists the tables, with their columns and how many rows they have. The reply is `Tables`.
+    Tables,
+    /// Dumps all tables: the changeset of INSERTs that makes them of nothing, as far as a changeset can hold
+    /// them. The reply is `Dump`.
+    Dump,
     /// Saves the tables under a name, and replaces what was saved under it. Refused with `TooMany` where 16
     /// databases are saved under other names.
     SaveAs {

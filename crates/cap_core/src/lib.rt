@@ -6,10 +6,12 @@ mod changeset_bytes;
 mod command;
 mod commit_hook;
 mod diff;
+mod dump;
 mod event;
 mod laws;
 mod limits;
 mod listed_session;
+mod listed_table;
 mod names;
 mod quiet;
 mod refused_first;
@@ -18,11 +20,13 @@ mod server;
 mod session_changes;
 mod session_commands;
 mod session_list;
+mod table_list;
 mod writes;
 
 pub use capture::Capture;
 pub use command::Command;
 pub use commit_hook::{CommitHook, Never, NoHook};
+pub use dump::Dump;
 pub use event::Event;
 pub use laws::{
     a_capture_after_a_diff_gives_the_rows_now, a_capture_gives_the_rows_now,
@@ -36,9 +40,11 @@ pub use laws::{
 };
 pub use limits::{EVENTS_MAX, SAVED_MAX, SESSIONS_MAX};
 pub use listed_session::ListedSession;
+pub use listed_table::ListedTable;
 pub use names::NameList;
 pub use quiet::QuietSessions;
 pub use reply::Reply;
 pub use server::Core;
 pub use session_changes::{can_capture, changes_of};
 pub use session_list::SessionList;
+pub use table_list::TableList;

@@ -16,7 +16,7 @@ ghost use Rattle.cap_core.specs.Transition.{next, one_more, after_drop, after_sa
 
 use crate::commit_hook::{ReplyHook, ask};
 use crate::names::names_of;
-use crate::{Command, CommitHook, NoHook, Reply, SAVED_MAX, SessionList};
+use crate::{Command, CommitHook, Dump, NoHook, Reply, SAVED_MAX, SessionList, TableList};
 use cap_database::{Database, Snapshot};
 use cap_session::Sessions;
 use cap_tree::Tree;
@@ -229,6 +229,11 @@ impl<A: AllocHandle> Core<A> {
                 policy,
                 quiet,
             } => self.apply(blob, *policy, quiet.numbers(), hook),
+            Command::Tables => {
+                let tables = TableList::of(self.alloc, &self.main)?;
+                self.reply_only(Reply::Tables(tables), hook)
+            }
+            Command::Dump => self.dump(hook),
             Command::Read => self.read(hook),
             Command::SaveAs { database } => self.save_as(database, hook),
             Command::DropDatabase { database } => self.drop_database(database, hook),
@@ -281,6 +286,16 @@ impl<A: AllocHandle> Core<A> {
     {
         let snapshot = Snapshot::new(self.version, self.main.snapshot()?);
         self.reply_only(Reply::Snapshot(snapshot), hook)
+    }
+
+    fn dump<C: CommitHook<A>>(&mut self, hook: &mut C) -> Result<Reply<A>, Fault<C::Refusal>>
+        requires room { HasRoom self.old.events }
+        requires can_ask { C.can_ask hook.old (Reply.Dump (snapshot_of self.old)) }
+        ensures { Reports C.gives (Reply.Dump (snapshot_of self.old)) (one_more self.old)
+            self.old self.new hook.old hook.new result }
+    {
+        let dump = Dump::new(Snapshot::new(self.version, self.main.snapshot()?));
+        self.reply_only(Reply::Dump(dump), hook)
     }
 
     // Saves the tables under a name, and replaces what was saved under it.

@@ -72,6 +72,13 @@ impl<A: AllocHandle> Database<A> {
         self.tables.len()
     }
 
+    /// The tables with their names, in the order of the names.
+    pub fn tables(&self) -> &[(Name<A>, Table<A>)]
+        ensures { result.now ≡ self.now }
+    {
+        self.tables.as_slice()
+    }
+
     /// A law of every database, for who keeps rows of it: in each table keys and ids rise, each row has the
     /// table's width, and is stored under its own key, or where it has none under an id that was given. The
     /// call does nothing.

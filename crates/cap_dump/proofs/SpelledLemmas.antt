@@ -1,5 +1,5 @@
 -- The bytes of a dump spell its groups, those without changes too.
-use Rattle.std.proofs.Common.{◌≡◌, ℕ, Bool, true, false, cond, List, [], ◌∷◌, ◌++◌, Ok, length, map, filter, flat_map, refl, sym, ap, ◌∙◌, append_assoc}
+use Rattle.std.proofs.Common.{◌≡◌, ◌<◌, ◌+◌, ℕ, Bool, true, false, cond, List, [], ◌∷◌, ◌++◌, Ok, length, map, filter, flat_map, get_or, drop, drop-cons, add-one, refl, sym, ap, ap₂, ◌∙◌, append_assoc}
 use Rattle.std.specs.Prelude.{All, IfSome, OnOk, Result, Err}
 use Rattle.std.specs.List.{AllByRecursion}
 use Rattle.std.proofs.lemmas.List.{append-nil}
@@ -97,6 +97,13 @@ module _ {A : Type 0} where
       ap (λ (bytes : List ℕ). bytes ++ dump_bytes key_flags tables) is
       ∙ append_assoc out (dump_bytes key_flags (t ∷ [])) (dump_bytes key_flags tables)
       ∙ ap (λ (bytes : List ℕ). out ++ bytes) (sym (first_table key_flags t tables))
+
+  -- the same of the tables that are left
+  pub one_more_at : (key_flags : KeyFlags) (tables : Tables A) (i : ℕ) (t : List ℕ × TableState A) (out new all : List ℕ) → i < length tables → t ≡ get_or tables i t → new ≡ out ++ dump_bytes key_flags (t ∷ [])
+      → out ++ dump_bytes key_flags (drop i tables) ≡ all → new ++ dump_bytes key_flags (drop (i + 1) tables) ≡ all
+  one_more_at key_flags tables i t out new all lt same is so_far =
+      let rest : drop i tables ≡ t ∷ drop (i + 1) tables = drop-cons tables i t lt ∙ ap₂ (λ u k. u ∷ drop k tables) (sym same) (sym (add-one i)) in
+      one_more key_flags out new t (drop (i + 1) tables) is ∙ ap (λ ts. out ++ dump_bytes key_flags ts) (sym rest) ∙ so_far
 
   -- the group of a table that has key columns, or nothing
   pub own_group : (key_flags : KeyFlags) (t : List ℕ × TableState A) → has_key t.1.schema ≡ true → dump_bytes key_flags (t ∷ []) ≡ whole_group_bytes key_flags (inserts_of (t.0, keyed_part t.1))

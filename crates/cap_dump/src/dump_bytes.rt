@@ -1,12 +1,16 @@
-//! The bytes of the changeset that makes a table of nothing.
-ghost use Rattle.std.specs.Prelude.{◌≡◌, ◌∷◌, ◌++◌, [], IfOk, None, OnOk};
+//! The bytes of the changeset that makes tables of nothing.
+ghost use Rattle.std.specs.Prelude.{◌≡◌, ◌∷◌, ◌++◌, [], IfOk, None, Ok, OnOk};
 ghost use Rattle.std.specs.List.{flat_map};
 ghost use Rattle.std.specs.Result.{result_err};
 ghost use Rattle.cap_value.specs.Memory.{RefusesFirst, ShowsUnlessMemory};
 ghost use Rattle.cap_codec.specs.Changeset.{change_bytes};
-ghost use Rattle.cap_dump.specs.Dump.{dump_bytes, dump_table, insert_of, inserts_of, keyed_part};
+ghost use Rattle.cap_codec.specs.declared.read.Contents.TheVariants.{Changes};
+ghost use Rattle.cap_dump.specs.Dump as whole;
+ghost use Rattle.cap_dump.specs.Dump.{dump_bytes, dump_table, insert_of, inserts_of, keyed_part, keyed_parts};
 ghost use Rattle.cap_dump.specs.Dump.{whole_group_bytes};
+ghost use Rattle.cap_dump.specs.Load.{load};
 
+use crate::dumps_are_loaded_again;
 use cap_codec::{KeyFlags, push_change_between, push_group_header};
 use cap_database::Database;
 use cap_row::{Row, Schema};
@@ -34,6 +38,45 @@ pub fn dump<A: AllocHandle>(
         Some(found) => Ok(bytes_of(alloc, key_flags, table, found)?),
         None => Err(Fault::Refused(Refusal::NoTable)),
     }
+}
+
+/// The bytes of all tables of a database, in the order of their names, each as `dump` has it. Loaded into a
+/// database without tables, they give what a changeset can hold of each.
+pub fn dump_all<A: AllocHandle>(
+    alloc: A,
+    key_flags: KeyFlags,
+    database: &Database<A>,
+) -> Result<Vec<u8, A>, OutOfMemory>
+    ensures bytes { IfOk result (λ bytes. bytes.items ≡ dump_bytes key_flags database.now) }
+    ensures again { load [] (Changes (whole.dump database.now)) ≡ Ok (keyed_parts database.now) }
+{
+    is_loaded_again(database);
+    let mut out = Vec::new(alloc);
+    push_tables(&mut out, key_flags, database.tables())?;
+    Ok(out)
+}
+
+// What is dumped of a database comes again.
+fn is_loaded_again<A: AllocHandle>(database: &Database<A>)
+    ensures { load [] (Changes (whole.dump database.now)) ≡ Ok (keyed_parts database.now) }
+{
+    dumps_are_loaded_again::<A>();
+    let _tables = database.len();
+    database.rows_stand();
+}
+
+// Appends the groups of these tables.
+fn push_tables<A: AllocHandle>(
+    out: &mut Vec<u8, A>,
+    key_flags: KeyFlags,
+    tables: &[(Name<A>, Table<A>)],
+) -> Result<(), OutOfMemory>
+    ensures { OnOk result (out.new.items ≡ out.old.items ++ dump_bytes key_flags tables.now) }
+{
+    for named in tables {
+        push_table(out, key_flags, &named.0, &named.1)?;
+    }
+    Ok(())
 }
 
 // The bytes of a table that was found.

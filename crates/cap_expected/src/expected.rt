@@ -9,7 +9,7 @@ use cap_language::after_blanks;
 use cap_script::{ScriptFault, a_line_without_fault, read_line};
 use cap_value::{AllocHandle, Fault, OutOfMemory};
 
-const COMMAND_WORDS: [&str; 23] = [
+const COMMAND_WORDS: [&str; 25] = [
     "create",
     "commit",
     "commitat",
@@ -26,6 +26,7 @@ const COMMAND_WORDS: [&str; 23] = [
     "changeset",
     "patchset",
     "restart",
+    "dump",
     "drop",
     "attachall",
     "filter",
@@ -33,6 +34,7 @@ const COMMAND_WORDS: [&str; 23] = [
     "session",
     "sessions",
     "databases",
+    "tables",
 ];
 
 const INNER_WORDS: [&str; 25] = [
@@ -111,7 +113,7 @@ fn list_first_words<A: AllocHandle>(
 ) -> Result<(), OutOfMemory>
     ensures { OnOk result (string_bytes out.new ≡ string_bytes out.old ++ first_words A before.now) }
 {
-    let words: [&str; 23] = COMMAND_WORDS;
+    let words: [&str; 25] = COMMAND_WORDS;
     list_among(alloc, before, words.as_slice(), out)
 }
 

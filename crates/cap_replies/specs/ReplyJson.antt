@@ -20,14 +20,18 @@ use Rattle.cap_codec.specs.declared.read.Contents.{Contents}
 use Rattle.cap_codec.specs.declared.read.Contents.TheVariants.{Changes, Patches}
 use Rattle.cap_apply.specs.Report.{ReportState}
 use Rattle.cap_apply.specs.declared.conflict.Conflict.{Conflict}
+use Rattle.cap_dump.specs.Dump.{dump_bytes}
 use Rattle.cap_rebase.specs.Buffer.{buffer_of}
 use Rattle.cap_core.specs.Capture.{CaptureState}
 use Rattle.cap_core.specs.declared.command.Command.{Command}
 use Rattle.cap_core.specs.declared.command.Command.TheVariants as command
 use Rattle.cap_core.specs.declared.listed_session.ListedSession.{ListedSession}
+use Rattle.cap_core.specs.declared.listed_table.ListedTable.{ListedTable}
 use Rattle.cap_core.specs.declared.reply.Reply.{Reply}
 use Rattle.cap_core.specs.declared.reply.Reply.TheVariants.{Done, Written, Applied, Session, Snapshot, Flag}
-use Rattle.cap_core.specs.declared.reply.Reply.TheVariants.{Capture, Databases, Refused, Sessions}
+use Rattle.cap_core.specs.declared.reply.Reply.TheVariants.{Capture, Databases, Dump, Refused, Sessions}
+use Rattle.cap_core.specs.declared.reply.Reply.TheVariants.{Tables}
+use Rattle.cap_script.specs.ListText.{columns_text}
 use Rattle.cap_script.specs.RefusalText.{refusal_name}
 use Rattle.cap_script.specs.Words.{answer_word, kind_word}
 use Rattle.cap_script.specs.declared.line.Line.{Line}
@@ -173,6 +177,12 @@ module _ {A : Type 0} where
       blob_reply (codes "patchset") c.version (patch_list_bytes_with flags (patch_list_of c.changes))
   capture_reply show c = kind (codes "done")
 
+  -- a dump, with the version of the tables
+  abbrev pub dump_reply : Show A → SnapshotState A → List Token
+  dump_reply (Changeset flags) s =
+      blob_reply (codes "changeset") s.version (dump_bytes flags s.database)
+  dump_reply show s = kind (codes "done")
+
   -- ---- what is listed
 
   -- a session's number, its flags, whether it is empty, and its attached tables
@@ -189,6 +199,18 @@ module _ {A : Type 0} where
       token.key (codes "sessions") ∷ token.begin_array
       ∷ (flat_map session sessions ++ token.end_array ∷ [])
 
+  -- a table's name, its columns as `create` reads them, and how many rows it has with a key and without one
+  unfoldable pub table : ListedTable A → List Token
+  table t =
+      token.begin_object ∷ (text_member (codes "table") t.name
+      ++ (text_member (codes "columns") (columns_text t.schema)
+      ++ (number_member (codes "keyed") t.keyed
+      ++ (number_member (codes "loose") t.loose ++ token.end_object ∷ []))))
+
+  unfoldable pub tables_member : List (ListedTable A) → List Token
+  tables_member tables =
+      token.key (codes "tables") ∷ token.begin_array ∷ (flat_map table tables ++ token.end_array ∷ [])
+
   -- ---- the object
 
   -- which reply it is, and what it has
@@ -202,9 +224,11 @@ module _ {A : Type 0} where
   reply_members line (Databases names) =
       kind (codes "databases") ++ texts_member (codes "databases") names
   reply_members line (Sessions sessions) = kind (codes "sessions") ++ sessions_member sessions
+  reply_members line (Tables tables) = kind (codes "tables") ++ tables_member tables
   reply_members line (Snapshot snapshot) = snapshot_reply line.show snapshot
   reply_members line (Flag flag) = kind (codes "flag") ++ flag_member (codes "flag") flag
   reply_members line (Capture capture) = capture_reply line.show capture
+  reply_members line (Dump snapshot) = dump_reply line.show snapshot
   reply_members line (Refused at why) = refused at why
 
   -- the reply to the line with this number

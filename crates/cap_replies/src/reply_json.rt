@@ -6,9 +6,10 @@ ghost use Rattle.cap_replies.specs.ReplyJson as spec;
 ghost use Rattle.cap_changes.specs.Patch.{patch_list_of};
 ghost use Rattle.cap_codec.specs.Changeset.{list_bytes_with};
 ghost use Rattle.cap_codec.specs.Patchset.{patch_list_bytes_with};
+ghost use Rattle.cap_dump.specs.Dump.{dump_bytes};
 ghost use Rattle.cap_show.specs.Json.{Appends};
 
-use crate::lists::{write_databases, write_sessions};
+use crate::lists::{write_databases, write_sessions, write_tables};
 use crate::members::{
     write_blob, write_flag, write_kind, write_kind_at, write_number, write_optional,
 };
@@ -16,7 +17,7 @@ use crate::report::{write_buffer, write_refused, write_report};
 use crate::rows::write_snapshot;
 use cap_apply::Report;
 use cap_codec::KeyFlags;
-use cap_core::{Capture, Reply};
+use cap_core::{Capture, Dump, Reply};
 use cap_script::{Line, Show};
 use cap_value::{AllocHandle, OutOfMemory};
 use json::Writer;
@@ -24,10 +25,10 @@ use json::Writer;
 /// The reply to a line's command as JSON, without a line feed at its end: an object.
 ///
 /// It has the number of the `line`, the number of the `worker` after its `@` where it has one, and in `reply`
-/// which reply it is: `done`, `written`, `applied`, `session`, `sessions`, `databases`, `row`, `rows`, `flag`,
-/// `changeset`, `patchset` or `refused`. What the reply has are members of their own: the `version` of the tables, the number of the
-/// `session`, a `row` or `rows`, each an array of values as in a shown blob, a `flag`, the hex digits of a
-/// blob, or the `refusal`, as `E5 Duplicate`.
+/// which reply it is: `done`, `written`, `applied`, `session`, `sessions`, `databases`, `tables`, `row`,
+/// `rows`, `flag`, `changeset`, `patchset` or `refused`. What the reply has are members of their own: the
+/// `version` of the tables, the number of the `session`, a `row` or `rows`, each an array of values as in a
+/// shown blob, a `flag`, the hex digits of a blob, or the `refusal`, as `E5 Duplicate`.
 #[tactic(auto, unfolding(crate::specs::ReplyJson::reply_json))]
 pub fn print_reply_json<A: AllocHandle>(
     alloc: A,
@@ -96,9 +97,11 @@ fn write_reply<A: AllocHandle>(
         Reply::Session(number) => write_session(writer, *number),
         Reply::Databases(names) => write_databases(writer, names),
         Reply::Sessions(sessions) => write_sessions(writer, sessions),
+        Reply::Tables(tables) => write_tables(alloc, writer, tables),
         Reply::Snapshot(snapshot) => write_snapshot(alloc, writer, &line.show, snapshot),
         Reply::Flag(flag) => write_flag_reply(writer, *flag),
         Reply::Capture(capture) => write_capture(alloc, writer, &line.show, capture),
+        Reply::Dump(dump) => write_dump(alloc, writer, &line.show, dump),
         Reply::Refused { at, why } => write_refused(writer, *at, *why),
     }
 }
@@ -186,4 +189,32 @@ fn write_patchset<A: AllocHandle>(
         capture.version(),
         bytes.as_slice(),
     )
+}
+
+fn write_dump<A: AllocHandle>(
+    alloc: A,
+    writer: &mut Writer<A>,
+    show: &Show<A>,
+    dump: &Dump<A>,
+) -> Result<(), OutOfMemory>
+    ensures { Appends result writer.old writer.new (spec.dump_reply show.now dump.now) }
+{
+    match show {
+        Show::Changeset(flags) => write_whole(alloc, writer, *flags, dump),
+        _ => write_kind(writer, "done"),
+    }
+}
+
+fn write_whole<A: AllocHandle>(
+    alloc: A,
+    writer: &mut Writer<A>,
+    flags: KeyFlags,
+    dump: &Dump<A>,
+) -> Result<(), OutOfMemory>
+    ensures { Appends result writer.old writer.new (spec.blob_reply (codes "changeset")
+        dump.now.version (dump_bytes flags dump.now.database)) }
+{
+    let bytes = dump.changeset_with(alloc, flags)?;
+    let version = dump.snapshot().version();
+    write_blob(alloc, writer, "changeset", version, bytes.as_slice())
 }

@@ -16,7 +16,7 @@ use Rattle.cap_core.specs.Table.{BlobFits}
 use Rattle.cap_language.specs.Forms.{Words, a_blob, behind, either, one_of}
 use Rattle.cap_language.specs.Grammar.{Grammar, Spells, exceeds, unfit}
 use Rattle.cap_language.specs.Tokens.{Begins, Blob, Integer, Text, Token, Word}
-use Rattle.cap_script.specs.Language.{Filtered, Opening, alone, apply_quiet, applying, attach, changeset, command, commands, commit, commit_at, contents, contents_of, create, diff, drop_database, enable, ending, get, indirect, numbered, opening, patchset, restart, save, scan, with_alone, with_numbered}
+use Rattle.cap_script.specs.Language.{Filtered, Opening, alone, apply_quiet, applying, attach, changeset, command, commands, commit, commit_at, contents, contents_of, create, diff, drop_database, dump, enable, ending, get, indirect, numbered, opening, patchset, restart, save, scan, with_alone, with_numbered}
 use Rattle.cap_script.specs.Script.{Closes, LineSpelled, LinesSpelled, ScriptSpelled, SpellsLine, SpellsScript}
 use Rattle.cap_script.specs.declared.command.Spelled.{Spelled}
 use Rattle.cap_script.specs.declared.command.Spelled.TheVariants.{Filter, Whole}
@@ -130,6 +130,10 @@ module _ {A : Type 0} (fit : (blob : Contents A) (bytes : List ℕ) → SpellsBl
   unfolding restart
   restart-fits x line rest (session, a, p, (flags, b, q, e)) = subst Fits (sym e.0) tt
 
+  dump-fits : Makes Fits dump
+  unfolding dump
+  dump-fits x line rest (flags, a, p, e) = subst Fits (sym e.0) tt
+
   -- ---- lines
 
   either-fits : (b : Bool) (first second : Grammar (Spelled A)) → Makes Fits first → Makes Fits second → Makes Fits (either b (behind first) second)
@@ -200,7 +204,10 @@ module _ {A : Type 0} (fit : (blob : Contents A) (bytes : List ℕ) → SpellsBl
                               changeset-fits,
                               (
                                 patchset-fits,
-                                (restart-fits, numbered-fit numbered (with_alone alone []) (λ _. refl) (alone-fit alone [] refl tt)),
+                                (
+                                  restart-fits,
+                                  (dump-fits, numbered-fit numbered (with_alone alone []) (λ _. refl) (alone-fit alone [] refl tt)),
+                                ),
                               ),
                             ),
                           ),

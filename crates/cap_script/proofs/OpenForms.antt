@@ -27,7 +27,7 @@ use Rattle.cap_language.specs.Forms.{Words, a_blob, a_word, either, keyword, nam
 use Rattle.cap_language.specs.Grammar.{Grammar, done, exceeds, follows, next, read, read_at, unfit}
 use Rattle.cap_language.specs.Tokens.{Blob, Word}
 use Rattle.cap_language.proofs.FormLaws.{eats_keyword, form_keyword, form_name, form_natural, form_value, form_values, goes_44, goes_59}
-use Rattle.cap_script.specs.Language.{alone, answer, apply_quiet, applying, attach, batch, cascaded, changeset, columns, commands, commit, commit_at, contents, contents_of, create, delete, diff, drop_database, enable, field, fields, flag, flags_in, get, indirect, insert, key_flags, nth_operation, numbered, numbers, operation, operations, patchset, policy, report, restart, row, row_of, save, scan, schema, update, with_alone, with_numbered}
+use Rattle.cap_script.specs.Language.{alone, answer, apply_quiet, applying, attach, batch, cascaded, changeset, columns, commands, commit, commit_at, contents, contents_of, create, delete, diff, drop_database, dump, enable, field, fields, flag, flags_in, get, indirect, insert, key_flags, nth_operation, numbered, numbers, operation, operations, patchset, policy, report, restart, row, row_of, save, scan, schema, update, with_alone, with_numbered}
 use Rattle.cap_script.specs.declared.command.Spelled.{Spelled}
 use Rattle.cap_script.specs.declared.command.Spelled.TheVariants.{Filter, Whole}
 use Rattle.cap_script.specs.declared.line.Show.{Show}
@@ -331,6 +331,10 @@ module _ {A : Type 0} where
   unfolding restart
   open_restart = open_capture made.Restart show.Changeset
 
+  open_dump : Open Closing (read (dump {A = A}))
+  unfolding dump
+  open_dump = let last = last_map Closing key_flags (λ flags. Whole made.Dump (show.Changeset flags)) last_key_flags in last.inner
+
   open_numbered : (words : List (List ℕ × (ℕ → Spelled A))) (others : Words (Spelled A)) → AreOpen Closing others → AreOpen Closing (with_numbered words others)
   open_numbered [] others all = all
   open_numbered ((w, of_session) ∷ words) others all = (open_session of_session, open_numbered words others all)
@@ -370,7 +374,10 @@ module _ {A : Type 0} where
                               open_changeset,
                               (
                                 open_patchset,
-                                (open_restart, open_numbered numbered (with_alone alone []) (open_alone alone [] tt)),
+                                (
+                                  open_restart,
+                                  (open_dump, open_numbered numbered (with_alone alone []) (open_alone alone [] tt)),
+                                ),
                               ),
                             ),
                           ),

@@ -252,6 +252,9 @@ module _ {A : Type 0} where
     flags ← key_flags
     done (Whole (made.Restart session) (show.Changeset flags))
 
+  unfoldable pub dump : Grammar (Spelled A)
+  dump = do flags ← key_flags; done (Whole made.Dump (show.Changeset flags))
+
   -- the commands that are a word and the number of a session
   abbrev pub numbered : List (List ℕ × (ℕ → Spelled A))
   numbered =
@@ -267,6 +270,7 @@ module _ {A : Type 0} where
       (codes "session", Whole made.NewSession show.Plain)
       ∷ (codes "sessions", Whole made.Sessions show.Plain)
       ∷ (codes "databases", Whole made.Databases show.Plain)
+      ∷ (codes "tables", Whole made.Tables show.Plain)
       ∷ []
 
   abbrev pub with_numbered : List (List ℕ × (ℕ → Spelled A)) → Words (Spelled A) → Words (Spelled A)
@@ -297,6 +301,7 @@ module _ {A : Type 0} where
       ∷ (codes "changeset", changeset)
       ∷ (codes "patchset", patchset)
       ∷ (codes "restart", restart)
+      ∷ (codes "dump", dump)
       ∷ with_numbered numbered (with_alone alone [])
 
   unfoldable pub command : Grammar (Spelled A)

@@ -3,12 +3,21 @@ use Rattle.std.specs.Prelude.{ℕ, Bool, List, ◌∷◌, ◌++◌, codes, decim
 use Rattle.std.specs.List.{flat_map}
 use Rattle.cap_show.specs.Sql.{identifier}
 use Rattle.cap_core.specs.declared.listed_session.ListedSession.{ListedSession}
+use Rattle.cap_core.specs.declared.listed_table.ListedTable.{ListedTable}
 
 abbrev pub on_word : Bool → List ℕ
 on_word flag = if flag then codes "on" else codes "off"
 
 abbrev pub true_word : Bool → List ℕ
 true_word flag = if flag then codes "true" else codes "false"
+
+-- the letter of a column, as it is read: `k` in the primary key, and `v` elsewhere
+abbrev pub column_letter : Bool → List ℕ
+column_letter flag = if flag then codes "k" else codes "v"
+
+-- the columns of a table, a letter for each
+abbrev pub columns_text : List Bool → List ℕ
+columns_text flags = flat_map column_letter flags
 
 -- a name on a line of its own, after the line before
 abbrev pub name_line : List ℕ → List ℕ
@@ -33,3 +42,13 @@ module _ {A : Type 0} where
 
   abbrev pub sessions_text : List (ListedSession A) → List ℕ
   sessions_text sessions = codes "sessions " ++ (decimal (length sessions) ++ flat_map session_line sessions)
+
+  -- a table's name and columns, and how many rows it has that have a key, and that have none
+  abbrev pub table_line : ListedTable A → List ℕ
+  table_line table =
+      10 ∷ (identifier table.name
+      ++ (codes " " ++ (columns_text table.schema
+      ++ (codes " keyed " ++ (decimal table.keyed ++ (codes " loose " ++ decimal table.loose))))))
+
+  abbrev pub tables_text : List (ListedTable A) → List ℕ
+  tables_text tables = codes "tables " ++ (decimal (length tables) ++ flat_map table_line tables)

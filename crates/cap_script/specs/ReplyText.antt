@@ -11,13 +11,16 @@ use Rattle.cap_codec.specs.declared.read.Contents.{Contents}
 use Rattle.cap_codec.specs.declared.read.Contents.TheVariants.{Changes, Patches}
 use Rattle.cap_apply.specs.Report.{ReportState}
 use Rattle.cap_apply.specs.declared.conflict.Conflict.{Conflict}
+use Rattle.cap_database.specs.Tables.{Tables}
+use Rattle.cap_dump.specs.Dump.{dump_bytes}
 use Rattle.cap_rebase.specs.Buffer.{buffer_of}
 use Rattle.cap_core.specs.declared.command.Command.{Command}
 use Rattle.cap_core.specs.declared.command.Command.TheVariants as command
 use Rattle.cap_core.specs.declared.reply.Reply.{Reply}
 use Rattle.cap_core.specs.declared.reply.Reply.TheVariants.{Done, Written, Applied, Session, Snapshot, Flag}
-use Rattle.cap_core.specs.declared.reply.Reply.TheVariants.{Capture, Databases, Refused, Sessions}
-use Rattle.cap_script.specs.ListText.{databases_text, on_word, sessions_text, true_word}
+use Rattle.cap_core.specs.declared.reply.Reply.TheVariants.{Capture, Databases, Dump, Refused, Sessions}
+use Rattle.cap_core.specs.declared.reply.Reply.TheVariants.{Tables as TablesListed}
+use Rattle.cap_script.specs.ListText.{databases_text, on_word, sessions_text, tables_text, true_word}
 use Rattle.cap_script.specs.RefusalText.{refusal_text}
 use Rattle.cap_script.specs.RowText.{snapshot_text}
 use Rattle.cap_script.specs.Words.{answer_word, kind_word}
@@ -86,6 +89,11 @@ module _ {A : Type 0} where
       codes "patchset " ++ hex_or_dash (patch_list_bytes_with flags (patch_list_of changes))
   capture_text _ changes = codes "ok"
 
+  -- the text of a dump
+  abbrev pub dump_text : Show A → Tables A → List ℕ
+  dump_text (Changeset flags) tables = codes "changeset " ++ hex_or_dash (dump_bytes flags tables)
+  dump_text _ tables = codes "ok"
+
   -- the text of the reply to a line's command
   unfoldable pub reply_text : Line A → Reply A → List ℕ
   reply_text line Done = codes "ok"
@@ -94,9 +102,11 @@ module _ {A : Type 0} where
   reply_text line (Session number) = codes "session " ++ decimal number
   reply_text line (Databases names) = databases_text names
   reply_text line (Sessions sessions) = sessions_text sessions
+  reply_text line (TablesListed tables) = tables_text tables
   reply_text line (Snapshot snapshot) = snapshot_text line.show snapshot
   reply_text line (Flag flag) = flag_text line.command flag
   reply_text line (Capture capture) = capture_text line.show capture.changes
+  reply_text line (Dump snapshot) = dump_text line.show snapshot.database
   reply_text line (Refused (Some place) why) =
       codes "refused at " ++ (decimal place ++ (codes ": " ++ refusal_text why))
   reply_text line (Refused None why) = codes "refused: " ++ refusal_text why

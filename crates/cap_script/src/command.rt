@@ -10,7 +10,7 @@ ghost use Rattle.cap_script.specs.declared.line.Show.TheVariants.{Plain};
 
 use crate::Show;
 use crate::operation::{batch, row_ref};
-use crate::session_command::{attach, changeset, diff, enable, indirect, patchset, restart};
+use crate::session_command::{attach, changeset, diff, dump, enable, indirect, patchset, restart};
 use cap_apply::{Answer, Policy};
 use cap_codec::{Contents, read_blob};
 use cap_core::{Command, QuietSessions};
@@ -76,6 +76,8 @@ pub(crate) fn command<A: AllocHandle>(
         patchset(cursor)
     } else if word.is("restart") {
         restart(cursor)
+    } else if word.is("dump") {
+        dump(cursor)
     } else if word.is("drop") {
         let session = cursor.natural()?;
         Ok(plain(Command::DropSession { session }))
@@ -93,6 +95,8 @@ pub(crate) fn command<A: AllocHandle>(
         Ok(plain(Command::Sessions))
     } else if word.is("databases") {
         Ok(plain(Command::Databases))
+    } else if word.is("tables") {
+        Ok(plain(Command::Tables))
     } else {
         Err(word.misfit)
     }

@@ -28,6 +28,7 @@ pub use laws::{
 };
 pub use line::{Line, Show};
 pub use lines::Lines;
+pub use list_text::columns_text;
 pub use one_line::read_line;
 pub use refusal_text::refusal_name;
 pub use reply::{print_reply, write_reply};

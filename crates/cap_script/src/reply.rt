@@ -4,17 +4,19 @@ ghost use Rattle.cap_changes.specs.Patch.{patch_list_of};
 ghost use Rattle.cap_codec.specs.Changeset.{list_bytes_with};
 ghost use Rattle.cap_codec.specs.Patchset.{patch_list_bytes_with};
 ghost use Rattle.cap_script.specs.ReplyText.{applied_shown, applied_text, buffer_text};
-ghost use Rattle.cap_script.specs.ReplyText.{capture_text, flag_text, hex_or_dash, reply_text, report_text};
+ghost use Rattle.cap_dump.specs.Dump.{dump_bytes};
+ghost use Rattle.cap_script.specs.ReplyText.{capture_text, dump_text, flag_text, hex_or_dash, reply_text};
+ghost use Rattle.cap_script.specs.ReplyText.{report_text};
 
 use crate::buffer_text::write_buffer;
-use crate::list_text::{databases_text, on_word, sessions_text, true_word};
+use crate::list_text::{databases_text, on_word, sessions_text, tables_text, true_word};
 use crate::refusal_text::RefusalText;
 use crate::report_text::write_report;
 use crate::row_text::snapshot_text;
 use crate::{Line, Show};
 use cap_apply::Report;
 use cap_codec::KeyFlags;
-use cap_core::{Capture, Command, Reply};
+use cap_core::{Capture, Command, Dump, Reply};
 use cap_value::{AllocHandle, OutOfMemory};
 use itoa::Buffer;
 
@@ -65,6 +67,14 @@ pub fn write_reply<A: AllocHandle>(
         }
         Reply::Sessions(sessions) => {
             let text = sessions_text(alloc, sessions)?;
+            out.push_str(text.as_str())
+        }
+        Reply::Tables(tables) => {
+            let text = tables_text(alloc, tables)?;
+            out.push_str(text.as_str())
+        }
+        Reply::Dump(dump) => {
+            let text = dump_text(alloc, &line.show, dump)?;
             out.push_str(text.as_str())
         }
         Reply::Refused {
@@ -196,6 +206,33 @@ fn patchset_text<A: AllocHandle>(
     let bytes = capture.patchset_with(alloc, flags)?;
     let digits = hex_or_dash(alloc, bytes.as_slice())?;
     format!(in alloc; "patchset {digits}")
+}
+
+// The text of a dump.
+fn dump_text<A: AllocHandle>(
+    alloc: A,
+    show: &Show<A>,
+    dump: &Dump<A>,
+) -> Result<String<A>, OutOfMemory>
+    ensures { IfOk result (λ text. string_bytes text ≡ dump_text show.now dump.now.database) }
+{
+    match show {
+        Show::Changeset(flags) => whole_text(alloc, dump, *flags),
+        _ => String::from_str(alloc, "ok"),
+    }
+}
+
+fn whole_text<A: AllocHandle>(
+    alloc: A,
+    dump: &Dump<A>,
+    flags: KeyFlags,
+) -> Result<String<A>, OutOfMemory>
+    ensures { IfOk result (λ text.
+        string_bytes text ≡ codes "changeset " ++ hex_or_dash (dump_bytes flags dump.now.database)) }
+{
+    let bytes = dump.changeset_with(alloc, flags)?;
+    let digits = hex_or_dash(alloc, bytes.as_slice())?;
+    format!(in alloc; "changeset {digits}")
 }
 
 // Lower case hex digits, or `-` for no bytes.

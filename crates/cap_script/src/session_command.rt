@@ -1,6 +1,6 @@
-//! Reads the commands on one session, behind their first word.
+//! Reads the commands on one session and the dump, behind their first word.
 ghost use Rattle.cap_language.specs.Grammar.{Reads, read};
-ghost use Rattle.cap_script.specs.Language.{attach, changeset, diff, enable, flag, indirect, key_flags};
+ghost use Rattle.cap_script.specs.Language.{attach, changeset, diff, dump, enable, flag, indirect, key_flags};
 ghost use Rattle.cap_script.specs.Language.{patchset, restart};
 
 use crate::Show;
@@ -89,6 +89,15 @@ pub(crate) fn restart<A: AllocHandle>(cursor: &mut Cursor<'_>) -> Result<Spelled
     let session = cursor.natural()?;
     let flags = key_flags(cursor)?;
     Ok(Spelled::Whole(Command::Restart { session }, Show::Changeset(flags)))
+}
+
+// Reads a dump of all tables, which is printed as a changeset: how key flags are written.
+#[tactic(auto, unfolding(crate::specs::Language::dump))]
+pub(crate) fn dump<A: AllocHandle>(cursor: &mut Cursor<'_>) -> Result<Spelled<A>, LineFault>
+    ensures reads { Reads result cursor.new.rest.now (read dump cursor.old.rest.now) }
+{
+    let flags = key_flags(cursor)?;
+    Ok(Spelled::Whole(Command::Dump, Show::Changeset(flags)))
 }
 
 // Reads the key flags: `places`, or nothing for `01`.

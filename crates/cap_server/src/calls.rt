@@ -6,7 +6,7 @@ ghost use Rattle.cap_core.specs.declared.command.Command.TheVariants.{SaveAs, Ne
 ghost use Rattle.cap_core.specs.declared.command.Command.TheVariants.{Attach, AttachAll, SetFilter, Enable};
 ghost use Rattle.cap_core.specs.declared.command.Command.TheVariants.{Indirect, IsEmpty, Diff, Capture};
 ghost use Rattle.cap_core.specs.declared.command.Command.TheVariants.{Restart, Databases, DropDatabase};
-ghost use Rattle.cap_core.specs.declared.command.Command.TheVariants.{Sessions};
+ghost use Rattle.cap_core.specs.declared.command.Command.TheVariants.{Dump, Sessions, Tables};
 ghost use Rattle.cap_history.specs.Seat.{HasCalled};
 ghost use Rattle.cap_locked.specs.Fault.{HasCause, LeavesSeat};
 ghost use Rattle.cap_server.specs.Commit.{CommitsAt};
@@ -180,6 +180,24 @@ impl<J: Naming, A: AllocHandle> Server<J, A> {
         ensures cause { IfErr result (λ fault. HasCause fault seat.old Sessions) }
     {
         self.call(rt, seat, &Command::Sessions)
+    }
+
+    /// Lists the tables.
+    pub fn tables<R: Wait>(&self, rt: &R, seat: &mut Seat<J, A>) -> Result<Reply<A>, CallFault>
+        ensures called { IfOk result (λ reply. HasCalled seat.old seat.new Tables reply) }
+        ensures refused { IfErr result (λ fault. LeavesSeat fault seat.old seat.new) }
+        ensures cause { IfErr result (λ fault. HasCause fault seat.old Tables) }
+    {
+        self.call(rt, seat, &Command::Tables)
+    }
+
+    /// Dumps all tables.
+    pub fn dump<R: Wait>(&self, rt: &R, seat: &mut Seat<J, A>) -> Result<Reply<A>, CallFault>
+        ensures called { IfOk result (λ reply. HasCalled seat.old seat.new Dump reply) }
+        ensures refused { IfErr result (λ fault. LeavesSeat fault seat.old seat.new) }
+        ensures cause { IfErr result (λ fault. HasCause fault seat.old Dump) }
+    {
+        self.call(rt, seat, &Command::Dump)
     }
 
     /// Deletes a session.

@@ -1,4 +1,4 @@
-//! Each of the nineteen calls of a server, and what becomes of it with each request for memory refused.
+//! Each of the twenty-one calls of a server, and what becomes of it with each request for memory refused.
 ghost use Rattle.std.specs.Prelude.{◌≡◌};
 
 use crate::carried::push_line;
@@ -13,7 +13,7 @@ use std::alloc::Global;
 use std::marker::Brand;
 use std::sync::Wait;
 
-// Each of the nineteen commands.
+// Each of the twenty-one commands.
 pub(crate) const WORKLOAD: &str = "create t kv\n\
      commit insert t (1,'x')\n\
      session\n\
@@ -25,6 +25,8 @@ pub(crate) const WORKLOAD: &str = "create t kv\n\
      save old\n\
      databases\n\
      sessions\n\
+     tables\n\
+     dump\n\
      apply x'5402010074001200010000000000000001030179' omit omit replace\n\
      isempty 1\n\
      changeset 1\n\
@@ -54,6 +56,10 @@ pub(crate) const REPLIES: &str = "ok version 1\n\
      \"old\"\n\
      sessions 1\n\
      1 enable on indirect off isempty false \"t\"\n\
+     tables 2\n\
+     \"audit\" kv keyed 1 loose 0\n\
+     \"t\" kv keyed 2 loose 0\n\
+     changeset 54020100617564697400120001000000000000000103016154020100740012000100000000000000010301781200010000000000000002030179\n\
      ok version 5, applied 1, omitted 0, skipped 0\n\
      false\n\
      changeset 5402010074001700010000000000000001030178000301791200010000000000000002030179\n\
@@ -141,6 +147,8 @@ fn call_asks<J: Naming>(
         Command::Read => server.read(rt, seat),
         Command::Databases => server.databases(rt, seat),
         Command::Sessions => server.sessions(rt, seat),
+        Command::Tables => server.tables(rt, seat),
+        Command::Dump => server.dump(rt, seat),
         Command::IsEmpty { session } => server.is_empty(rt, seat, *session),
         Command::Capture { session } => server.capture(rt, seat, *session),
         Command::Restart { session } => server.restart(rt, seat, *session),
@@ -311,7 +319,7 @@ fn starved<J: Naming + Send + Sync, A: AllocHandle>(
 fn each_call_is_answered(rt: HostRuntime) {
     let mut texts = String::new(rt.alloc());
     let called = each_call::<Brand>(&rt, Opened::new(), rt.alloc(), &mut texts);
-    assert!(rt; called == Some((25, 25)));
+    assert!(rt; called == Some((27, 27)));
     // They are the replies of the sequential server.
     assert!(rt; texts.as_str() == REPLIES);
 }

@@ -54,6 +54,8 @@ const COMMANDS: &[(&str, bool, bool)] = &[
     ("dropdatabase old", true, true),
     ("databases", false, true),
     ("sessions", false, true),
+    ("tables", false, true),
+    ("dump", false, true),
     ("session", true, false),
     ("drop 1", true, false),
     ("attach 3 t", true, true),

@@ -3,7 +3,7 @@ use crate::recorded::create;
 use cap_codec::{KeyFlags, read_blob};
 use cap_core::Command;
 use cap_database::{Database, run_ops};
-use cap_dump::{dump, dump_and_load, load};
+use cap_dump::{dump, dump_all, dump_and_load, load};
 use cap_row::Schema;
 use cap_script::parse;
 use cap_value::{Fault, Name, Refusal};
@@ -89,10 +89,21 @@ fn all_dumped(
     Some(all)
 }
 
-// Whether these bytes are loaded, and dumped as those.
+// Whether the dump of all tables has these bytes.
+fn dumps_all(alloc: Global, database: &Database<Global>, digits: &str) -> bool {
+    let Ok(expected) = hex::decode(alloc, digits) else {
+        return false;
+    };
+    match dump_all(alloc, KeyFlags::Places, database) {
+        Ok(made) => made.as_slice() == expected.as_slice(),
+        Err(_) => false,
+    }
+}
+
+// Whether these bytes are loaded, and dumped as those, table by table and all at once.
 fn loads_as(alloc: Global, digits: &str, tables: &[&str], again: &str) -> bool {
     match loaded(alloc, &Database::empty(alloc), digits) {
-        Ok(made) => dumps(alloc, &made, tables, again),
+        Ok(made) => dumps(alloc, &made, tables, again) && dumps_all(alloc, &made, again),
         Err(_) => false,
     }
 }
@@ -163,6 +174,7 @@ fn rows_without_a_key_are_left_out(rt: HostRuntime) -> Result<(), Fail> {
     let text = "commit insert t (1,'x') ; insert t (null,'y') ; insert u ('z')";
     let rows = committed(alloc, &tables, text).ok_or("rows")?;
     assert!(rt; dumps(alloc, &rows, &["t", "u"], ROW));
+    assert!(rt; dumps_all(alloc, &rows, ROW));
     assert!(rt; comes_again(alloc, &rows, ROW));
     assert!(rt; all_dumped(alloc, &rows, &["v"]).is_none());
     Ok(())

@@ -14,3 +14,9 @@ unfolding reply_text
 returns-in_ok-text-in-Capture g c =
     let text : string_bytes c.in_ok-text-in-Capture.text ≡ reply_text c.args.line.now c.args.reply.now = c.in_ok-text-in-Capture.ensures ∙ ap (reply_text c.args.line.now) (sym c.in-Capture.is) in
     rw (sym text) (pushed c.push_str-in-Capture.result (string_bytes c.push_str-in-Capture.new.self) (string_bytes c.args.out.now) (string_bytes c.in_ok-text-in-Capture.text) (rw c.as_str-in-Capture.ensures.value at c.push_str-in-Capture.ensures.bytes))
+
+pub returns-in_ok-text-in-Dump : goal.returns-in_ok-text-in-Dump
+unfolding reply_text
+returns-in_ok-text-in-Dump g c =
+    let text : string_bytes c.in_ok-text-in-Dump.text ≡ reply_text c.args.line.now c.args.reply.now = c.in_ok-text-in-Dump.ensures ∙ ap (reply_text c.args.line.now) (sym c.in-Dump.is) in
+    rw (sym text) (pushed c.push_str-in-Dump.result (string_bytes c.push_str-in-Dump.new.self) (string_bytes c.args.out.now) (string_bytes c.in_ok-text-in-Dump.text) (rw c.as_str-in-Dump.ensures.value at c.push_str-in-Dump.ensures.bytes))
