@@ -22,6 +22,17 @@ INSERT INTO "t" VALUES(1,'x');
 COMMIT;
 """
 COUNTS = "t: inserts 1, updates 0, deletes 0, indirect 0, bytes 20\n"
+# A row of one table, another table without rows, and another row of the first table.
+DUMP = INSERT + "54030102007500" + "5402010074001200" + "010000000000000002" + "030179"
+# What is made of that dump, and its rows.
+MADE = ("ok version 1\nok version 2\nok version 3, applied 2, omitted 0, skipped 0\nrows 2\n(1,'x')\n(2,'y')\n"
+        "rows 0\n")
+
+
+def applied(*blobs):
+    """The lines that apply blobs of which each conflict is a refusal."""
+    return "".join(f"apply x'{blob}' abort abort abort\n" for blob in blobs)
+
 
 
 # A table and values with quotes, and with what columns are called.
@@ -45,6 +56,13 @@ FILES = {
     "update.hex": line(UPDATE),
     "y.bin": bytes.fromhex(INSERTED_Y),
     "patches.hex": line(PATCHES),
+    "dump.hex": line(DUMP),
+    "dump.bin": bytes.fromhex(DUMP),
+    # Another table that is called as that of `insert.hex`, and names that are no words.
+    "wider.hex": line("54030100007400"),
+    "keyed.hex": line(INSERT + "540201017400"),
+    "blank.bin": bytes.fromhex("54010161206200"),
+    "digit.bin": bytes.fromhex("540101396100"),
     "none": b"-\n",
     "empty": b"",
     "white": b" \n\t\r\n",
@@ -101,6 +119,13 @@ PRINTED = [
     ("summary upper.hex update.hex none patches.hex", "t: inserts 0, updates 0, deletes 1, indirect 0, bytes 20\n"
      "t: inserts 0, updates 1, deletes 0, indirect 0, bytes 24\n"
      "t: inserts 0, updates 0, deletes 1, indirect 0, bytes 17\n"),
+    ("load insert.hex", f"create t kv\n{applied(INSERT)}"),
+    ("load insert.bin", f"create t kv\n{applied(INSERT)}"),
+    ("load spaced.hex", f"create t kv\n{applied(INSERT)}"),
+    ("load none", ""),
+    ("load dump.hex", f"create t kv\ncreate u kkv\n{applied(DUMP)}"),
+    # A table is created once, whatever number of groups and of files it is in.
+    ("load insert.bin none y.bin dump.hex", f"create t kv\n{applied(INSERT, INSERTED_Y)}create u kkv\n{applied(DUMP)}"),
     ("invert insert.hex", f"{DELETE}\n"),
     ("invert insert.bin", bytes.fromhex(DELETE)),
     ("invert none", "\n"),
@@ -124,6 +149,18 @@ OF_INPUT = [
     ("summary", line(INSERT), COUNTS),
     ("show --jsonl", line(INSERT), JSON_LINE),
     ("show --columns t=id,name", bytes.fromhex(DELETE), "changeset\ngroup t kv\ndelete direct (id=1,name='x')\n"),
+    ("load", line(INSERT), f"create t kv\n{applied(INSERT)}"),
+    ("load -", bytes.fromhex(DUMP), f"create t kv\ncreate u kkv\n{applied(DUMP)}"),
+    ("load insert.hex -", line(INSERTED_Y), f"create t kv\n{applied(INSERT, INSERTED_Y)}"),
+    # What is printed of a dump is run, by `run` and by a shell.
+    ("run", f"create t kv\ncreate u kkv\n{applied(DUMP)}scan t\nscan u\n", MADE),
+    ("shell", b".load dump.hex\nscan t\nscan u", MADE),
+    ("shell", b".load dump.bin\nscan t\nscan u\n", MADE),
+    ("shell", b".load none\nsession\n", "session 1\n"),
+    # Its tables are made once, and its rows are added to those that are there, or none where one is there already.
+    ("shell", b"create t kv\ncommit insert t (3,'z')\n.load insert.bin\n.load insert.bin\nscan t\n",
+     "ok version 1\nok version 2\nrefused: E9 TableExists\nok version 3, applied 1, omitted 0, skipped 0\n"
+     "refused: E9 TableExists\nrefused at 0: E15 Aborted\nrows 2\n(1,'x')\n(3,'z')\n"),
     ("shell -f tables", b"scan t\n", "ok version 1\nok version 2\nrows 1\n(1,'x')\nrows 1\n(1,'x')\n"),
     ("shell", b"session\n.read tables\nsession", "session 1\nok version 1\nok version 2\nrows 1\n(1,'x')\nsession 2\n"),
     ("shell --file=tables", b"quit\nscan t\n", "ok version 1\nok version 2\nrows 1\n(1,'x')\n"),
@@ -147,6 +184,19 @@ REFUSED = [
     ("check insert.hex op.bin", "op.bin: ", "fault D5 BadOp at 6: 54 02 01 00 74 00 | 99 00 01 00 00 00 00 00"),
     ("summary other", "other: ", "fault D2 BadHeader at 0: | 01 02"),
     ("invert patches.hex", "patches.hex: ", "patchset"),
+    ("load nowhere", "nowhere: ", None),
+    ("load folder", "folder: ", None),
+    ("load white", "white: ", "empty"),
+    ("load insert.hex half.hex", "half.hex: ", "half a byte at the end of the hex digits"),
+    ("load not.hex", "not.hex: ", "not hex at 8"),
+    ("load insert.hex cut.hex", "cut.hex: ", "fault D1 Truncated at 8: 54 02 01 00 74 00 12 00 |"),
+    ("load insert.hex patches.hex", "patches.hex: ", "patchset"),
+    ("load update.hex", "update.hex: ", "a change that is no INSERT in group 0"),
+    ("load dump.hex delete.bin", "delete.bin: ", "a change that is no INSERT in group 0"),
+    ("load keyed.hex", "keyed.hex: ", "other columns in group 1"),
+    ("load insert.hex wider.hex", "wider.hex: ", "other columns in group 0"),
+    ("load blank.bin", "blank.bin: ", "a name that is no word in group 0"),
+    ("load digit.bin", "digit.bin: ", "a name that is no word in group 0"),
     ("concat insert.hex not.hex", "not.hex: ", "not hex at 8"),
     ("concat insert.hex patches.hex", "patches.hex: ", "changeset and patchset"),
     ("concat insert.hex cut.hex update.hex", "cut.hex: ", "fault D1 Truncated at 8"),
@@ -202,6 +252,12 @@ EXPLAINED = [
     ("shell", ".read nowhere\nsession\n", "session 1\n", "nowhere: No such file or directory (os error 2)\n", 0),
     ("shell", ".read itself\nsession\n", "".join(f"session {n}\n" for n in range(1, 18)),
      "itself: files read one another 16 deep\n", 0),
+    ("shell", ".load nowhere\n.load patches.hex\n.load cut.hex\nsession\n", "session 1\n",
+     "nowhere: No such file or directory (os error 2)\npatches.hex: patchset\n"
+     "cut.hex: fault D1 Truncated at 8: 54 02 01 00 74 00 12 00 |\n", 0),
+    # The lines of a dump are counted on.
+    ("shell", ".load insert.hex\nfrob\n.load", "ok version 1\nok version 2, applied 1, omitted 0, skipped 0\n",
+     "line 4: G1 Syntax at 0\nline 5: G1 Syntax at 0\n", 0),
     ("shell", ".read\nquit now\n", "", "line 1: G1 Syntax at 0\nline 2: G1 Syntax at 0\n", 0),
     ("run --no-progress", "session\n", "session 1\n", "", 0),
 ]
@@ -210,6 +266,7 @@ MISUSED = ["show -o out", "show --binary insert.hex", "concat --binary insert.he
            "shell insert.hex", "check --sql insert.hex", "run tables -o out", "show --jsonl --sql insert.hex",
            "show --jsonl --json insert.hex", "show --columns t insert.hex", "show --columns t=a,a insert.hex",
            "show --columns t=a, insert.hex", "summary --columns t=a,b insert.hex",
+           "load -o out", "load --binary insert.hex", "load --sql insert.hex",
            "run --progress --no-progress tables", "shell --progress", "show --explain insert.hex"]
 
 
@@ -296,7 +353,8 @@ def check(suite):
                    (ran.stdout, ran.stderr, ran.returncode) == wanted)
     # A word that is nearly one.
     for words, meant in (("sumary insert.hex", b"'summary'"), ("show --jsnl insert.hex", b"'--jsonl'"),
-                         ("run --explian", b"'--explain'")):
+                         ("run --explian", b"'--explain'"), ("laod insert.hex", b"'load'"),
+                         ("load --outptu=out insert.hex", b"'--output'")):
         folder.run(words, b"", lambda ran, meant=meant: ran.returncode == 2 and meant in ran.stderr and not ran.stdout)
     rate = re.compile(rb"4 lines of replies in \d+\.\d{3} seconds, \d+ a second\n")
     folder.run("run --progress tables", b"", lambda ran: rate.fullmatch(ran.stderr) and ran.returncode == 0)

@@ -488,6 +488,27 @@ uint32_t changecap_apply(changecap_client *client, const void *blob, size_t n, u
 uint32_t changecap_apply_iter(changecap_client *client, changecap_iter *it, uint32_t data, uint32_t notfound,
                               uint32_t conflict, changecap_report *report, changecap_fault *fault);
 
+/* What an application under a policy is told beside its answers. All zero it tells nothing. */
+typedef struct changecap_options {
+  const uint64_t *quiet; /* the numbers of sessions that record none of its changes: each other one records them */
+  size_t quiet_n;        /* how many they are; where it is 0 quiet may be NULL */
+} changecap_options;
+
+/* The same two, as *options says. Who sends to another copy what a session captures, and applies what that copy sends,
+ * names the session here, so that nothing is sent back:
+ *
+ *     changecap_options options = { .quiet = &session, .quiet_n = 1 };
+ *     status = changecap_apply_with(&client, blob, n, CHANGECAP_OMIT, CHANGECAP_OMIT, CHANGECAP_REPLACE, &options,
+ *                                   &report, &fault);
+ *
+ *   As of the two; also REFUSED with E_NO_SESSION, where a quiet session is not there. */
+uint32_t changecap_apply_with(changecap_client *client, const void *blob, size_t n, uint32_t data, uint32_t notfound,
+                              uint32_t conflict, const changecap_options *options, changecap_report *report,
+                              changecap_fault *fault);
+uint32_t changecap_apply_iter_with(changecap_client *client, changecap_iter *it, uint32_t data, uint32_t notfound,
+                                   uint32_t conflict, const changecap_options *options, changecap_report *report,
+                                   changecap_fault *fault);
+
 /* Creates the tables of a blob, and applies it to them with CHANGECAP_ABORT as each answer: what changecap_dump wrote
  * of one history and is loaded into another gives the same tables. The blob is read, and the tables as they are are
  * looked at, before anything is made: where one of its tables is there already, or a change is no INSERT of a new row,
@@ -901,6 +922,9 @@ uint32_t changecap_try_create(changecap_client *client, const void *table, size_
 uint32_t changecap_try_save(changecap_client *client, const void *database, size_t n, changecap_fault *fault);
 uint32_t changecap_try_apply(changecap_client *client, changecap_iter *it, uint32_t data, uint32_t notfound,
                              uint32_t conflict, changecap_report *report, changecap_fault *fault);
+uint32_t changecap_try_apply_with(changecap_client *client, changecap_iter *it, uint32_t data, uint32_t notfound,
+                                  uint32_t conflict, const uint64_t *quiet, size_t quiet_n, changecap_report *report,
+                                  changecap_fault *fault);
 uint32_t changecap_try_load(changecap_client *client, changecap_iter *it, changecap_report *report,
                             changecap_fault *fault);
 uint32_t changecap_try_session_new(changecap_client *client, uint64_t *session, changecap_fault *fault);

@@ -229,6 +229,30 @@ uint32_t changecap_apply(changecap_client *client, const void *blob, size_t n, u
   return status;
 }
 
+/* The numbers of the quiet sessions, or a place of none that is not NULL. */
+static const uint64_t *quiet_of(const changecap_options *options){
+  static const uint64_t none;
+  return options->quiet ? options->quiet : &none;
+}
+
+uint32_t changecap_apply_iter_with(changecap_client *client, changecap_iter *it, uint32_t data, uint32_t notfound,
+                                   uint32_t conflict, const changecap_options *options, changecap_report *report,
+                                   changecap_fault *fault){
+  RETURN_LOCKED(client, changecap_try_apply_with(client, it, data, notfound, conflict, quiet_of(options),
+                                                 options->quiet_n, report, fault));
+}
+
+uint32_t changecap_apply_with(changecap_client *client, const void *blob, size_t n, uint32_t data, uint32_t notfound,
+                              uint32_t conflict, const changecap_options *options, changecap_report *report,
+                              changecap_fault *fault){
+  changecap_iter it = CHANGECAP_CLOSED;
+  uint32_t status = changecap_iter_open(blob, n, &it, fault);
+  if( status != CHANGECAP_OK ) return status;
+  status = changecap_apply_iter_with(client, &it, data, notfound, conflict, options, report, fault);
+  changecap_iter_close(&it);
+  return status;
+}
+
 static uint32_t load_opened(changecap_client *client, changecap_iter *it, changecap_report *report,
                             changecap_fault *fault){
   RETURN_LOCKED(client, changecap_try_load(client, it, report, fault));

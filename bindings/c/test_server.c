@@ -275,6 +275,54 @@ static void worked_applications(void){
   changecap_close(&client);
 }
 
+/* Applies the INSERT, and leaves these sessions as they are. */
+static uint32_t applied_quietly(changecap_client *client, const uint64_t *quiet, size_t count, const uint32_t by[3],
+                                changecap_report *report, changecap_fault *fault){
+  changecap_options options = { .quiet = quiet, .quiet_n = count };
+  bytes blob = of_hex(INSERT, strlen(INSERT));
+  uint32_t status = changecap_apply_with(client, blob.at, blob.n, by[0], by[1], by[2], &options, report, fault);
+  free(blob.at);
+  return status;
+}
+
+/* Whether a session has recorded nothing. */
+static int is_empty(changecap_client *client, uint64_t session){
+  changecap_fault fault;
+  uint32_t flag = 77;
+  CHECK(changecap_session_isempty(client, session, &flag, &fault) == CHANGECAP_OK);
+  return flag != 0;
+}
+
+static void quiet_applications(void){
+  const uint32_t replace[3] = { 1, 1, 1 }, other[3] = { 0, 0, 3 };
+  const uint64_t two[2] = { 1, 3 };
+  changecap_client client = CHANGECAP_CLOSED;
+  changecap_iter it = CHANGECAP_CLOSED;
+  changecap_fault fault = { 77, 77 };
+  changecap_report report = { 77, 77, 77, 77, 77 };
+  changecap_options options = { .quiet = two, .quiet_n = 1 };
+  bytes blob = of_hex(UPDATE, strlen(UPDATE));
+  CHECK(changecap_open(&client) == CHANGECAP_OK);
+  CHECK(called(&client, "create t kv", &fault) == CHANGECAP_OK);
+  for(int i = 0; i < 2; i++) CHECK(called(&client, "session", &fault) == CHANGECAP_OK);
+  CHECK(called(&client, "attachall 1", &fault) == CHANGECAP_OK && called(&client, "attachall 2", &fault) == CHANGECAP_OK);
+  CHECK(applied_quietly(&client, two, 1, other, &report, &fault) == CHANGECAP_MISUSE && fault.kind == 77);
+  CHECK(applied_quietly(&client, two, 2, replace, &report, &fault) == CHANGECAP_REFUSED && fault.kind == 18);
+  CHECK(is_report(report, 77, 77, 77, 77, 77));
+  CHECK(applied_quietly(&client, two, 1, replace, &report, &fault) == CHANGECAP_OK && is_report(report, 2, 1, 0, 0, 0));
+  CHECK(is_empty(&client, 1) && !is_empty(&client, 2));
+  CHECK(changecap_iter_open(blob.at, blob.n, &it, &fault) == CHANGECAP_OK);
+  CHECK(changecap_apply_iter_with(&client, &it, 2, 2, 2, &options, &report, &fault) == CHANGECAP_OK);
+  CHECK(is_report(report, 3, 1, 0, 0, 0) && is_empty(&client, 1));
+  CHECK(changecap_try_apply_with(&client, &it, 0, 0, 0, two, 1, &report, &fault) == CHANGECAP_OK);
+  CHECK(is_report(report, 4, 0, 1, 1, 0) && is_empty(&client, 1));
+  CHECK(applied_quietly(&client, NULL, 0, replace, &report, &fault) == CHANGECAP_OK && is_report(report, 5, 1, 1, 0, 0));
+  CHECK(!is_empty(&client, 1));
+  changecap_iter_close(&it);
+  free(blob.at);
+  changecap_close(&client);
+}
+
 static uint32_t filtered(changecap_client *client, uint64_t session, const char *filter, changecap_fault *fault){
   bytes text = copy_of((const uint8_t *)filter, strlen(filter));
   uint32_t status = changecap_session_filter(client, session, text.at, text.n, fault);
@@ -370,6 +418,8 @@ static void refused_sessions(void){
     AGAIN(compared(&client, 1, "before", "t", &fault));
     CHECK(status == CHANGECAP_OK);
     granted = captures_again(CHANGESET, &client, DELETE) && granted;
+    AGAIN(applied_quietly(&client, &session, 1, (const uint32_t[3]){ 2, 2, 2 }, &report, &fault));
+    CHECK(status == CHANGECAP_OK && is_report(report, 4, 1, 0, 0, 0));
     AGAIN(changecap_session_drop(&client, 1, &fault));
     CHECK(status == CHANGECAP_OK);
     granted = none_refused() && granted;
@@ -481,6 +531,7 @@ void test_server(void){
   refused_client();
   worked_sessions();
   worked_applications();
+  quiet_applications();
   worked_differences();
   refused_sessions();
   worked_dumps();

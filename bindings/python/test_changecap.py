@@ -75,6 +75,28 @@ class Servers(unittest.TestCase):
                     server.apply(blob, **words)
                 self.assertEqual(str(raised.exception), wanted)
 
+    def test_quiet_sessions(self):
+        with changecap.Server() as server, changecap.Server() as other_server:
+            server.create_table("t", [True, False])
+            own, other, ended, foreign = server.session(), server.session(), server.session(), other_server.session()
+            for session in (own, other):
+                session.attach()
+            ended.drop()
+            with self.assertRaises(changecap.Refused) as raised:
+                server.apply(INSERT, quiet=[own, ended])
+            self.assertEqual((raised.exception.kind, raised.exception.at), (changecap.E_NO_SESSION, None))
+            for words, error in (({"quiet": [foreign]}, ValueError), ({"quiet": [1]}, AttributeError),
+                                 ({"quiet": [own], "filter": "all"}, ValueError),
+                                 ({"quiet": [own], "conflict": lambda *_: changecap.OMIT}, ValueError)):
+                with self.assertRaises(error):
+                    server.apply(INSERT, **words)
+            self.assertEqual(server.apply(INSERT, quiet=[own]), changecap.Report(2, 1, 0, 0, 0))
+            self.assertEqual((own.is_empty(), other.is_empty()), (True, False))
+            report = server.apply(INSERT, conflict=changecap.OMIT, rebase=True, quiet=iter([own, other]))
+            self.assertEqual((report.version, report.omitted, len(report.buffer())), (3, 1, 20))
+            self.assertEqual(server.apply(DELETE), changecap.Report(4, 1, 0, 0, 0))
+            self.assertFalse(own.is_empty())
+
     def test_dumps(self):
         with changecap.Server() as server, changecap.Server() as copy:
             self.assertEqual(server.snapshot().dump(), b"")

@@ -33,8 +33,8 @@ def helps(sources, program, text_of):
     if not program:
         source = text_of(sources.root, HELP)
         return source, source
-    words = [[], *([word] for word in ("run", "shell", "show", "check", "summary", "invert", "patchset", "concat",
-                                       "rebase"))]
+    words = [[], *([word] for word in ("run", "shell", "load", "show", "check", "summary", "invert", "patchset",
+                                       "concat", "rebase"))]
     printed = [subprocess.run([program, *it, "--help"], capture_output=True, text=True, check=False).stdout
                for it in words]
     return "\n".join(printed), printed[1]
@@ -79,7 +79,7 @@ def faults_of_calls(sources, text_of):
 
 def faults_of_completions(sources, everything):
     """The commands and the options that a completion lacks."""
-    commands = re.findall(r"^  (run|shell|show|check|summary|invert|patchset|concat|rebase) ", everything, re.M)
+    commands = re.findall(r"^  (run|shell|load|show|check|summary|invert|patchset|concat|rebase) ", everything, re.M)
     for name in sorted(os.listdir(f"{sources.root}/{COMPLETIONS}")):
         with open(f"{sources.root}/{COMPLETIONS}/{name}", encoding="utf-8") as file:
             text = file.read()

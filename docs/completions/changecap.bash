@@ -8,11 +8,11 @@ _changecap() {
         esac
     done
     case $command in
-        '') words='run shell show check summary invert patchset concat rebase --version' ;;
+        '') words='run shell load show check summary invert patchset concat rebase --version' ;;
         run) words='--threads --in-turn --json --explain --progress --no-progress' ;;
         shell) words='--file --explain' ;;
         show) words='--sql --json --jsonl --columns --binary --output' ;;
-        check | summary) words='--output' ;;
+        load | check | summary) words='--output' ;;
         invert | patchset | concat | rebase) words='--binary --key-flags --output' ;;
         *) return ;;
     esac

@@ -3,6 +3,7 @@ complete -c changecap -f
 complete -c changecap -n 'not __fish_use_subcommand; and not __fish_seen_subcommand_from shell' -F
 complete -c changecap -n __fish_use_subcommand -a run -d 'Print the reply to each command of a workload'
 complete -c changecap -n __fish_use_subcommand -a shell -d 'Run each line as it is read'
+complete -c changecap -n __fish_use_subcommand -a load -d 'Print the lines of a workload that make a dump'
 complete -c changecap -n __fish_use_subcommand -a show -d 'Print what is in a blob'
 complete -c changecap -n __fish_use_subcommand -a check -d 'Say whether blobs are well formed'
 complete -c changecap -n __fish_use_subcommand -a summary -d 'Count the changes of blobs'
@@ -27,7 +28,7 @@ complete -c changecap -n '__fish_seen_subcommand_from show' -l json -d 'Print JS
 set -l converting show invert patchset concat rebase
 complete -c changecap -n "__fish_seen_subcommand_from $converting" -l binary -d 'Blobs are bytes, not hex digits'
 set -e converting[1]
-set -l writing show check summary $converting
+set -l writing load show check summary $converting
 complete -c changecap -n "__fish_seen_subcommand_from $writing" -s o -l output -r -d 'The file that is written'
 complete -c changecap -n "__fish_seen_subcommand_from $converting" -l key-flags -x -a 'places ones' \
     -d 'How key columns are flagged'

@@ -113,21 +113,46 @@ static PyObject *report_or_error(const applied *made){
                        (unsigned long long)it->skipped);
 }
 
-/* Takes the three answers, behind a blob. */
+/* Takes the three answers, behind a blob, and before the quiet sessions. */
 static int take_answers(PyObject *const *args, Py_ssize_t count, applied *to){
   *to = (applied){ 0, 0, 0, CHANGECAP_OK, { 0, 0, 0, 0, 0 }, { 0, 0 } };
-  return has_arguments(count, 4) && word_of(args[1], &to->data) && word_of(args[2], &to->notfound) &&
+  return has_arguments(count, 5) && word_of(args[1], &to->data) && word_of(args[2], &to->notfound) &&
          word_of(args[3], &to->conflict);
 }
 
-/* Takes a blob and the three answers. */
+/* Takes the numbers of sessions, a tuple, which are put into the bytes. */
+static int take_quiet(PyObject *from, arena *numbers, changecap_options *to){
+  Py_ssize_t count = PyTuple_Check(from) ? PyTuple_GET_SIZE(from) : -1;
+  if( count < 0 ){
+    PyErr_SetString(PyExc_TypeError, "the quiet sessions are no tuple");
+    return 0;
+  }
+  if( !arena_has_room(numbers, (size_t)count * sizeof *to->quiet) ){
+    PyErr_NoMemory();
+    return 0;
+  }
+  for(Py_ssize_t i = 0; i < count; i++){
+    uint64_t number;
+    if( !number_of(PyTuple_GET_ITEM(from, i), 64, &number) ) return 0;
+    arena_put(numbers, &number, sizeof number);
+  }
+  *to = (changecap_options){ .quiet = (const uint64_t *)(const void *)numbers->at, .quiet_n = (size_t)count };
+  return 1;
+}
+
+/* Takes a blob, the three answers and the quiet sessions. */
 static PyObject *client_apply(client *self, PyObject *const *args, Py_ssize_t count){
   applied made;
+  changecap_options options = { NULL, 0 };
+  arena quiet = { NULL, 0, 0 };
   if( !take_answers(args, count, &made) ) return NULL;
-  PyObject *blob = content_of(args[0]);
+  PyObject *blob = take_quiet(args[4], &quiet, &options) ? content_of(args[0]) : NULL;
+  if( blob )
+    CALL(self, made.status,
+         changecap_apply_with(&self->handle, PyBytes_AS_STRING(blob), (size_t)PyBytes_GET_SIZE(blob), made.data,
+                              made.notfound, made.conflict, &options, &made.report, &made.fault));
+  arena_free(&quiet);
   if( blob == NULL ) return NULL;
-  CALL(self, made.status, changecap_apply(&self->handle, PyBytes_AS_STRING(blob), (size_t)PyBytes_GET_SIZE(blob),
-                                          made.data, made.notfound, made.conflict, &made.report, &made.fault));
   Py_DECREF(blob);
   return report_or_error(&made);
 }
@@ -144,29 +169,35 @@ static PyObject *client_load(client *self, PyObject *given){
 }
 
 /* Applies what changes are of, without the GIL. They are locked before the client, here alone. */
-static void apply_changes(client *self, changes *of, applied *made){
+static void apply_changes(client *self, changes *of, const changecap_options *options, applied *made){
   pthread_mutex_lock(&of->own.mutex);
   pthread_mutex_lock(&self->own.mutex);
   int is_open = self->handle.at && of->handle.at;
   made->status = !is_open ? CLOSED
-                          : changecap_apply_iter(&self->handle, &of->handle, made->data, made->notfound, made->conflict,
-                                                 &made->report, &made->fault);
+                          : changecap_apply_iter_with(&self->handle, &of->handle, made->data, made->notfound,
+                                                      made->conflict, options, &made->report, &made->fault);
   pthread_mutex_unlock(&self->own.mutex);
   pthread_mutex_unlock(&of->own.mutex);
 }
 
-/* Takes changes and the three answers. */
+/* Takes changes, the three answers and the quiet sessions. */
 static PyObject *client_apply_changes(client *self, PyObject *const *args, Py_ssize_t count){
   applied made;
+  changecap_options options = { NULL, 0 };
+  arena quiet = { NULL, 0, 0 };
   if( !take_answers(args, count, &made) ) return NULL;
   if( Py_TYPE(args[0]) != &changes_type ){
     PyErr_SetString(PyExc_TypeError, "these are no changes");
     return NULL;
   }
-  PyThreadState *saved = PyEval_SaveThread();
-  apply_changes(self, (changes *)args[0], &made);
-  PyEval_RestoreThread(saved);
-  return report_or_error(&made);
+  int is_taken = take_quiet(args[4], &quiet, &options);
+  if( is_taken ){
+    PyThreadState *saved = PyEval_SaveThread();
+    apply_changes(self, (changes *)args[0], &options, &made);
+    PyEval_RestoreThread(saved);
+  }
+  arena_free(&quiet);
+  return is_taken ? report_or_error(&made) : NULL;
 }
 
 /* ---- Sessions ---- */

@@ -1,10 +1,12 @@
 //! Clients of a server.
 use crate::application::Application;
 use crate::call::{done, done_at, taken, text_of};
+use crate::options::pointing;
 use crate::pool::{snapshot, Pool};
 use crate::refused::{Refused, RefusedChange};
 use crate::{
-    ffi, Batch, ChangesetItem, ChangesetIter, ConflictAnswer, ConflictType, Error, Result, Snapshot,
+    ffi, ApplyOptions, Batch, ChangesetItem, ChangesetIter, ConflictAnswer, ConflictType, Error, Result,
+    Snapshot,
 };
 use crate::{Changeset, RebaseBuffer, Refusal, TRIES};
 use std::cell::RefCell;
@@ -237,6 +239,32 @@ impl Client {
         // SAFETY: the client and the iterator are open, and no other call has them. Places of the call.
         self.applied(|client, report, fault| unsafe {
             ffi::changecap_apply_iter(client, changes.handle.at(), data, not_found, conflict, report, fault)
+        })
+    }
+
+    /// The same as [`apply`](Self::apply), and each quiet session of the options stays as it is. Refused with
+    /// [`Refusal::NoSession`] where one has ended; [`Error::Misuse`] where it is of another server.
+    pub fn apply_options(&self, blob: impl AsRef<[u8]>, options: &ApplyOptions) -> Result<Report> {
+        let (blob, quiet) = (blob.as_ref(), options.numbers(&self.pool)?);
+        let [data, not_found, conflict] = options.answers.map(ConflictAction::number);
+        let told = pointing(&quiet);
+        // SAFETY: the client is open, and no other call has it. Slices, and places of the call.
+        self.applied(|client, report, fault| unsafe {
+            let (at, n) = (blob.as_ptr(), blob.len());
+            ffi::changecap_apply_with(client, at, n, data, not_found, conflict, &told, report, fault)
+        })
+        .map_err(|error| named(error, blob))
+    }
+
+    /// The same of all that an iterator goes over, as [`apply_iter`](Self::apply_iter).
+    pub fn apply_iter_options(&self, changes: &mut ChangesetIter, options: &ApplyOptions) -> Result<Report> {
+        let quiet = options.numbers(&self.pool)?;
+        let [data, not_found, conflict] = options.answers.map(ConflictAction::number);
+        let told = pointing(&quiet);
+        // SAFETY: the client and the iterator are open, and no other call has them. A slice, and places of the call.
+        self.applied(|client, report, fault| unsafe {
+            let it = changes.handle.at();
+            ffi::changecap_apply_iter_with(client, it, data, not_found, conflict, &told, report, fault)
         })
     }
 

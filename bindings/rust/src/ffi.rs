@@ -83,6 +83,13 @@ pub struct Report {
     pub skipped: u64,
 }
 
+/// A `changecap_options`: each pointer is read only where the number behind it is not 0.
+#[repr(C)]
+pub struct Options {
+    pub quiet: *const u64,
+    pub quiet_n: usize,
+}
+
 /// A `changecap_client`: `at` is null while it is closed.
 #[repr(C)]
 #[derive(Debug)]
@@ -264,6 +271,27 @@ unsafe extern "C" {
         data: u32,
         notfound: u32,
         conflict: u32,
+        report: *mut Report,
+        fault: *mut Fault,
+    ) -> u32;
+    pub fn changecap_apply_with(
+        client: *mut Client,
+        blob: *const u8,
+        n: usize,
+        data: u32,
+        notfound: u32,
+        conflict: u32,
+        options: *const Options,
+        report: *mut Report,
+        fault: *mut Fault,
+    ) -> u32;
+    pub fn changecap_apply_iter_with(
+        client: *mut Client,
+        iter: *mut Handle,
+        data: u32,
+        notfound: u32,
+        conflict: u32,
+        options: *const Options,
         report: *mut Report,
         fault: *mut Fault,
     ) -> u32;

@@ -80,6 +80,11 @@ impl Session {
         Ok(flag != 0)
     }
 
+    /// Its number, where it is of the server that lends from this pool.
+    pub(crate) fn number_in(&self, pool: &Arc<Pool>) -> Option<u64> {
+        Arc::ptr_eq(&self.pool, pool).then_some(self.number)
+    }
+
     /// The value of a flag, which is set first where one is given.
     fn flag(&self, call: ffi::FlagCall, set: Option<bool>) -> Result<bool> {
         let mut flag = 0;

@@ -582,6 +582,32 @@ fn applications() {
 }
 
 #[test]
+fn quiet_sessions() {
+    let (server, other_server) = (Server::open_in_memory().unwrap(), Server::open_in_memory().unwrap());
+    let client = server.client().unwrap();
+    client.create_table("t", &[true, false]).unwrap();
+    let sessions: Vec<Session> = (0..2).map(|_| Session::new(&server).unwrap()).collect();
+    let foreign = Session::new(&other_server).unwrap();
+    sessions.iter().for_each(|session| session.attach(None).unwrap());
+    let empty = || [0, 1].map(|at: usize| sessions[at].is_empty().unwrap());
+    let (omit, insert) = (ConflictAction::Omit, of_hex(INSERT));
+    let options = ApplyOptions::new(omit, omit, omit).quiet(&sessions[0]);
+    let of_another = options.clone().quiet(&foreign);
+    assert!(matches!(client.apply_options(&insert, &of_another), Err(Error::Misuse)));
+    let applied = Report { version: 2, applied: 1, conflicts: 0, omitted: 0, skipped: 0 };
+    assert_eq!(client.apply_options(&insert, &options).unwrap(), applied);
+    assert_eq!(empty(), [true, false]);
+    let mut changes = Changeset::from_bytes(&insert).unwrap().iter().unwrap();
+    let omitted = Report { version: 3, applied: 0, conflicts: 1, omitted: 1, skipped: 0 };
+    assert_eq!(client.apply_iter_options(&mut changes, &options).unwrap(), omitted);
+    assert!(!changes.buffer().unwrap().is_empty());
+    client.execute("drop 1").unwrap();
+    assert_eq!(refusal_of(client.apply_options(&insert, &options)), (Refusal::NoSession, None));
+    let neither = ApplyOptions::new(omit, omit, omit);
+    assert_eq!(client.apply_options(of_hex(DELETE), &neither).unwrap().applied, 1);
+}
+
+#[test]
 fn filters_and_differences() {
     let server = Server::open_in_memory().unwrap();
     let source = server.client().unwrap();

@@ -1,13 +1,13 @@
 -- What a call leaves with its caller, by the answer of the library's call. Each status that the header does
 -- not name for an output leaves it as it was.
-use Rattle.std.specs.Prelude.{◌≡◌, ℕ, Bool, Option, Some, None, Result, Ok, Err}
-use Rattle.std.specs.Prelude.{[], if◌then◌else◌}
+use Rattle.std.specs.Prelude.{◌≡◌, ℕ, Bool, List, [], Option, Some, None, Result, Ok, Err}
+use Rattle.std.specs.Prelude.{if◌then◌else◌}
 use Rattle.std.specs.Result.{result_unwrap_or}
 use Rattle.cap_value.specs.declared.memory.Fault.{Fault}
 use Rattle.cap_value.specs.declared.memory.Fault.TheVariants as stop
 use Rattle.cap_codec.specs.declared.fault.BlobFault.{BlobFault}
 use Rattle.cap_apply.specs.declared.policy.Policy.{Policy}
-use Rattle.cap_connection.specs.Calls.{Applies}
+use Rattle.cap_connection.specs.Calls.{Applies, AppliesQuiet}
 use Rattle.cap_connection.specs.Connection.{ConnectionState}
 use Rattle.cap_connection.specs.Iter.{IterState}
 use Rattle.cap_connection.specs.Runs.{misused}
@@ -140,3 +140,9 @@ abbrev pub AppliesBy : Option Policy → IterState → IterState → ConnectionS
     Result Applied (Fault ConnectionFault) → Type 0
 AppliesBy (Some policy) before after old new answer = Applies policy [] before after old new answer
 AppliesBy None before after old new answer = (answer ≡ misused) × (new ≡ old) × (after ≡ before)
+
+-- The same, and the sessions with these numbers stay as they are.
+abbrev pub AppliesWith : Option Policy → List ℕ → IterState → IterState → ConnectionState → ConnectionState →
+    Result Applied (Fault ConnectionFault) → Type 0
+AppliesWith (Some policy) quiet before after old new answer = AppliesQuiet policy quiet before after old new answer
+AppliesWith None quiet before after old new answer = (answer ≡ misused) × (new ≡ old) × (after ≡ before)

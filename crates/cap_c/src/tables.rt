@@ -2,7 +2,8 @@
 ghost use Rattle.std.specs.Prelude.{IsSome};
 ghost use Rattle.cap_connection.specs.Calls.{Commits, CreatesTable, Saves};
 ghost use Rattle.cap_c.specs.Numbers.{policy_of};
-ghost use Rattle.cap_c.specs.Answered.{Answers, AppliesBy, BothAnswer, Tells, TellsNumber, TellsReport};
+ghost use Rattle.cap_c.specs.Answered.{Answers, AppliesBy, AppliesWith, BothAnswer, Tells, TellsNumber};
+ghost use Rattle.cap_c.specs.Answered.{TellsReport};
 
 use crate::answered::{tell, tell_number, tell_report};
 use crate::apply_report::ApplyReport;
@@ -107,6 +108,35 @@ pub extern "C" fn changecap_try_apply(
     tell_report(answer, report, fault)
 }
 
+/// The same, of which the sessions with these numbers record nothing.
+#[unsafe(no_mangle)]
+pub extern "C" fn changecap_try_apply_with(
+    alloc: Global,
+    client: &mut ClientHandle,
+    iter: &mut IterHandle,
+    on_data: u32,
+    on_notfound: u32,
+    on_conflict: u32,
+    quiet: &[u64],
+    report: &mut ApplyReport,
+    fault: &mut PlacedFault,
+) -> u32
+    requires opened { IsSome client.old.value }
+    requires read { IsSome iter.old.value }
+    ensures applied { BothAnswer client.old.value client.new.value iter.old.value iter.new.value
+        (λ old new before after. AppliesWith (policy_of on_data on_notfound on_conflict) quiet.now before after
+        old new)
+        (TellsReport result report.old report.new fault.old fault.new) }
+{
+    let mut connection = take(alloc, client);
+    let mut it = iter_handle::take(alloc, iter);
+    let policy = policy_of(on_data, on_notfound, on_conflict);
+    let answer = apply_with(alloc, &mut connection, &mut it, policy, quiet);
+    iter_handle::put(iter, it);
+    put(client, connection);
+    tell_report(answer, report, fault)
+}
+
 fn apply(
     alloc: Global,
     connection: &mut Connection,
@@ -117,6 +147,21 @@ fn apply(
 {
     match policy {
         Some(policy) => connection.apply(alloc, it, policy, QuietSessions::none(alloc)),
+        None => Err(Fault::Refused(ConnectionFault::Misuse)),
+    }
+}
+
+fn apply_with(
+    alloc: Global,
+    connection: &mut Connection,
+    it: &mut BlobIter,
+    policy: Option<Policy>,
+    quiet: &[u64],
+) -> Result<Applied, Fault<ConnectionFault>>
+    ensures { AppliesWith policy quiet.now it.old it.new connection.old connection.new result }
+{
+    match policy {
+        Some(policy) => connection.apply_quiet(alloc, it, policy, quiet),
         None => Err(Fault::Refused(ConnectionFault::Misuse)),
     }
 }

@@ -1,7 +1,7 @@
 -- The options, and the exit status where there are none.
 use Rattle.std.specs.Prelude.{ℕ}
 use Rattle.cap_command_line.specs.declared.program_options.Options.{Options}
-use Rattle.cap_command_line.specs.declared.program_options.Options.TheVariants.{Check, Combine, Convert, Run, Shell, Show, Summary}
+use Rattle.cap_command_line.specs.declared.program_options.Options.TheVariants.{Check, Combine, Convert, Load, Run, Shell, Show, Summary}
 use Rattle.cap_command_line.specs.declared.program_options.OptionsFault.{OptionsFault}
 use Rattle.cap_command_line.specs.declared.program_options.OptionsFault.TheVariants.{Refused, Help, OutOfMemory}
 use Rattle.cap_run.specs.Threads.{IsThreadCount}
@@ -16,6 +16,7 @@ options_status OutOfMemory = 3
 abbrev pub IsInRange : Options → Type 0
 IsInRange (Run threads pace form) = IsThreadCount threads
 IsInRange Shell = Unit {0}
+IsInRange Load = Unit {0}
 IsInRange Check = Unit {0}
 IsInRange Summary = Unit {0}
 IsInRange (Show form encoding) = Unit {0}

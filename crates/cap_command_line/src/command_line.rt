@@ -5,11 +5,11 @@ ghost use Rattle.cap_command_line.specs.Options.{IsInRange};
 use crate::help::{
     ABOUT, BINARY_HELP, BINARY_INPUT_HELP, CHECK_ABOUT, CHECK_EXAMPLE, COLUMNS_HELP, CONCAT_ABOUT,
     CONCAT_EXAMPLE, EXAMPLE, EXPLAIN_HELP, FILE_HELP, FILES_HELP, IN_TURN_HELP, INVERT_ABOUT,
-    INVERT_EXAMPLE, JSON_HELP, JSON_LINES_HELP, KEY_FLAGS, KEY_FLAGS_HELP, LANGUAGE,
-    NO_PROGRESS_HELP, OUTPUT_HELP, PATCHSET_ABOUT, PATCHSET_EXAMPLE, PROGRESS_HELP, REBASE_ABOUT,
-    REBASE_EXAMPLE, REPLY_JSON_HELP, RUN_ABOUT, SHELL_ABOUT, SHELL_EXAMPLE, SHELL_EXPLAIN_HELP,
-    SHELL_FILE_HELP, SHOW_ABOUT, SHOW_EXAMPLE, SQL_HELP, SUMMARY_ABOUT, SUMMARY_EXAMPLE,
-    THREADS_HELP, VERBOSE_HELP,
+    INVERT_EXAMPLE, JSON_HELP, JSON_LINES_HELP, KEY_FLAGS, KEY_FLAGS_HELP, LANGUAGE, LOAD_ABOUT,
+    LOAD_EXAMPLE, NO_PROGRESS_HELP, OUTPUT_HELP, PATCHSET_ABOUT, PATCHSET_EXAMPLE, PROGRESS_HELP,
+    REBASE_ABOUT, REBASE_EXAMPLE, REPLY_JSON_HELP, RUN_ABOUT, SHELL_ABOUT, SHELL_EXAMPLE,
+    SHELL_EXPLAIN_HELP, SHELL_FILE_HELP, SHOW_ABOUT, SHOW_EXAMPLE, SQL_HELP, SUMMARY_ABOUT,
+    SUMMARY_EXAMPLE, THREADS_HELP, VERBOSE_HELP,
 };
 use crate::{Asked, Manner, Options, OptionsFault};
 use cap_blob::Target;
@@ -38,11 +38,12 @@ fn command_line<'a>(alloc: Global) -> Result<Command<'a>, AllocError> {
     with_combinations(alloc, command)
 }
 
-// Adds what runs workloads.
+// Adds what runs workloads, and what makes one.
 fn with_workloads<'a>(alloc: Global, command: Command<'a>) -> Result<Command<'a>, AllocError> {
     command
         .subcommand(run_command(alloc)?)?
-        .subcommand(shell_command(alloc)?)
+        .subcommand(shell_command(alloc)?)?
+        .subcommand(look_command(alloc, "load", LOAD_ABOUT, LOAD_EXAMPLE)?)
 }
 
 // Adds what looks at blobs.
@@ -210,15 +211,15 @@ fn flag<'a>(alloc: Global, word: &'a str, help: &'a str) -> Arg<'a> {
 ///
 /// `run` runs a workload, on N threads with `--threads N`, N from 1 to 63, and otherwise on one; with
 /// `--in-turn` its lines are called one after the other, and with `--json` replies are JSON objects. `shell`
-/// runs each line as it is read, behind those of the file that `-f` is before. Both say with `--explain` what a
-/// fault means, and `run` with `--progress` how far it is. `show` shows a blob as text, with `--sql` as SQL, with
-/// `--json` as JSON, or with `--jsonl` as JSON with a change a line; `--columns` gives names to columns. `check`
-/// says whether one is well formed, and `summary` counts its changes. `invert` and `patchset` convert
-/// one, `concat` concatenates several, and `rebase` rebases one over others, with key flags by places, or by
-/// ones with `--key-flags ones`. A blob is given and written as hex digits, or with `--binary` as its bytes.
-/// Other words are names of files, and `-o` is before that of the output. `-v` or `--verbose` among the words
-/// changes nothing of that. Other words are refused with a message. `--help` and `--version` give their text
-/// as a fault of status 0.
+/// runs each line as it is read, behind those of the file that `-f` is before. Both say with `--explain` what
+/// a fault means, and `run` with `--progress` how far it is. `load` makes lines of a workload of dumps. `show`
+/// shows a blob as text, with `--sql` as SQL, with `--json` as JSON, or with `--jsonl` as JSON with a change a
+/// line; `--columns` gives names to columns. `check` says whether one is well formed, and `summary` counts its
+/// changes. `invert` and `patchset` convert one, `concat` concatenates several, and `rebase` rebases one over
+/// others, with key flags by places, or by ones with `--key-flags ones`. A blob is given and written as hex
+/// digits, or with `--binary` as its bytes. Other words are names of files, and `-o` is before that of the
+/// output. `-v` or `--verbose` among the words changes nothing of that. Other words are refused with a message.
+/// `--help` and `--version` give their text as a fault of status 0.
 pub fn options(alloc: Global, words: &[String]) -> Result<Asked, OptionsFault>
     // The number of threads is in range.
     ensures range { IfOk result (λ asked. IsInRange asked.options) }
@@ -309,6 +310,7 @@ fn options_of(word: &str, found: &ArgMatches) -> Options
     match word {
         "run" => run_options(found),
         "shell" => Options::Shell,
+        "load" => Options::Load,
         "check" => Options::Check,
         "summary" => Options::Summary,
         "invert" => Options::Convert(conversion(Target::Inverse, found)),

@@ -40,6 +40,19 @@ pub(crate) const RUN_ABOUT: &str =
 pub(crate) const SHELL_ABOUT: &str =
     "Run each line of standard input as it is read and print its reply at once";
 
+pub(crate) const LOAD_ABOUT: &str =
+    "Print the lines of a workload that make the tables and rows of dumps";
+
+pub(crate) const LOAD_EXAMPLE: &str = "A dump is a changeset of INSERTs. For example
+    echo 5402010074001200010000000000000001030178 | changecap load
+prints
+    create t kv
+    apply x'5402010074001200010000000000000001030178' abort abort abort
+so that with `changecap load FILE | cat - WORKLOAD | changecap run` the workload has the tables and rows of
+the dump. A table is created once, whatever number of groups and of dumps it is in. A patchset is refused,
+and so are a changeset with an UPDATE or a DELETE, a table with other columns than before, and one whose
+name is no word of a workload.";
+
 pub(crate) const SHOW_ABOUT: &str = "Print what is in the changeset or patchset on standard input";
 
 pub(crate) const INVERT_ABOUT: &str = "Print the inverse of the changeset on standard input";
@@ -160,6 +173,7 @@ The end of the input ends the shell, with status 0.
 These lines are for the shell itself:
   help [WORD]         print the commands, or what that says of a word: help commit
   .read FILE          run the lines of a file
+  .load FILE          make the tables and rows of the dump in a file
   quit                end the shell
 
 With history and keys to edit a line: rlwrap changecap shell";

@@ -20,6 +20,8 @@ pub enum Options {
     },
     /// Run each line of standard input as it is read.
     Shell,
+    /// Make lines of a workload of dumps.
+    Load,
     /// Say whether the blobs are well formed.
     Check,
     /// Count the changes of the blobs.

@@ -4,5 +4,6 @@ pub mod Crossing
 mod OneCommandLemmas
 mod LoadLemmas
 mod PositionLemmas
+mod QuietLemmas
 mod RecordLemmas
 mod ReplyLemmas

@@ -15,7 +15,7 @@ use Rattle.cap_connection.specs.Connection.{ConnectionState}
 use Rattle.cap_connection.specs.Iter.{IterState}
 use Rattle.cap_connection.specs.Columns.{IsTable, key_columns}
 use Rattle.cap_connection.specs.Replies.{captured_in, nothing_in, number_in, outcome_in, snapshot_in}
-use Rattle.cap_connection.specs.Runs.{Gives, Means, Reads, Runs, RunsMade}
+use Rattle.cap_connection.specs.Runs.{Gives, Means, Reads, Runs, RunsMade, UnlessMemory}
 use Rattle.cap_connection.specs.declared.fault.ConnectionFault.{ConnectionFault}
 use Rattle.cap_connection.specs.declared.fault.ConnectionFault.TheVariants as fault
 use Rattle.cap_connection.specs.declared.replies.Applied.{Applied}
@@ -58,6 +58,12 @@ pub record Applies (policy : Policy) (quiet : List ℕ) (before after : IterStat
       (result_map_both (λ made. (made, after.conflicts)) (λ why. why) result)
   pub kept : after ≡ record before { conflicts = after.conflicts }
   pub conflicts_kept : OnErr result (after.conflicts ≡ before.conflicts)
+
+-- The same of sessions whose numbers are copied first. Where memory runs out all is as it was.
+pub record AppliesQuiet (policy : Policy) (quiet : List ℕ) (before after : IterState) (old new : ConnectionState)
+    (result : Result Applied (Fault ConnectionFault)) : Type 0 where
+  pub applied : UnlessMemory (Applies policy quiet before after old new) old new result
+  pub kept : OnErr result (after ≡ before)
 
 -- ---- Snapshots, captures and batches
 

@@ -3,6 +3,7 @@
 #![tactic(auto)]
 
 mod application;
+mod apply_quiet;
 mod captured;
 mod columns;
 mod connection;

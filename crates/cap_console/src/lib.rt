@@ -16,7 +16,7 @@ pub use columns::{OtherWidth, TableColumns, other_width, table_columns};
 pub use explanations::{Faults, Language, Replies, explanation};
 pub use json_names::named_json;
 pub use progress::{Progress, Shown};
-pub use shell_input::ShellInput;
+pub use shell_input::{Dumps, Loaded, ShellInput};
 pub use sizes::with_sizes;
 pub use sql_names::named_sql;
 pub use text_names::named_text;

@@ -16,8 +16,24 @@ const SHELL_HELP: &str = "
 In a shell besides:
   help [WORD]         print this, or what it says of a word: help commit
   .read FILE          run the lines of a file
+  .load FILE          make the tables and rows of the dump in a file
   quit                end the shell
 ";
+
+/// What is made of a dump.
+#[derive(Drop)]
+pub enum Loaded {
+    /// The lines of a workload that make its tables and rows.
+    Lines(Vec<u8>),
+    /// It is refused: a line that says why.
+    Refused(String),
+}
+
+/// What makes lines of dumps.
+pub trait Dumps {
+    /// The lines of the dump in a file with this name and these bytes.
+    fn loaded(&self, name: &str, bytes: Vec<u8>) -> Result<Loaded, AllocError>;
+}
 
 // Bytes of which lines are taken.
 #[derive(Drop)]
@@ -45,8 +61,9 @@ impl Unread {
 
 /// The input of a shell. Each read gives one line, or a part of it.
 #[derive(Drop)]
-pub struct ShellInput<'a, R: Files + Print + Eprint + AllocGlobal, I: Read + Drop> {
+pub struct ShellInput<'a, R: Files + Print + Eprint + AllocGlobal, D: Dumps, I: Read + Drop> {
     rt: &'a R,
+    dumps: &'a D,
     // The commands, which `help` prints.
     commands: &'a str,
     input: I,
@@ -61,10 +78,16 @@ pub struct ShellInput<'a, R: Files + Print + Eprint + AllocGlobal, I: Read + Dro
     has_ended: bool,
 }
 
-impl<'a, R: Files + Print + Eprint + AllocGlobal, I: Read + Drop> ShellInput<'a, R, I> {
+impl<'a, R: Files + Print + Eprint + AllocGlobal, D: Dumps, I: Read + Drop> ShellInput<
+    'a,
+    R,
+    D,
+    I,
+> {
     /// The lines of this input, of which the one that is given stands in `line`.
     pub fn new(
         rt: &'a R,
+        dumps: &'a D,
         commands: &'a str,
         input: I,
         line: &'a RefCell<Vec<u8>>,
@@ -72,6 +95,7 @@ impl<'a, R: Files + Print + Eprint + AllocGlobal, I: Read + Drop> ShellInput<'a,
     ) -> Self {
         ShellInput {
             rt,
+            dumps,
             commands,
             input,
             has_prompt,
@@ -155,6 +179,7 @@ impl<'a, R: Files + Print + Eprint + AllocGlobal, I: Read + Drop> ShellInput<'a,
             ("quit", "") => self.has_ended = true,
             ("help", _) => help(self.rt, self.commands, rest)?,
             (".read", name) if !name.is_empty() => self.read_file(name)?,
+            (".load", name) if !name.is_empty() => self.load_file(name)?,
             _ => return Ok(false),
         }
         Ok(true)
@@ -167,6 +192,18 @@ impl<'a, R: Files + Print + Eprint + AllocGlobal, I: Read + Drop> ShellInput<'a,
         match self.open(name) {
             Ok(()) => Ok(()),
             Err(error) => eprintln!(self.rt; "{name}: {error}"),
+        }
+    }
+
+    // The lines that make the tables and rows of the dump in this file come next.
+    fn load_file(&mut self, name: &str) -> io::Result<()> {
+        let bytes = match fs::read(self.rt, name) {
+            Ok(bytes) => bytes,
+            Err(error) => return eprintln!(self.rt; "{name}: {error}"),
+        };
+        match self.dumps.loaded(name, bytes)? {
+            Loaded::Lines(bytes) => Ok(self.files.push(Unread { bytes, taken: 0 })?),
+            Loaded::Refused(line) => eprintln!(self.rt; "{line}"),
         }
     }
 
@@ -208,7 +245,8 @@ impl<'a, R: Files + Print + Eprint + AllocGlobal, I: Read + Drop> ShellInput<'a,
     }
 }
 
-impl<'a, R: Files + Print + Eprint + AllocGlobal, I: Read + Drop> Read for ShellInput<'a, R, I> {
+impl<'a, R: Files + Print + Eprint + AllocGlobal, D: Dumps, I: Read + Drop> Read
+    for ShellInput<'a, R, D, I> {
     fn read(&mut self, buf: &mut [u8]) -> io::Result<usize> {
         let count = self.give(buf)?;
         if count > 0 || !self.take_line()? {

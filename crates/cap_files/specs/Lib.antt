@@ -1,3 +1,4 @@
 pub mod FileBlob
+pub mod Load
 pub mod Place
 pub mod Summary

@@ -18,7 +18,8 @@ const PATCHSET: &[u8] = &[
     0x50, 2, 1, 0, b't', 0, 0x12, 0, 1, 0, 0, 0, 0, 0, 0, 0, 1, 3, 1, b'x',
 ];
 
-const OMITS: Policy = Policy {
+/// Each change that meets a conflict is omitted.
+pub(crate) const OMITS: Policy = Policy {
     on_data: Answer::Omit,
     on_notfound: Answer::Omit,
     on_conflict: Answer::Omit,

@@ -15,6 +15,8 @@ mod histories;
 #[cfg(test)]
 mod hubs;
 #[cfg(test)]
+mod quiet;
+#[cfg(test)]
 mod records;
 #[cfg(test)]
 mod rows;

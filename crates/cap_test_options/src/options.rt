@@ -136,12 +136,15 @@ const FILES: &[(&str, &[&str], Option<&str>)] = &[
     ("rebase --key-flags ones a -", &["a", "-"], None),
     ("check a -", &["a", "-"], None),
     ("summary a -", &["a", "-"], None),
+    ("load a -", &["a", "-"], None),
+    ("load a b -o c", &["a", "b"], Some("c")),
     ("shell -f a", &["a"], None),
     ("shell --file=a --explain", &["a"], None),
     ("run", &[], None),
     ("shell", &[], None),
     ("show", &[], None),
     ("check", &[], None),
+    ("load", &[], None),
     ("concat", &[], None),
 ];
 
@@ -155,6 +158,7 @@ fn what_files_are_asked_for(rt: HostRuntime) {
     }
     assert!(rt; asked(rt.alloc(), "check a") == Some(Options::Check));
     assert!(rt; asked(rt.alloc(), "summary") == Some(Options::Summary));
+    assert!(rt; asked(rt.alloc(), "load -v a") == Some(Options::Load));
 }
 
 const SAID: &[(&str, usize, bool, bool, Option<bool>)] = &[
@@ -334,6 +338,8 @@ const REFUSED: &[&str] = &[
     "show --binary file",
     "check --binary",
     "summary -o",
+    "load -o out",
+    "load --binary a",
     "shell file",
     "shell --threads 2",
     "show --threads 2",
@@ -387,6 +393,8 @@ const EXPLAINED: &[(&str, &str)] = &[
     ("rebase --help", "| changecap rebase"),
     ("check --help", "D1 Truncated at 8"),
     ("summary --help", "-o, --output <OUT>"),
+    ("load --help", "| changecap load"),
+    ("help load", "abort abort abort"),
 ];
 
 #[test]

@@ -2,9 +2,12 @@
 use cap_codec::{Contents, read_blob};
 use cap_command_line::{Asked, Options};
 use cap_console::{
-    TableColumns, named_json, named_sql, named_text, other_width, table_columns, with_sizes,
+    Dumps, Loaded, TableColumns, named_json, named_sql, named_text, other_width, table_columns,
+    with_sizes,
 };
-use cap_files::{FileBlob, FileForm, around, file_blob, file_text, summary};
+use cap_files::{
+    CreatedTable, FileBlob, FileForm, around, file_blob, file_text, load_lines, summary,
+};
 use cap_run::{
     BlobListFault, Combination, Conversion, Encoding, Form, RunFault, combine_blobs, convert_blob,
     show_blob,
@@ -74,8 +77,10 @@ fn blob_in<R: Files + Input + AllocGlobal>(
     rt: &R,
     name: &str,
 ) -> Result<FileBlob<Global>, FileFault> {
-    let alloc = rt.alloc();
-    let bytes = read(rt, name)?;
+    blob_of(rt.alloc(), name, read(rt, name)?)
+}
+
+fn blob_of(alloc: Global, name: &str, bytes: Vec<u8>) -> Result<FileBlob<Global>, FileFault> {
     match file_blob(alloc, bytes) {
         Ok(blob) => Ok(blob),
         Err(Fault::OutOfMemory) => Err(FileFault::Failed),
@@ -160,6 +165,62 @@ fn looked_at(
         text.extend_from_slice(line.as_str().as_bytes())?;
     }
     Ok(text)
+}
+
+// The lines that make the tables and rows of a dump, but for the tables that were created before.
+fn lines_of(
+    alloc: Global,
+    name: &str,
+    bytes: &[u8],
+    created: &mut Vec<CreatedTable<Global>>,
+) -> Result<Vec<u8>, FileFault> {
+    let contents = contents_of(alloc, name, bytes)?;
+    match load_lines(alloc, &contents, bytes, created) {
+        Ok(lines) => Ok(lines.into_bytes()),
+        Err(Fault::OutOfMemory) => Err(FileFault::Failed),
+        Err(Fault::Refused(fault)) => {
+            let why = format!(in alloc; "{fault}")?;
+            Err(refused(alloc, name, why.as_str()))
+        }
+    }
+}
+
+fn loaded(
+    alloc: Global,
+    names: &[String],
+    blobs: &[FileBlob<Global>],
+) -> Result<Vec<u8>, FileFault> {
+    let mut created = Vec::new(alloc);
+    let mut text = Vec::new(alloc);
+    for (name, blob) in names.iter().zip(blobs) {
+        let lines = lines_of(alloc, name.as_str(), blob.bytes.as_slice(), &mut created)?;
+        text.extend_from_slice(lines.as_slice())?;
+    }
+    Ok(text)
+}
+
+/// The dumps that a shell loads.
+#[derive(Drop)]
+pub struct ShellDumps {
+    pub alloc: Global,
+}
+
+impl ShellDumps {
+    fn lines(&self, name: &str, bytes: Vec<u8>) -> Result<Vec<u8>, FileFault> {
+        let blob = blob_of(self.alloc, name, bytes)?;
+        let mut created = Vec::new(self.alloc);
+        lines_of(self.alloc, name, blob.bytes.as_slice(), &mut created)
+    }
+}
+
+impl Dumps for ShellDumps {
+    fn loaded(&self, name: &str, bytes: Vec<u8>) -> Result<Loaded, AllocError> {
+        match self.lines(name, bytes) {
+            Ok(lines) => Ok(Loaded::Lines(lines)),
+            Err(FileFault::Refused(line) | FileFault::Misused(line)) => Ok(Loaded::Refused(line)),
+            Err(FileFault::Failed) => Err(AllocError),
+        }
+    }
 }
 
 // How a blob is shown.
@@ -322,6 +383,7 @@ fn made<R: Files + Input + AllocGlobal>(
     };
     let name = name.as_str();
     match asked.options {
+        Options::Load => loaded(alloc, names, blobs.as_slice()),
         Options::Check => looked_at(alloc, names, blobs.as_slice(), false),
         Options::Summary => looked_at(alloc, names, blobs.as_slice(), true),
         Options::Show { form, .. } => {

@@ -1,7 +1,8 @@
 //! The program `changecap`. `run` runs the workload on standard input and prints the replies; `shell` runs
 //! each line as it is read; `show` prints the changes in a blob; `invert` and `patchset` print the inverse
 //! and the patchset of a changeset; `concat` prints the concatenation of blobs, and `rebase` a changeset
-//! over buffers. `check` and `summary` look at blobs. All but `shell` also read files.
+//! over buffers. `check` and `summary` look at blobs, and `load` prints lines that make what dumps have. All
+//! but `shell` also read files.
 #![tactic(auto)]
 
 ghost use Rattle.cap_command_line.specs.Options.{IsInRange};
@@ -9,7 +10,7 @@ ghost use Rattle.cap_run.specs.Threads.{IsThreadCount};
 
 mod files;
 
-use crate::files::{FileFault, with_files};
+use crate::files::{FileFault, ShellDumps, with_files};
 use cap_command_line::{Asked, LANGUAGE, Options, OptionsFault, options};
 use cap_console::{Faults, Language, Progress, Replies, ShellInput, Shown, explanation};
 use cap_expected::print_expected;
@@ -303,8 +304,9 @@ fn shell<R: Files + Input + Print + Eprint + AllocGlobal, E: Write>(
 ) -> u8 {
     let explains = asked.manner.explains || (terminals.input && terminals.error);
     let line = RefCell::new(Vec::new(rt.alloc()));
+    let dumps = ShellDumps { alloc: rt.alloc() };
     let commands = commands();
-    let mut reader = ShellInput::new(rt, commands, rt.reader(), &line, terminals.input);
+    let mut reader = ShellInput::new(rt, &dumps, commands, rt.reader(), &line, terminals.input);
     if let Some(name) = asked.files.first() {
         if let Err(error) = reader.open(name.as_str()) {
             return refuse(rt, name.as_str(), &error);

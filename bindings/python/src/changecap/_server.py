@@ -300,10 +300,14 @@ class Server:
             raise Refused(refused.kind, refused.at, change=change) from None
 
     def apply(self, blob: Blob, data: int = ABORT, notfound: int = ABORT, conflict: int | Decide = ABORT,
-              rebase: bool = False, filter: str | Callable[[str], bool] | None = None, tries: int = 100) -> Report:
+              rebase: bool = False, filter: str | Callable[[str], bool] | None = None, tries: int = 100,
+              quiet: Iterable[Session] = ()) -> Report:
         """Applies a changeset or a patchset, with an answer where a row differs, where it is missing, and where its
         key is in use. With `rebase` it is a changeset, and the report has its rebase buffer. Of a `Refused`, `change`
         is the change that is refused and `at` its number, from 0.
+
+        The `quiet` sessions record none of the changes, and each other session does. They go with answers that are
+        numbers, and without a filter.
 
         Where `conflict` is a function (`Decide`) it answers each conflict: of its kind, the change and the values of
         the row that is there. With it, or with a filter, which is a text or a function of the name of a table, the
@@ -336,7 +340,20 @@ class Server:
         1
         0
         (1, 'longer!')
+
+        >>> with Server() as server, server.session() as own, server.session() as other:
+        ...     server.create_table("t", [True, False])
+        ...     own.attach()
+        ...     other.attach()
+        ...     server.apply(changecap.EXAMPLE, quiet=[own]).applied
+        ...     own.is_empty(), other.is_empty()
+        1
+        1
+        (True, False)
         """
+        numbers = tuple(self._number(session) for session in quiet)
+        if numbers and (callable(conflict) or filter is not None):
+            raise ValueError("quiet sessions go with answers that are numbers, and without a filter")
         if callable(conflict):
             return self._decided(blob, conflict, rebase, filter, tries)
         if filter is not None:
@@ -345,9 +362,9 @@ class Server:
         changes = _changecap.Changes(blob) if rebase else None
         try:
             if changes is None:
-                return Report(*self._client().apply(blob, data, notfound, conflict))
+                return Report(*self._client().apply(blob, data, notfound, conflict, numbers))
             changes.buffer()  # A patchset has none, and is not applied.
-            return Report(*self._client().apply_changes(changes, data, notfound, conflict), changes)
+            return Report(*self._client().apply_changes(changes, data, notfound, conflict, numbers), changes)
         except Refused as refused:
             if refused.at is None:
                 raise
@@ -376,6 +393,12 @@ class Server:
         for number in [self._unused.popleft() for _ in range(len(self._unused))]:
             self._end_session(number)
         return Session(self)
+
+    def _number(self, session: Session) -> int:
+        """The number of a session of this server."""
+        if session._server is not self:
+            raise ValueError("a session of another server")
+        return session.number
 
     def _end_session(self, number: int) -> None:
         """Ends a session that nobody refers to. It takes no lock of this object, since the collector runs at any
