@@ -52,7 +52,8 @@ class Commands:
         self.compared = dict.fromkeys(WORDS, 0)
 
     def problems(self, blobs):
-        """A text for each difference in what is made of these blobs."""
+        """A text for each difference in what is made of these blobs, but for their groups without changes."""
+        blobs = [with_changes(it) for it in blobs]
         for content in dict.fromkeys(blobs):
             if "show" not in self.missing:
                 yield from self.differences("show", content.hex(), shown(content), self.shown, content)
@@ -91,6 +92,13 @@ class Commands:
         """What the command makes of changesets with one form of key flags, in that form."""
         options = next((options for options in map(options_of, blobs) if options), [])
         return blob.in_key_order(self.program.on_blobs(word, *blobs, options=options))
+
+
+def with_changes(content):
+    """The blob without its groups that have no change, as a dump has them. SQLite's inverse keeps these, and its
+    iterator does not show them, as DIFFERENCES.md says."""
+    groups = blob.read(content)
+    return content if all(group.changes for group in groups) else blob.write(filter(lambda it: it.changes, groups))
 
 
 def has_positions(content):

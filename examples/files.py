@@ -28,6 +28,9 @@ DUMP = INSERT + "54030102007500" + "5402010074001200" + "010000000000000002" + "
 MADE = ("ok version 1\nok version 2\nok version 3, applied 2, omitted 0, skipped 0\nrows 2\n(1,'x')\n(2,'y')\n"
         "rows 0\n")
 
+# What a server with these tables and rows dumps: a group for each table, in the order of their names.
+DUMPED = INSERT + "1200" + "010000000000000002" + "030179" + "54030101007500"
+
 
 def applied(*blobs):
     """The lines that apply blobs of which each conflict is a refusal."""
@@ -154,7 +157,10 @@ OF_INPUT = [
     ("load insert.hex -", line(INSERTED_Y), f"create t kv\n{applied(INSERT, INSERTED_Y)}"),
     # What is printed of a dump is run, by `run` and by a shell.
     ("run", f"create t kv\ncreate u kkv\n{applied(DUMP)}scan t\nscan u\n", MADE),
-    ("shell", b".load dump.hex\nscan t\nscan u", MADE),
+    ("run", f"create t kv\ncreate u kkv\n{applied(DUMPED)}dump\n",
+     f"ok version 1\nok version 2\nok version 3, applied 2, omitted 0, skipped 0\nchangeset {DUMPED}\n"),
+    ("load -", line(DUMPED), f"create t kv\ncreate u kkv\n{applied(DUMPED)}"),
+    ("shell", b".load dump.hex\nscan t\nscan u\ndump\n", f"{MADE}changeset {DUMPED}\n"),
     ("shell", b".load dump.bin\nscan t\nscan u\n", MADE),
     ("shell", b".load none\nsession\n", "session 1\n"),
     # Its tables are made once, and its rows are added to those that are there, or none where one is there already.

@@ -488,26 +488,38 @@ uint32_t changecap_apply(changecap_client *client, const void *blob, size_t n, u
 uint32_t changecap_apply_iter(changecap_client *client, changecap_iter *it, uint32_t data, uint32_t notfound,
                               uint32_t conflict, changecap_report *report, changecap_fault *fault);
 
-/* What an application under a policy is told beside its answers. All zero it tells nothing. */
+/* The options of an application under a policy. All zero there are none. A pointer may be NULL where the number behind it
+ * is 0. */
 typedef struct changecap_options {
+  const void *filter;    /* the text of a filter, as of changecap_session_filter: other tables are passed over */
+  size_t filter_n;       /* its bytes; where they are 0 no table is passed over */
   const uint64_t *quiet; /* the numbers of sessions that record none of its changes: each other one records them */
-  size_t quiet_n;        /* how many they are; where it is 0 quiet may be NULL */
+  size_t quiet_n;        /* how many they are */
 } changecap_options;
 
-/* The same two, as *options says. Who sends to another copy what a session captures, and applies what that copy sends,
- * names the session here, so that nothing is sent back:
+typedef struct changecap_passed {
+  uint64_t groups;  /* groups that were passed over: the filter does not accept their tables */
+  uint64_t changes; /* changes of these groups */
+} changecap_passed;
+
+/* The same two, as *options says. A group that is passed over is not looked at, and is none of those that are skipped.
+ * An iterator goes over the other groups then, from before the first change on, and unless the status is OK it is as it
+ * was. Who sends to another copy what a session captures, and applies what that copy sends, names the session here, so
+ * that nothing is sent back:
  *
  *     changecap_options options = { .quiet = &session, .quiet_n = 1 };
+ *     changecap_passed passed;
  *     status = changecap_apply_with(&client, blob, n, CHANGECAP_OMIT, CHANGECAP_OMIT, CHANGECAP_REPLACE, &options,
- *                                   &report, &fault);
+ *                                   &report, &passed, &fault);
  *
- *   As of the two; also REFUSED with E_NO_SESSION, where a quiet session is not there. */
+ *   OK (*report, *passed), and else as of the two: fault->at counts the changes that are passed over, too. Also
+ *   FILTER (*fault), MISUSE (the filter is not UTF-8), REFUSED with E_NO_SESSION (a quiet session is not there). */
 uint32_t changecap_apply_with(changecap_client *client, const void *blob, size_t n, uint32_t data, uint32_t notfound,
                               uint32_t conflict, const changecap_options *options, changecap_report *report,
-                              changecap_fault *fault);
+                              changecap_passed *passed, changecap_fault *fault);
 uint32_t changecap_apply_iter_with(changecap_client *client, changecap_iter *it, uint32_t data, uint32_t notfound,
                                    uint32_t conflict, const changecap_options *options, changecap_report *report,
-                                   changecap_fault *fault);
+                                   changecap_passed *passed, changecap_fault *fault);
 
 /* Creates the tables of a blob, and applies it to them with CHANGECAP_ABORT as each answer: what changecap_dump wrote
  * of one history and is loaded into another gives the same tables. The blob is read, and the tables as they are are
@@ -913,7 +925,8 @@ void changecap_apply_close(changecap_application *application);
 /* ---- Calls that do not wait ---- */
 
 /* Each is the call of its name without try_, but answers CHANGECAP_BUSY where another call has the state, and has
- * changed nothing then. They take no NULL. changecap_try_apply is changecap_apply_iter, and changecap_try_load is
+ * changed nothing then. They take no NULL. changecap_try_apply is changecap_apply_iter, changecap_try_apply_with is
+ * changecap_apply_iter_with of what the options have, each by itself, and changecap_try_load is
  * changecap_load of what an iterator was opened on; where it answers CHANGECAP_BUSY after its first command, the tables
  * that it created stay. */
 uint32_t changecap_try_call(changecap_client *client, const void *text, size_t n, changecap_fault *fault);
@@ -923,7 +936,8 @@ uint32_t changecap_try_save(changecap_client *client, const void *database, size
 uint32_t changecap_try_apply(changecap_client *client, changecap_iter *it, uint32_t data, uint32_t notfound,
                              uint32_t conflict, changecap_report *report, changecap_fault *fault);
 uint32_t changecap_try_apply_with(changecap_client *client, changecap_iter *it, uint32_t data, uint32_t notfound,
-                                  uint32_t conflict, const uint64_t *quiet, size_t quiet_n, changecap_report *report,
+                                  uint32_t conflict, const void *filter, size_t filter_n, const uint64_t *quiet,
+                                  size_t quiet_n, changecap_report *report, changecap_passed *passed,
                                   changecap_fault *fault);
 uint32_t changecap_try_load(changecap_client *client, changecap_iter *it, changecap_report *report,
                             changecap_fault *fault);

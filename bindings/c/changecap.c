@@ -237,18 +237,19 @@ static const uint64_t *quiet_of(const changecap_options *options){
 
 uint32_t changecap_apply_iter_with(changecap_client *client, changecap_iter *it, uint32_t data, uint32_t notfound,
                                    uint32_t conflict, const changecap_options *options, changecap_report *report,
-                                   changecap_fault *fault){
-  RETURN_LOCKED(client, changecap_try_apply_with(client, it, data, notfound, conflict, quiet_of(options),
-                                                 options->quiet_n, report, fault));
+                                   changecap_passed *passed, changecap_fault *fault){
+  RETURN_LOCKED(client, changecap_try_apply_with(client, it, data, notfound, conflict,
+                                                 changecap_bytes(options->filter), options->filter_n,
+                                                 quiet_of(options), options->quiet_n, report, passed, fault));
 }
 
 uint32_t changecap_apply_with(changecap_client *client, const void *blob, size_t n, uint32_t data, uint32_t notfound,
                               uint32_t conflict, const changecap_options *options, changecap_report *report,
-                              changecap_fault *fault){
+                              changecap_passed *passed, changecap_fault *fault){
   changecap_iter it = CHANGECAP_CLOSED;
   uint32_t status = changecap_iter_open(blob, n, &it, fault);
   if( status != CHANGECAP_OK ) return status;
-  status = changecap_apply_iter_with(client, &it, data, notfound, conflict, options, report, fault);
+  status = changecap_apply_iter_with(client, &it, data, notfound, conflict, options, report, passed, fault);
   changecap_iter_close(&it);
   return status;
 }

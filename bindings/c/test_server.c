@@ -276,11 +276,14 @@ static void worked_applications(void){
 }
 
 /* Applies the INSERT, and leaves these sessions as they are. */
-static uint32_t applied_quietly(changecap_client *client, const uint64_t *quiet, size_t count, const uint32_t by[3],
+static uint32_t applied_quietly(changecap_client *client, const uint64_t *quiet, size_t n, const uint32_t by[3],
                                 changecap_report *report, changecap_fault *fault){
-  changecap_options options = { .quiet = quiet, .quiet_n = count };
+  changecap_options options = { .quiet = quiet, .quiet_n = n };
+  changecap_passed passed = { 77, 77 };
   bytes blob = of_hex(INSERT, strlen(INSERT));
-  uint32_t status = changecap_apply_with(client, blob.at, blob.n, by[0], by[1], by[2], &options, report, fault);
+  uint32_t status = changecap_apply_with(client, blob.at, blob.n, by[0], by[1], by[2], &options, report, &passed,
+                                         fault);
+  CHECK(passed.groups == (status == CHANGECAP_OK ? 0 : 77) && passed.changes == passed.groups);
   free(blob.at);
   return status;
 }
@@ -301,23 +304,77 @@ static void quiet_applications(void){
   changecap_fault fault = { 77, 77 };
   changecap_report report = { 77, 77, 77, 77, 77 };
   changecap_options options = { .quiet = two, .quiet_n = 1 };
+  changecap_passed passed;
   bytes blob = of_hex(UPDATE, strlen(UPDATE));
   CHECK(changecap_open(&client) == CHANGECAP_OK);
   CHECK(called(&client, "create t kv", &fault) == CHANGECAP_OK);
   for(int i = 0; i < 2; i++) CHECK(called(&client, "session", &fault) == CHANGECAP_OK);
-  CHECK(called(&client, "attachall 1", &fault) == CHANGECAP_OK && called(&client, "attachall 2", &fault) == CHANGECAP_OK);
+  for(uint64_t session = 1; session < 3; session++)
+    CHECK(changecap_session_attach_all(&client, session, &fault) == CHANGECAP_OK);
   CHECK(applied_quietly(&client, two, 1, other, &report, &fault) == CHANGECAP_MISUSE && fault.kind == 77);
   CHECK(applied_quietly(&client, two, 2, replace, &report, &fault) == CHANGECAP_REFUSED && fault.kind == 18);
   CHECK(is_report(report, 77, 77, 77, 77, 77));
-  CHECK(applied_quietly(&client, two, 1, replace, &report, &fault) == CHANGECAP_OK && is_report(report, 2, 1, 0, 0, 0));
+  CHECK(applied_quietly(&client, two, 1, replace, &report, &fault) == CHANGECAP_OK);
+  CHECK(is_report(report, 2, 1, 0, 0, 0));
   CHECK(is_empty(&client, 1) && !is_empty(&client, 2));
   CHECK(changecap_iter_open(blob.at, blob.n, &it, &fault) == CHANGECAP_OK);
-  CHECK(changecap_apply_iter_with(&client, &it, 2, 2, 2, &options, &report, &fault) == CHANGECAP_OK);
+  CHECK(changecap_apply_iter_with(&client, &it, 2, 2, 2, &options, &report, &passed, &fault) == CHANGECAP_OK);
   CHECK(is_report(report, 3, 1, 0, 0, 0) && is_empty(&client, 1));
-  CHECK(changecap_try_apply_with(&client, &it, 0, 0, 0, two, 1, &report, &fault) == CHANGECAP_OK);
+  CHECK(changecap_try_apply_with(&client, &it, 0, 0, 0, "all", 3, two, 1, &report, &passed, &fault) == CHANGECAP_OK);
   CHECK(is_report(report, 4, 0, 1, 1, 0) && is_empty(&client, 1));
-  CHECK(applied_quietly(&client, NULL, 0, replace, &report, &fault) == CHANGECAP_OK && is_report(report, 5, 1, 1, 0, 0));
-  CHECK(!is_empty(&client, 1));
+  CHECK(applied_quietly(&client, NULL, 0, replace, &report, &fault) == CHANGECAP_OK);
+  CHECK(is_report(report, 5, 1, 1, 0, 0) && !is_empty(&client, 1));
+  changecap_iter_close(&it);
+  free(blob.at);
+  changecap_close(&client);
+}
+
+/* Applies an INSERT of each of two tables, of those that a filter accepts. */
+static uint32_t applied_to(changecap_client *client, const char *filter, uint32_t by, changecap_report *report,
+                           changecap_passed *passed, changecap_fault *fault){
+  const char *both = OTHER_TABLE INSERT;
+  bytes text = copy_of((const uint8_t *)filter, strlen(filter)), blob = of_hex(both, strlen(both));
+  changecap_options options = { .filter = text.at, .filter_n = text.n };
+  uint32_t status = changecap_apply_with(client, blob.at, blob.n, by, by, by, &options, report, passed, fault);
+  free(text.at);
+  free(blob.at);
+  return status;
+}
+
+static int is_passed(changecap_passed is, uint64_t groups, uint64_t changes){
+  return is.groups == groups && is.changes == changes;
+}
+
+static void filtered_applications(void){
+  changecap_client client = CHANGECAP_CLOSED;
+  changecap_iter it = CHANGECAP_CLOSED;
+  changecap_fault fault = { 77, 77 };
+  changecap_report report = { 77, 77, 77, 77, 77 };
+  changecap_passed passed = { 77, 77 };
+  changecap_options options = { .filter = "is t", .filter_n = 4 };
+  bytes blob = of_hex(OTHER_TABLE INSERT, strlen(OTHER_TABLE INSERT));
+  uint8_t buffer[64];
+  size_t len;
+  CHECK(changecap_open(&client) == CHANGECAP_OK);
+  CHECK(called(&client, "create t kv", &fault) == CHANGECAP_OK);
+  CHECK(applied_to(&client, "is", 2, &report, &passed, &fault) == CHANGECAP_FILTER && fault.kind == 12);
+  CHECK(applied_to(&client, "\xff", 2, &report, &passed, &fault) == CHANGECAP_MISUSE);
+  CHECK(applied_to(&client, "is t", 3, &report, &passed, &fault) == CHANGECAP_MISUSE && is_passed(passed, 77, 77));
+  CHECK(applied_to(&client, "is t", 2, &report, &passed, &fault) == CHANGECAP_OK && is_report(report, 2, 1, 0, 0, 0));
+  CHECK(is_passed(passed, 1, 1));
+  CHECK(applied_to(&client, "is t", 2, &report, &passed, &fault) == CHANGECAP_REFUSED && fault.kind == 15);
+  CHECK(fault.at == 1 && is_passed(passed, 1, 1));
+  CHECK(applied_to(&client, "or()", 2, &report, &passed, &fault) == CHANGECAP_OK && is_passed(passed, 2, 2));
+  CHECK(is_report(report, 3, 0, 0, 0, 0));
+  CHECK(applied_to(&client, "", 0, &report, &passed, &fault) == CHANGECAP_OK && is_report(report, 4, 0, 1, 1, 1));
+  CHECK(is_passed(passed, 0, 0));
+  CHECK(changecap_iter_open(blob.at, blob.n, &it, &fault) == CHANGECAP_OK && changecap_iter_next(&it) == CHANGECAP_ROW);
+  CHECK(changecap_apply_iter_with(&client, &it, 2, 2, 2, &options, &report, &passed, &fault) == CHANGECAP_REFUSED);
+  CHECK(fault.at == 1 && changecap_iter_next(&it) == CHANGECAP_ROW && changecap_iter_next(&it) == CHANGECAP_DONE);
+  CHECK(changecap_apply_iter_with(&client, &it, 0, 0, 0, &options, &report, &passed, &fault) == CHANGECAP_OK);
+  CHECK(changecap_iter_next(&it) == CHANGECAP_ROW && changecap_iter_next(&it) == CHANGECAP_DONE);
+  CHECK(changecap_iter_buffer(&it, CHANGECAP_KEYS_ONES, buffer, sizeof buffer, &len) == CHANGECAP_OK);
+  CHECK(is_hex((bytes){ buffer, len }, INSERT));
   changecap_iter_close(&it);
   free(blob.at);
   changecap_close(&client);
@@ -393,6 +450,7 @@ static void refused_sessions(void){
     changecap_client client = CHANGECAP_CLOSED;
     changecap_fault fault;
     changecap_report report;
+    changecap_passed passed;
     uint64_t version = 0, session = 0;
     uint32_t flag, status;
     CHECK(changecap_open(&client) == CHANGECAP_OK);
@@ -420,6 +478,8 @@ static void refused_sessions(void){
     granted = captures_again(CHANGESET, &client, DELETE) && granted;
     AGAIN(applied_quietly(&client, &session, 1, (const uint32_t[3]){ 2, 2, 2 }, &report, &fault));
     CHECK(status == CHANGECAP_OK && is_report(report, 4, 1, 0, 0, 0));
+    AGAIN(applied_to(&client, "is t", 0, &report, &passed, &fault));
+    CHECK(status == CHANGECAP_OK && is_report(report, 5, 0, 1, 1, 0) && is_passed(passed, 1, 1));
     AGAIN(changecap_session_drop(&client, 1, &fault));
     CHECK(status == CHANGECAP_OK);
     granted = none_refused() && granted;
@@ -494,7 +554,7 @@ static void refused_dumps(void){
     AGAIN(loaded(&client, TABLES, &report, &fault));
     CHECK(status == CHANGECAP_OK ? is_report(report, 3, 1, 0, 0, 0) : status == CHANGECAP_REFUSED && fault.kind == 9);
     if( status == CHANGECAP_OK ){
-      AGAIN(dumped(&client, CHANGECAP_KEYS_PLACES, &made));
+      AGAIN(dumped(&client, CHANGECAP_KEYS_PLACES, (made.n = sizeof room, &made)));
       CHECK(status == CHANGECAP_OK && is_hex(made, TABLES));
     }
     granted = none_refused() && granted;
@@ -532,6 +592,7 @@ void test_server(void){
   worked_sessions();
   worked_applications();
   quiet_applications();
+  filtered_applications();
   worked_differences();
   refused_sessions();
   worked_dumps();

@@ -82,7 +82,15 @@ class Applications(unittest.TestCase):
             self.assertEqual([server.scan(it) for it in ("t", "it's")], [[changecap.Row(None, (1, "a"))], []])
             self.assertEqual(server.apply(b"".join((INSERT, *others)), filter="ends 's'").applied, 1)
             self.assertEqual(server.apply(others[1], conflict=OMIT, filter=lambda it: it == "it's").omitted, 1)
-            self.assertEqual(server.apply(INSERT, data=REPLACE, filter=lambda it: False).conflicts, 0)
+            report = server.apply(INSERT + others[0], data=REPLACE, filter=lambda it: False)
+            self.assertEqual((report.conflicts, report.skipped, report.passed), (0, 0, (2, 2)))
+            # The refused change has its number among all changes, and the buffer those of accepted tables.
+            with self.assertRaises(changecap.Refused) as raised:
+                server.apply(INSERT + others[1], filter="ends 's'")
+            self.assertEqual((raised.exception.at, raised.exception.change.table), (1, "it's"))
+            report = server.apply(INSERT + others[1], conflict=OMIT, filter="ends 's'", rebase=True)
+            self.assertEqual((report.passed, len(report.buffer())), (changecap.Passed(1, 1), len(others[1])))
+            self.assertIsNone(server.apply(INSERT, conflict=lambda *_: OMIT).passed)
             for text, at in (("is", 2), ("", 0)):
                 with self.assertRaises(changecap.NoFilter) as raised:
                     server.apply(INSERT, filter=text)

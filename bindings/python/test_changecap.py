@@ -86,7 +86,6 @@ class Servers(unittest.TestCase):
                 server.apply(INSERT, quiet=[own, ended])
             self.assertEqual((raised.exception.kind, raised.exception.at), (changecap.E_NO_SESSION, None))
             for words, error in (({"quiet": [foreign]}, ValueError), ({"quiet": [1]}, AttributeError),
-                                 ({"quiet": [own], "filter": "all"}, ValueError),
                                  ({"quiet": [own], "conflict": lambda *_: changecap.OMIT}, ValueError)):
                 with self.assertRaises(error):
                     server.apply(INSERT, **words)
@@ -94,7 +93,9 @@ class Servers(unittest.TestCase):
             self.assertEqual((own.is_empty(), other.is_empty()), (True, False))
             report = server.apply(INSERT, conflict=changecap.OMIT, rebase=True, quiet=iter([own, other]))
             self.assertEqual((report.version, report.omitted, len(report.buffer())), (3, 1, 20))
-            self.assertEqual(server.apply(DELETE), changecap.Report(4, 1, 0, 0, 0))
+            report = server.apply(DELETE, filter="not is t", quiet=[own])
+            self.assertEqual((report.version, report.passed), (4, (1, 1)))
+            self.assertEqual(server.apply(DELETE, filter=lambda table: table == "t"), changecap.Report(5, 1, 0, 0, 0))
             self.assertFalse(own.is_empty())
 
     def test_dumps(self):

@@ -77,7 +77,7 @@ class Memory(unittest.TestCase):
                 ("call", lambda: server.call("scan t"), ()), ("commit", lambda: server.commit(*change), ()),
                 ("commit_captured", lambda: server.commit_captured(session, *change), (changecap.Uncaptured,)),
                 ("apply", lambda: server.apply(self.blob, changecap.OMIT), ()),
-                ("apply, quiet", lambda: server.apply(self.blob, changecap.OMIT, quiet=[session]), ()),
+                ("apply, options", lambda: server.apply(self.blob, changecap.OMIT, filter="all", quiet=[session]), ()),
                 ("apply, rebase", lambda: server.apply(self.blob, changecap.OMIT, rebase=True), ()),
                 ("buffer", server.apply(self.blob, changecap.OMIT, rebase=True).buffer, ()),
                 ("get", lambda: server.get("t", (40,)), ()), ("save", lambda: server.save("now"), ()),

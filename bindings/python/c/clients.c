@@ -98,6 +98,7 @@ static PyObject *client_save(client *self, PyObject *database){
 typedef struct applied {
   uint32_t data, notfound, conflict, status;
   changecap_report report;
+  changecap_passed passed;
   changecap_fault fault;
 } applied;
 
@@ -113,16 +114,18 @@ static PyObject *report_or_error(const applied *made){
                        (unsigned long long)it->skipped);
 }
 
-/* Takes the three answers, behind a blob, and before the quiet sessions. */
+/* Takes the three answers, behind a blob, and before a filter and the quiet sessions. */
 static int take_answers(PyObject *const *args, Py_ssize_t count, applied *to){
-  *to = (applied){ 0, 0, 0, CHANGECAP_OK, { 0, 0, 0, 0, 0 }, { 0, 0 } };
-  return has_arguments(count, 5) && word_of(args[1], &to->data) && word_of(args[2], &to->notfound) &&
+  *to = (applied){ 0, 0, 0, CHANGECAP_OK, { 0, 0, 0, 0, 0 }, { 0, 0 }, { 0, 0 } };
+  return has_arguments(count, 6) && word_of(args[1], &to->data) && word_of(args[2], &to->notfound) &&
          word_of(args[3], &to->conflict);
 }
 
-/* Takes the numbers of sessions, a tuple, which are put into the bytes. */
-static int take_quiet(PyObject *from, arena *numbers, changecap_options *to){
-  Py_ssize_t count = PyTuple_Check(from) ? PyTuple_GET_SIZE(from) : -1;
+/* Takes the text of a filter, and the numbers of sessions, a tuple, which are put into the bytes. */
+static int take_options(PyObject *filter, PyObject *quiet, arena *numbers, changecap_options *to){
+  text told;
+  Py_ssize_t count = PyTuple_Check(quiet) ? PyTuple_GET_SIZE(quiet) : -1;
+  if( !text_of(filter, &told) ) return 0;
   if( count < 0 ){
     PyErr_SetString(PyExc_TypeError, "the quiet sessions are no tuple");
     return 0;
@@ -133,33 +136,42 @@ static int take_quiet(PyObject *from, arena *numbers, changecap_options *to){
   }
   for(Py_ssize_t i = 0; i < count; i++){
     uint64_t number;
-    if( !number_of(PyTuple_GET_ITEM(from, i), 64, &number) ) return 0;
+    if( !number_of(PyTuple_GET_ITEM(quiet, i), 64, &number) ) return 0;
     arena_put(numbers, &number, sizeof number);
   }
-  *to = (changecap_options){ .quiet = (const uint64_t *)(const void *)numbers->at, .quiet_n = (size_t)count };
+  const void *at = numbers->at;
+  *to = (changecap_options){ .filter = told.at, .filter_n = told.n, .quiet = at, .quiet_n = (size_t)count };
   return 1;
 }
 
-/* Takes a blob, the three answers and the quiet sessions. */
+/* The report with what was passed over, or the error of the status. */
+static PyObject *report_with_passed(const applied *made){
+  const changecap_passed *over = &made->passed;
+  PyObject *report = report_or_error(made);
+  if( report == NULL ) return NULL;
+  return Py_BuildValue("N(KK)", report, (unsigned long long)over->groups, (unsigned long long)over->changes);
+}
+
+/* Takes a blob, the three answers, a filter and the quiet sessions. */
 static PyObject *client_apply(client *self, PyObject *const *args, Py_ssize_t count){
   applied made;
-  changecap_options options = { NULL, 0 };
+  changecap_options options = { NULL, 0, NULL, 0 };
   arena quiet = { NULL, 0, 0 };
   if( !take_answers(args, count, &made) ) return NULL;
-  PyObject *blob = take_quiet(args[4], &quiet, &options) ? content_of(args[0]) : NULL;
+  PyObject *blob = take_options(args[4], args[5], &quiet, &options) ? content_of(args[0]) : NULL;
   if( blob )
     CALL(self, made.status,
          changecap_apply_with(&self->handle, PyBytes_AS_STRING(blob), (size_t)PyBytes_GET_SIZE(blob), made.data,
-                              made.notfound, made.conflict, &options, &made.report, &made.fault));
+                              made.notfound, made.conflict, &options, &made.report, &made.passed, &made.fault));
   arena_free(&quiet);
   if( blob == NULL ) return NULL;
   Py_DECREF(blob);
-  return report_or_error(&made);
+  return report_with_passed(&made);
 }
 
 /* Takes a blob, whose tables are made. */
 static PyObject *client_load(client *self, PyObject *given){
-  applied made = { 0, 0, 0, CHANGECAP_OK, { 0, 0, 0, 0, 0 }, { 0, 0 } };
+  applied made = { 0, 0, 0, CHANGECAP_OK, { 0, 0, 0, 0, 0 }, { 0, 0 }, { 0, 0 } };
   PyObject *blob = content_of(given);
   if( blob == NULL ) return NULL;
   CALL(self, made.status, changecap_load(&self->handle, PyBytes_AS_STRING(blob), (size_t)PyBytes_GET_SIZE(blob),
@@ -175,29 +187,30 @@ static void apply_changes(client *self, changes *of, const changecap_options *op
   int is_open = self->handle.at && of->handle.at;
   made->status = !is_open ? CLOSED
                           : changecap_apply_iter_with(&self->handle, &of->handle, made->data, made->notfound,
-                                                      made->conflict, options, &made->report, &made->fault);
+                                                      made->conflict, options, &made->report, &made->passed,
+                                                      &made->fault);
   pthread_mutex_unlock(&self->own.mutex);
   pthread_mutex_unlock(&of->own.mutex);
 }
 
-/* Takes changes, the three answers and the quiet sessions. */
+/* Takes changes, the three answers, a filter and the quiet sessions. */
 static PyObject *client_apply_changes(client *self, PyObject *const *args, Py_ssize_t count){
   applied made;
-  changecap_options options = { NULL, 0 };
+  changecap_options options = { NULL, 0, NULL, 0 };
   arena quiet = { NULL, 0, 0 };
   if( !take_answers(args, count, &made) ) return NULL;
   if( Py_TYPE(args[0]) != &changes_type ){
     PyErr_SetString(PyExc_TypeError, "these are no changes");
     return NULL;
   }
-  int is_taken = take_quiet(args[4], &quiet, &options);
+  int is_taken = take_options(args[4], args[5], &quiet, &options);
   if( is_taken ){
     PyThreadState *saved = PyEval_SaveThread();
     apply_changes(self, (changes *)args[0], &options, &made);
     PyEval_RestoreThread(saved);
   }
   arena_free(&quiet);
-  return is_taken ? report_or_error(&made) : NULL;
+  return is_taken ? report_with_passed(&made) : NULL;
 }
 
 /* ---- Sessions ---- */
@@ -510,7 +523,7 @@ static void finish_application(client *self, application *of, commitment *made, 
 static PyObject *client_apply_finish(client *self, PyObject *of){
   commitment made = { 0, 0, NULL, 0, 0, { 0, 0 } };
   item_read item = { { 0, 0 }, CHANGECAP_MISUSE, 0, 0, { NULL, 0, 0 } };
-  applied all = { 0, 0, 0, CHANGECAP_OK, { 0, 0, 0, 0, 0 }, { 0, 0 } };
+  applied all = { 0, 0, 0, CHANGECAP_OK, { 0, 0, 0, 0, 0 }, { 0, 0 }, { 0, 0 } };
   if( Py_TYPE(of) != &application_type ){
     PyErr_SetString(PyExc_TypeError, "this is no application");
     return NULL;

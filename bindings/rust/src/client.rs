@@ -1,12 +1,11 @@
 //! Clients of a server.
 use crate::application::Application;
 use crate::call::{done, done_at, taken, text_of};
-use crate::options::pointing;
 use crate::pool::{snapshot, Pool};
 use crate::refused::{Refused, RefusedChange};
 use crate::{
-    ffi, ApplyOptions, Batch, ChangesetItem, ChangesetIter, ConflictAnswer, ConflictType, Error, Result,
-    Snapshot,
+    ffi, ApplyOptions, Batch, ChangesetItem, ChangesetIter, ConflictAnswer, ConflictType, Error, Passed,
+    Result, Snapshot,
 };
 use crate::{Changeset, RebaseBuffer, Refusal, TRIES};
 use std::cell::RefCell;
@@ -242,30 +241,54 @@ impl Client {
         })
     }
 
-    /// The same as [`apply`](Self::apply), and each quiet session of the options stays as it is. Refused with
-    /// [`Refusal::NoSession`] where one has ended; [`Error::Misuse`] where it is of another server.
-    pub fn apply_options(&self, blob: impl AsRef<[u8]>, options: &ApplyOptions) -> Result<Report> {
-        let (blob, quiet) = (blob.as_ref(), options.numbers(&self.pool)?);
-        let [data, not_found, conflict] = options.answers.map(ConflictAction::number);
-        let told = pointing(&quiet);
+    /// Applies a changeset or a patchset as [`apply`](Self::apply) does, to the tables that the filter of the options
+    /// accepts. Each quiet session of the options stays as it is. The number of a change that is refused counts the
+    /// changes that are passed over, too. [`Error::Filter`] of a text that is no filter; refused with
+    /// [`Refusal::NoSession`] where a quiet session has ended; [`Error::Misuse`] where one is of another server.
+    pub fn apply_options(&self, blob: impl AsRef<[u8]>, options: &ApplyOptions) -> Result<(Report, Passed)> {
+        let blob = blob.as_ref();
         // SAFETY: the client is open, and no other call has it. Slices, and places of the call.
-        self.applied(|client, report, fault| unsafe {
+        self.optional(options, |client, [data, not_found, conflict], told, report, passed, fault| unsafe {
             let (at, n) = (blob.as_ptr(), blob.len());
-            ffi::changecap_apply_with(client, at, n, data, not_found, conflict, &told, report, fault)
+            ffi::changecap_apply_with(client, at, n, data, not_found, conflict, told, report, passed, fault)
         })
         .map_err(|error| named(error, blob))
     }
 
-    /// The same of all that an iterator goes over, as [`apply_iter`](Self::apply_iter).
-    pub fn apply_iter_options(&self, changes: &mut ChangesetIter, options: &ApplyOptions) -> Result<Report> {
-        let quiet = options.numbers(&self.pool)?;
-        let [data, not_found, conflict] = options.answers.map(ConflictAction::number);
-        let told = pointing(&quiet);
-        // SAFETY: the client and the iterator are open, and no other call has them. A slice, and places of the call.
-        self.applied(|client, report, fault| unsafe {
+    /// The same of all that an iterator goes over, as [`apply_iter`](Self::apply_iter). With a filter it goes over the
+    /// accepted changes alone then, from the first on.
+    pub fn apply_iter_options(
+        &self,
+        changes: &mut ChangesetIter,
+        options: &ApplyOptions,
+    ) -> Result<(Report, Passed)> {
+        // SAFETY: the client and the iterator are open, and no other call has them. Slices, and places of the call.
+        self.optional(options, |client, [data, not_found, conflict], told, report, passed, fault| unsafe {
             let it = changes.handle.at();
-            ffi::changecap_apply_iter_with(client, it, data, not_found, conflict, &told, report, fault)
+            ffi::changecap_apply_iter_with(client, it, data, not_found, conflict, told, report, passed, fault)
         })
+    }
+
+    /// What became of the changes of a blob that a call applies with options.
+    fn optional(
+        &self,
+        options: &ApplyOptions,
+        call: impl FnOnce(
+            &mut ffi::Client,
+            [u32; 3],
+            &ffi::Options,
+            &mut ffi::Report,
+            &mut ffi::Passed,
+            &mut ffi::Fault,
+        ) -> u32,
+    ) -> Result<(Report, Passed)> {
+        let quiet = options.numbers(&self.pool)?;
+        let (told, mut passed) = (options.pointing(&quiet), ffi::Passed::default());
+        let answers = options.answers.map(ConflictAction::number);
+        let report =
+            self.applied(|client, report, fault| call(client, answers, &told, report, &mut passed, fault))?;
+        let ffi::Passed { groups, changes } = passed;
+        Ok((report, Passed { groups, changes }))
     }
 
     /// Applies a changeset or a patchset to the tables that a filter accepts, a text as of

@@ -83,9 +83,18 @@ pub struct Report {
     pub skipped: u64,
 }
 
+#[repr(C)]
+#[derive(Default, Clone, Copy)]
+pub struct Passed {
+    pub groups: u64,
+    pub changes: u64,
+}
+
 /// A `changecap_options`: each pointer is read only where the number behind it is not 0.
 #[repr(C)]
 pub struct Options {
+    pub filter: *const u8,
+    pub filter_n: usize,
     pub quiet: *const u64,
     pub quiet_n: usize,
 }
@@ -283,6 +292,7 @@ unsafe extern "C" {
         conflict: u32,
         options: *const Options,
         report: *mut Report,
+        passed: *mut Passed,
         fault: *mut Fault,
     ) -> u32;
     pub fn changecap_apply_iter_with(
@@ -293,6 +303,7 @@ unsafe extern "C" {
         conflict: u32,
         options: *const Options,
         report: *mut Report,
+        passed: *mut Passed,
         fault: *mut Fault,
     ) -> u32;
     pub fn changecap_session_new(client: *mut Client, session: *mut u64, fault: *mut Fault) -> u32;

@@ -49,7 +49,7 @@ pub use capture::Capture;
 pub use client::{Client, ConflictAction, Report};
 pub use error::{Error, Fault, Result};
 pub use iter::{Action, Change, ChangesetIter, Decoder};
-pub use options::ApplyOptions;
+pub use options::{ApplyOptions, Passed};
 pub use params::{Params, RowId, RowName};
 pub use rebase::{RebaseBuffer, Rebaser};
 pub use refused::{Item, ItemKind, Refusal, Refused, RefusedChange};

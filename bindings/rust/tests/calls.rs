@@ -595,16 +595,45 @@ fn quiet_sessions() {
     let of_another = options.clone().quiet(&foreign);
     assert!(matches!(client.apply_options(&insert, &of_another), Err(Error::Misuse)));
     let applied = Report { version: 2, applied: 1, conflicts: 0, omitted: 0, skipped: 0 };
-    assert_eq!(client.apply_options(&insert, &options).unwrap(), applied);
+    let none = Passed { groups: 0, changes: 0 };
+    assert_eq!(client.apply_options(&insert, &options).unwrap(), (applied, none));
     assert_eq!(empty(), [true, false]);
     let mut changes = Changeset::from_bytes(&insert).unwrap().iter().unwrap();
     let omitted = Report { version: 3, applied: 0, conflicts: 1, omitted: 1, skipped: 0 };
-    assert_eq!(client.apply_iter_options(&mut changes, &options).unwrap(), omitted);
+    assert_eq!(client.apply_iter_options(&mut changes, &options).unwrap(), (omitted, none));
     assert!(!changes.buffer().unwrap().is_empty());
     client.execute("drop 1").unwrap();
     assert_eq!(refusal_of(client.apply_options(&insert, &options)), (Refusal::NoSession, None));
     let neither = ApplyOptions::new(omit, omit, omit);
-    assert_eq!(client.apply_options(of_hex(DELETE), &neither).unwrap().applied, 1);
+    assert_eq!(client.apply_options(of_hex(DELETE), &neither).unwrap().0.applied, 1);
+}
+
+#[test]
+fn tables_that_are_passed_over() {
+    let client = Server::open_in_memory().unwrap().client().unwrap();
+    client.create_table("t", &[true, false]).unwrap();
+    let abort = ConflictAction::Abort;
+    let of_t = || ApplyOptions::new(abort, abort, abort).filter("is t");
+    // The other table is not there, and is passed over, not skipped.
+    let both = [of_hex(OTHER_TABLE), of_hex(INSERT)].concat();
+    let applied = Report { version: 2, applied: 1, conflicts: 0, omitted: 0, skipped: 0 };
+    let one = Passed { groups: 1, changes: 1 };
+    assert_eq!(client.apply_options(&both, &of_t()).unwrap(), (applied, one));
+    // The number of the refused change is that in the blob.
+    let refused = client.apply_options(&both, &of_t()).unwrap_err();
+    assert_eq!(refused.to_string(), "refused at 1: E15 Aborted, insert t key(1)");
+    let mut changes = Changeset::from_bytes(&both).unwrap().iter().unwrap();
+    assert!(client.apply_iter_options(&mut changes, &of_t()).is_err());
+    assert_eq!(changes.next().unwrap().table_name(), "u");
+    let omit = ConflictAction::Omit;
+    let options = ApplyOptions::new(omit, omit, omit).filter("is t");
+    assert_eq!(client.apply_iter_options(&mut changes, &options).unwrap().1, one);
+    assert_eq!(changes.buffer().unwrap().as_bytes(), of_hex(INSERT));
+    assert_eq!(changes.map(|it| it.table_name().to_string()).collect::<Vec<_>>(), ["t"]);
+    for (filter, fault) in [("is", Fault { kind: 12, at: 2 }), ("or(", Fault { kind: 12, at: 3 })] {
+        let made = client.apply_options(&both, &of_t().filter(filter));
+        assert!(matches!(made, Err(Error::Filter(why)) if why == fault));
+    }
 }
 
 #[test]

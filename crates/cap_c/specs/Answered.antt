@@ -2,15 +2,17 @@
 -- not name for an output leaves it as it was.
 use Rattle.std.specs.Prelude.{◌≡◌, ℕ, Bool, List, [], Option, Some, None, Result, Ok, Err}
 use Rattle.std.specs.Prelude.{if◌then◌else◌}
-use Rattle.std.specs.Result.{result_unwrap_or}
+use Rattle.std.specs.Result.{result_map_both, result_unwrap_or}
 use Rattle.cap_value.specs.declared.memory.Fault.{Fault}
 use Rattle.cap_value.specs.declared.memory.Fault.TheVariants as stop
 use Rattle.cap_codec.specs.declared.fault.BlobFault.{BlobFault}
 use Rattle.cap_apply.specs.declared.policy.Policy.{Policy}
-use Rattle.cap_connection.specs.Calls.{Applies, AppliesQuiet}
+use Rattle.cap_connection.specs.Accepted.{AppliesWith}
+use Rattle.cap_connection.specs.Calls.{Applies}
 use Rattle.cap_connection.specs.Connection.{ConnectionState}
 use Rattle.cap_connection.specs.Iter.{IterState}
 use Rattle.cap_connection.specs.Runs.{misused}
+use Rattle.cap_connection.specs.declared.chosen.Passed.{Passed}
 use Rattle.cap_connection.specs.declared.fault.ConnectionFault.{ConnectionFault}
 use Rattle.cap_connection.specs.declared.fault.ConnectionFault.TheVariants as fault
 use Rattle.cap_connection.specs.declared.replies.Applied.{Applied}
@@ -19,6 +21,7 @@ use Rattle.cap_c.specs.Fault.{placed, placed_in_text}
 use Rattle.cap_c.specs.Handle.{Between, BetweenBoth}
 use Rattle.cap_c.specs.Refusal.{filter_fault, overtaken, refused}
 use Rattle.cap_c.specs.declared.apply_report.ApplyReport.{ApplyReport}
+use Rattle.cap_c.specs.declared.apply_report.PassedOver.{PassedOver}
 use Rattle.cap_c.specs.declared.fault.PlacedFault.{PlacedFault}
 use Rattle.cap_c.specs.declared.status.TheConstants.{BUSY, COMMAND, FILTER, FULL, MALFORMED, MISUSE, NOMEM}
 use Rattle.cap_c.specs.declared.status.TheConstants.{OK, OVERTAKEN, REFUSED}
@@ -100,6 +103,17 @@ pub record TellsReport (status : ℕ) (old_report report : ApplyReport) (old fau
   pub told : Tells status old fault answer
   pub report_is : report ≡ report_output answer old_report
 
+abbrev pub passed_output : Result (Applied × Passed) (Fault ConnectionFault) → PassedOver → PassedOver
+passed_output (Ok made) old = record { groups = made.1.groups; changes = made.1.changes }
+passed_output (Err why) old = old
+
+-- and what was passed over
+pub record TellsPassed (status : ℕ) (old_report report : ApplyReport) (old_passed passed : PassedOver)
+    (old fault : PlacedFault) (answer : Result (Applied × Passed) (Fault ConnectionFault)) : Type 0 where
+  pub told : TellsReport status old_report report old fault
+      (result_map_both (λ made. made.0) (λ why. why) answer)
+  pub passed_is : passed ≡ passed_output answer old_passed
+
 -- whether a command by text is accepted: its reply says why it is not
 abbrev pub text_status : Result Bool (Fault ConnectionFault) → ℕ
 text_status (Ok accepted) = if accepted then OK else REFUSED
@@ -141,8 +155,10 @@ abbrev pub AppliesBy : Option Policy → IterState → IterState → ConnectionS
 AppliesBy (Some policy) before after old new answer = Applies policy [] before after old new answer
 AppliesBy None before after old new answer = (answer ≡ misused) × (new ≡ old) × (after ≡ before)
 
--- The same, and the sessions with these numbers stay as they are.
-abbrev pub AppliesWith : Option Policy → List ℕ → IterState → IterState → ConnectionState → ConnectionState →
-    Result Applied (Fault ConnectionFault) → Type 0
-AppliesWith (Some policy) quiet before after old new answer = AppliesQuiet policy quiet before after old new answer
-AppliesWith None quiet before after old new answer = (answer ≡ misused) × (new ≡ old) × (after ≡ before)
+-- The same of the tables that the filter of a text accepts; the sessions with these numbers stay as they are.
+abbrev pub AppliesWithBy : Option Policy → List ℕ → List ℕ → IterState → IterState → ConnectionState →
+    ConnectionState → Result (Applied × Passed) (Fault ConnectionFault) → Type 0
+AppliesWithBy (Some policy) filter quiet before after old new answer =
+    AppliesWith policy filter quiet before after old new answer
+AppliesWithBy None filter quiet before after old new answer =
+    (answer ≡ misused) × (new ≡ old) × (after ≡ before)

@@ -2,16 +2,17 @@
 ghost use Rattle.std.specs.Prelude.{◌≡◌};
 ghost use Rattle.cap_c.specs.Client.{join_status};
 ghost use Rattle.cap_c.specs.Outputs.{OutputsFound};
-ghost use Rattle.cap_c.specs.Answered.{Tells, TellsFlag, TellsNumber, TellsPiece, TellsReport, TellsText};
+ghost use Rattle.cap_c.specs.Answered.{Tells, TellsFlag, TellsNumber, TellsPassed, TellsPiece, TellsReport};
+ghost use Rattle.cap_c.specs.Answered.{TellsText};
 ghost use Rattle.cap_c.specs.Answered.{fault_output, fault_status};
 
-use crate::apply_report::ApplyReport;
+use crate::apply_report::{ApplyReport, PassedOver};
 use crate::fault::PlacedFault;
 use crate::status::{
     BUSY, CLIENTS, COMMAND, FILTER, FULL, MALFORMED, MISUSE, NOMEM, OK, OVERTAKEN, REFUSED,
 };
 use cap_codec::BlobFault;
-use cap_connection::{Applied, ConnectionFault};
+use cap_connection::{Applied, ConnectionFault, Passed};
 use cap_hub::JoinFault;
 use cap_value::Fault;
 
@@ -131,6 +132,27 @@ pub(crate) fn tell_report(
             *fault = fault_output(why, *fault);
             fault_status(why)
         }
+    }
+}
+
+/// The same of one with a filter, and sets what was passed over.
+pub(crate) fn tell_passed(
+    answer: Result<(Applied, Passed), Fault<ConnectionFault>>,
+    report: &mut ApplyReport,
+    passed: &mut PassedOver,
+    fault: &mut PlacedFault,
+) -> u32
+    ensures { TellsPassed result report.old report.new passed.old passed.new fault.old fault.new answer }
+{
+    match answer {
+        Ok((made, over)) => {
+            *passed = PassedOver {
+                groups: over.groups,
+                changes: over.changes,
+            };
+            tell_report(Ok(made), report, fault)
+        }
+        Err(why) => tell_report(Err(why), report, fault),
     }
 }
 

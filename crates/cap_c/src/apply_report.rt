@@ -12,3 +12,12 @@ pub struct ApplyReport {
     pub omitted: u64,
     pub skipped: u64,
 }
+
+/// How many groups were passed over, since a filter does not accept their tables, and how many changes they
+/// have.
+#[repr(C)]
+#[derive(Clone, Copy, Drop)]
+pub struct PassedOver {
+    pub groups: u64,
+    pub changes: u64,
+}

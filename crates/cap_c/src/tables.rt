@@ -2,18 +2,18 @@
 ghost use Rattle.std.specs.Prelude.{IsSome};
 ghost use Rattle.cap_connection.specs.Calls.{Commits, CreatesTable, Saves};
 ghost use Rattle.cap_c.specs.Numbers.{policy_of};
-ghost use Rattle.cap_c.specs.Answered.{Answers, AppliesBy, AppliesWith, BothAnswer, Tells, TellsNumber};
-ghost use Rattle.cap_c.specs.Answered.{TellsReport};
+ghost use Rattle.cap_c.specs.Answered.{Answers, AppliesBy, AppliesWithBy, BothAnswer, Tells, TellsNumber};
+ghost use Rattle.cap_c.specs.Answered.{TellsPassed, TellsReport};
 
-use crate::answered::{tell, tell_number, tell_report};
-use crate::apply_report::ApplyReport;
+use crate::answered::{tell, tell_number, tell_passed, tell_report};
+use crate::apply_report::{ApplyReport, PassedOver};
 use crate::batch_handle::{self, BatchHandle};
 use crate::client_handle::{ClientHandle, put, take};
 use crate::fault::PlacedFault;
 use crate::iter_handle::{self, IterHandle};
 use crate::numbers::policy_of;
 use cap_apply::Policy;
-use cap_connection::{Applied, BlobIter, Connection, ConnectionFault};
+use cap_connection::{Applied, BlobIter, Connection, ConnectionFault, Passed};
 use cap_core::QuietSessions;
 use cap_value::Fault;
 use std::alloc::Global;
@@ -108,7 +108,8 @@ pub extern "C" fn changecap_try_apply(
     tell_report(answer, report, fault)
 }
 
-/// The same, of which the sessions with these numbers record nothing.
+/// The same of the tables that the filter of a text accepts, or with an empty text of all. Sets `passed` to
+/// what is passed over. The sessions with these numbers record nothing.
 #[unsafe(no_mangle)]
 pub extern "C" fn changecap_try_apply_with(
     alloc: Global,
@@ -117,24 +118,26 @@ pub extern "C" fn changecap_try_apply_with(
     on_data: u32,
     on_notfound: u32,
     on_conflict: u32,
+    filter: &[u8],
     quiet: &[u64],
     report: &mut ApplyReport,
+    passed: &mut PassedOver,
     fault: &mut PlacedFault,
 ) -> u32
     requires opened { IsSome client.old.value }
     requires read { IsSome iter.old.value }
     ensures applied { BothAnswer client.old.value client.new.value iter.old.value iter.new.value
-        (λ old new before after. AppliesWith (policy_of on_data on_notfound on_conflict) quiet.now before after
-        old new)
-        (TellsReport result report.old report.new fault.old fault.new) }
+        (λ old new before after. AppliesWithBy (policy_of on_data on_notfound on_conflict) filter.now
+        quiet.now before after old new)
+        (TellsPassed result report.old report.new passed.old passed.new fault.old fault.new) }
 {
     let mut connection = take(alloc, client);
     let mut it = iter_handle::take(alloc, iter);
     let policy = policy_of(on_data, on_notfound, on_conflict);
-    let answer = apply_with(alloc, &mut connection, &mut it, policy, quiet);
+    let answer = apply_with(alloc, &mut connection, &mut it, policy, filter, quiet);
     iter_handle::put(iter, it);
     put(client, connection);
-    tell_report(answer, report, fault)
+    tell_passed(answer, report, passed, fault)
 }
 
 fn apply(
@@ -156,12 +159,13 @@ fn apply_with(
     connection: &mut Connection,
     it: &mut BlobIter,
     policy: Option<Policy>,
+    filter: &[u8],
     quiet: &[u64],
-) -> Result<Applied, Fault<ConnectionFault>>
-    ensures { AppliesWith policy quiet.now it.old it.new connection.old connection.new result }
+) -> Result<(Applied, Passed), Fault<ConnectionFault>>
+    ensures { AppliesWithBy policy filter.now quiet.now it.old it.new connection.old connection.new result }
 {
     match policy {
-        Some(policy) => connection.apply_quiet(alloc, it, policy, quiet),
+        Some(policy) => connection.apply_with(alloc, it, policy, filter, quiet),
         None => Err(Fault::Refused(ConnectionFault::Misuse)),
     }
 }

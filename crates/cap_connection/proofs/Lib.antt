@@ -1,3 +1,4 @@
+mod AcceptedLemmas
 mod ApplicationLemmas
 mod CallLemmas
 pub mod Crossing

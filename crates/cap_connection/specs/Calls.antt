@@ -60,8 +60,8 @@ pub record Applies (policy : Policy) (quiet : List ℕ) (before after : IterStat
   pub conflicts_kept : OnErr result (after.conflicts ≡ before.conflicts)
 
 -- The same of sessions whose numbers are copied first. Where memory runs out all is as it was.
-pub record AppliesQuiet (policy : Policy) (quiet : List ℕ) (before after : IterState) (old new : ConnectionState)
-    (result : Result Applied (Fault ConnectionFault)) : Type 0 where
+pub record AppliesQuiet (policy : Policy) (quiet : List ℕ) (before after : IterState)
+    (old new : ConnectionState) (result : Result Applied (Fault ConnectionFault)) : Type 0 where
   pub applied : UnlessMemory (Applies policy quiet before after old new) old new result
   pub kept : OnErr result (after ≡ before)
 

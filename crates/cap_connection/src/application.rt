@@ -424,8 +424,8 @@ fn record_of_present(
     }
 }
 
-// The filter of a text, none of the empty text.
-fn filter_in(
+/// The filter of a text, none of the empty text.
+pub(crate) fn filter_in(
     alloc: Global,
     text: &[u8],
 ) -> Result<Option<TableFilter<Global>>, Fault<ApplicationFault>>

@@ -12,8 +12,8 @@ use cap_value::{Fault, OutOfMemory};
 use std::alloc::Global;
 
 impl Connection {
-    /// Applies what `apply` applies. The sessions with these numbers record none of its changes, and each other
-    /// session does; where one of them is not there it is refused with `NoSession`.
+    /// Applies what `apply` applies. The sessions with these numbers record none of its changes, and each
+    /// other session does; where one of them is not there it is refused with `NoSession`.
     pub fn apply_quiet(
         &mut self,
         alloc: Global,

@@ -4,9 +4,12 @@
 
 mod application;
 mod apply_quiet;
+mod apply_with;
 mod captured;
+mod chosen;
 mod columns;
 mod connection;
+mod copied;
 mod decoder;
 mod fault;
 mod iter;
@@ -20,6 +23,7 @@ mod replies;
 
 pub use application::{Application, ApplicationFault};
 pub use captured::{CaptureKind, Captured};
+pub use chosen::Passed;
 pub use connection::Connection;
 pub use decoder::PieceDecoder;
 pub use fault::{ConnectionFault, TextFault};

@@ -102,7 +102,7 @@ fn load(
         return Err(MISUSE);
     };
     match connection.load(alloc, &mut it) {
-        Ok(applied) => Ok(applied.version + applied.applied),
+        Ok(applied) => Ok(applied.version.wrapping_add(applied.applied)),
         Err(why) => Err(why),
     }
 }

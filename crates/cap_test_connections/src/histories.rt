@@ -94,26 +94,17 @@ fn a_capture_has_what_both_committed(rt: HostRuntime) {
 }
 
 // Whether each has seen an event of the third one only once it has asked for it, or met who has seen it.
-fn see(
-    alloc: Global,
-    zero: &mut Connection,
-    first: &mut Connection,
-    second: &mut Connection,
-) -> bool {
-    let is_made = accepts(zero, alloc, &["create t kv"]);
-    let is_seen = first.front() == 1 && (first.seen(), second.seen()) == (1, 0);
-    second.meet(first);
-    is_made && is_seen && second.seen() == 1
-}
-
 fn seen_by_three(alloc: Global) -> bool {
     let Some((mut zero, mut first)) = both(alloc, &[]) else {
         return false;
     };
-    match first.join(alloc) {
-        Ok(mut second) => see(alloc, &mut zero, &mut first, &mut second),
-        Err(_) => false,
-    }
+    let Ok(mut second) = first.join(alloc) else {
+        return false;
+    };
+    let is_made = accepts(&mut zero, alloc, &["create t kv"]);
+    let is_seen = first.front() == 1 && (first.seen(), second.seen()) == (1, 0);
+    second.meet(&first);
+    is_made && is_seen && second.seen() == 1
 }
 
 #[test]

@@ -18,8 +18,7 @@ typedef struct client {
 } client;
 
 static void begin_session(client *of){
-  RIGHT(sqlite3session_create(of->database, "main", &of->session));
-  RIGHT(sqlite3session_attach(of->session, NULL));
+  RIGHT(sqlite3session_create(of->database, "main", &of->session) || sqlite3session_attach(of->session, NULL));
 }
 
 /* Whether the hub's change is made, of those that are in conflict: the newest write of a row stays, by the stamp in its
@@ -63,13 +62,13 @@ static void client_pull(client *of, changecap_client *hub){
 /* Lets the hub apply what is pending, unless others have changed something there since the last pull. */
 static int client_push(client *of, changecap_client *hub){
   changecap_report report;
+  changecap_passed passed;
   changecap_fault fault;
   uint32_t flag;
   RIGHT(changecap_session_isempty(hub, of->at_hub, &flag, &fault));
   if( !flag ) return 0;
-  RIGHT(changecap_session_enable(hub, of->at_hub, CHANGECAP_OFF, &flag, &fault));
-  RIGHT(changecap_apply(hub, of->pending, of->n, CHANGECAP_ABORT, CHANGECAP_ABORT, CHANGECAP_ABORT, &report, &fault));
-  RIGHT(changecap_session_enable(hub, of->at_hub, CHANGECAP_ON, &flag, &fault));
+  RIGHT(changecap_apply_with(hub, of->pending, of->n, CHANGECAP_ABORT, CHANGECAP_ABORT, CHANGECAP_ABORT,
+                             &(changecap_options){ .quiet = &of->at_hub, .quiet_n = 1 }, &report, &passed, &fault));
   of->n = 0;
   return 1;
 }

@@ -21,9 +21,7 @@ class Hub:
         """Applies what a client has changed, unless others have changed something since its last pull."""
         if not self.sessions[number].is_empty():
             return False
-        self.sessions[number].enable(False)
-        self.server.apply(changeset)  # a conflict raises Refused
-        self.sessions[number].enable(True)
+        self.server.apply(changeset, quiet=[self.sessions[number]])  # a conflict raises Refused
         return True
 
 

@@ -32,7 +32,7 @@ from ._numbers import (ABORT, BUSY, CASCADE, CLIENTS, COLUMNS, COMMAND, CONFLICT
                        E_STALE, E_TABLE_EXISTS, E_TOO_DEEP, E_TOO_LONG, E_TOO_MANY, E_WRONG_WIDTH, FILTER, FULL,
                        KEYS_ONES, KEYS_PLACES, KIND, MALFORMED, MISUSE, NOMEM, NOTFOUND, OK, OMIT, OVERTAKEN,
                        PATCHSET, REFUSED, REPLACE, ROOM, ROW)
-from ._server import Capture, Decide, Key, Operation, Report, Server, Session, Snapshot, Transaction
+from ._server import Capture, Decide, Key, Operation, Passed, Report, Server, Session, Snapshot, Transaction
 
 __version__ = _changecap.VERSION
 __all__ = [
@@ -43,7 +43,7 @@ __all__ = [
     "KEYS_PLACES", "KIND", "MALFORMED", "MISUSE", "NOMEM", "NOTFOUND", "OK", "OMIT", "OVERTAKEN", "PATCHSET", "REFUSED",
     "REPLACE", "ROOM", "ROW",
     "Blob", "Capture", "Change", "Conflict", "Decide", "Error", "Given", "Key", "Malformed", "NoFilter",
-    "NotOneCommand", "Operation", "Rebaser", "Refused", "Report", "Row", "RowId", "Server", "Session", "Snapshot",
-    "Transaction", "Uncaptured", "Value", "check", "concat", "invert", "iterate", "iterate_pieces", "json", "patchset",
-    "rebase_buffer",
+    "NotOneCommand", "Operation", "Passed", "Rebaser", "Refused", "Report", "Row", "RowId", "Server", "Session",
+    "Snapshot", "Transaction", "Uncaptured", "Value", "check", "concat", "invert", "iterate", "iterate_pieces", "json",
+    "patchset", "rebase_buffer",
 ]

@@ -8,12 +8,12 @@ from collections.abc import Callable, Iterable, Iterator, Mapping, Sequence
 from dataclasses import dataclass, field
 from itertools import islice
 from types import TracebackType
-from typing import Literal, TypeVar, Union
+from typing import Literal, NamedTuple, TypeVar, Union
 
 from . import _changecap
 from ._blobs import Blob, Change, Given, Row, RowId, Value, iterate
 from ._errors import Conflict, Error, NoFilter, Refused, refused_reply
-from ._numbers import (ABORT, CLIENTS, CONFLICT, DATA, DIRECT, KEYS_ONES, KEYS_PLACES, MISUSE, NOTFOUND, PATCHSET)
+from ._numbers import ABORT, CLIENTS, DIRECT, KEYS_ONES, KEYS_PLACES, MISUSE, PATCHSET
 
 Key = Union[Sequence[Given], RowId]
 """How a row is named: by its key, or by its id where it has none."""
@@ -82,10 +82,24 @@ def _answer_each(application: _changecap.Application, blob: bytes, decide: Decid
             raise Refused(refused.kind, at, change=change) from None
 
 
+class Passed(NamedTuple):
+    """How many groups of a blob were passed over, since a filter does not accept their tables, and their changes.
+
+    >>> import changecap
+    >>> with Server() as server:
+    ...     server.apply(changecap.EXAMPLE, filter="not is t").passed
+    Passed(groups=1, changes=1)
+    """
+
+    groups: int
+    changes: int
+
+
 @dataclass
 class Report:
     """What became of an applied blob: the new version, the changes that were applied, those that replaced a row among
-    them, that met a conflict and that were omitted because of one, and the groups that were skipped.
+    them, that met a conflict and that were omitted because of one, and the groups that were skipped; and what was
+    `passed` over, or None where a function decided the conflicts.
 
     >>> import changecap
     >>> with Server() as server:
@@ -98,6 +112,7 @@ class Report:
     conflicts: int
     omitted: int
     skipped: int
+    passed: Passed | None = field(default=None, repr=False, compare=False)
     _changes: _changecap.Changes | _changecap.Application | None = field(default=None, repr=False, compare=False)
 
     def buffer(self) -> bytes:
@@ -306,14 +321,14 @@ class Server:
         key is in use. With `rebase` it is a changeset, and the report has its rebase buffer. Of a `Refused`, `change`
         is the change that is refused and `at` its number, from 0.
 
-        The `quiet` sessions record none of the changes, and each other session does. They go with answers that are
-        numbers, and without a filter.
+        A `filter` is a text or a function of the name of a table. Groups of tables that it does not accept are passed
+        over: they are not looked at, and are none of those that are skipped. The `quiet` sessions record none of the
+        changes, and each other session does. They go with answers that are numbers.
 
         Where `conflict` is a function (`Decide`) it answers each conflict: of its kind, the change and the values of
-        the row that is there. With it, or with a filter, which is a text or a function of the name of a table, the
-        blob is applied to a snapshot and committed as a transaction that looked at each row that a change names: no
-        call of another thread comes between. It is applied again where one of those has changed, as often as `tries`
-        says in all.
+        the row that is there. Then the blob is applied to a snapshot and committed as a transaction that looked at each
+        row that a change names: no call of another thread comes between. It is applied again where one of those has
+        changed, as often as `tries` says in all.
 
         >>> import changecap
         >>> with Server() as server:
@@ -347,24 +362,28 @@ class Server:
         ...     other.attach()
         ...     server.apply(changecap.EXAMPLE, quiet=[own]).applied
         ...     own.is_empty(), other.is_empty()
+        ...     server.apply(changecap.EXAMPLE, filter="not is t").passed
         1
         1
         (True, False)
+        Passed(groups=1, changes=1)
         """
         numbers = tuple(self._number(session) for session in quiet)
-        if numbers and (callable(conflict) or filter is not None):
-            raise ValueError("quiet sessions go with answers that are numbers, and without a filter")
         if callable(conflict):
+            if numbers:
+                raise ValueError("quiet sessions go with answers that are numbers")
             return self._decided(blob, conflict, rebase, filter, tries)
         if filter is not None:
-            answers = {DATA: data, NOTFOUND: notfound, CONFLICT: conflict}
-            return self._decided(blob, lambda kind, change, row: answers[kind], rebase, filter, tries)
+            blob = bytes(blob)
+        text = "" if filter is None else _filter_text(blob, filter)
         changes = _changecap.Changes(blob) if rebase else None
         try:
             if changes is None:
-                return Report(*self._client().apply(blob, data, notfound, conflict, numbers))
-            changes.buffer()  # A patchset has none, and is not applied.
-            return Report(*self._client().apply_changes(changes, data, notfound, conflict, numbers), changes)
+                report, passed = self._client().apply(blob, data, notfound, conflict, text, numbers)
+            else:
+                changes.buffer()  # A patchset has none, and is not applied.
+                report, passed = self._client().apply_changes(changes, data, notfound, conflict, text, numbers)
+            return Report(*report, Passed(*passed), changes)
         except Refused as refused:
             if refused.at is None:
                 raise
@@ -382,7 +401,7 @@ class Server:
             application = self._client().snapshot().apply(content, text)
             _answer_each(application, content, decide)
             try:
-                return Report(*self._client().apply_finish(application), application if rebase else None)
+                return Report(*self._client().apply_finish(application), None, application if rebase else None)
             except Conflict:
                 tries -= 1
                 if tries <= 0:

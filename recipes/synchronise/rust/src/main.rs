@@ -1,6 +1,6 @@
 //! Databases of SQLite that change the same rows get in step through a hub. ../../README.md says how.
 use changecap::ConflictAction::{Abort, Omit, Replace};
-use changecap::{Changeset, KeyFlags, Rebaser, Result, Row, Server, Session};
+use changecap::{ApplyOptions, Changeset, KeyFlags, Rebaser, Result, Row, Server, Session};
 use sqlite::{Conflict, Database}; // in conformance/rust; rusqlite has its calls, too
 
 /// A table server with a session for each client. Its calls are made one at a time.
@@ -16,9 +16,8 @@ impl Hub {
         if !session.is_empty()? {
             return Ok(false);
         }
-        session.set_enabled(false)?;
-        self.server.client()?.apply(changeset, Abort, Abort, Abort)?;
-        session.set_enabled(true)?;
+        let options = ApplyOptions::new(Abort, Abort, Abort).quiet(session);
+        self.server.client()?.apply_options(changeset, &options)?;
         Ok(true)
     }
 }
