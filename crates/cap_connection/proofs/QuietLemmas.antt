@@ -1,7 +1,6 @@
 -- An application of sessions whose numbers are copied first.
 use Rattle.std.proofs.Common.{◌≡◌, ◌∙◌, ℕ, List}
 use Rattle.std.specs.Prelude.{Result, Ok, Err}
-use Rattle.std.specs.Result.{result_map_both}
 use Rattle.cap_value.specs.declared.memory.Fault.{Fault}
 use Rattle.cap_value.specs.declared.memory.Fault.TheVariants as stop
 use Rattle.cap_apply.specs.declared.policy.Policy.{Policy}

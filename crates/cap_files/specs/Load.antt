@@ -1,11 +1,12 @@
 -- The lines of a workload that make the tables and rows of a dump.
 use Rattle.std.specs.Prelude.{ℕ, ◌+◌, ◌==◌, ◌&&◌, ◌||◌, Bool, false, not, List, [], ◌∷◌, ◌++◌}
 use Rattle.std.specs.Prelude.{Option, Some, None, Result, Ok, Err, codes, if◌then◌else◌}
-use Rattle.std.specs.Char.{is_ascii_alphabetic, is_ascii_alphanumeric}
+use Rattle.std.specs.Char.{is_ascii_alphabetic}
 use Rattle.std.specs.List.{flat_map, list_all}
 use Rattle.hex.specs.Hex.{encode_lower}
 use Rattle.cap_value.specs.Bytes.{bytes_eq}
 use Rattle.cap_row.specs.Schema.{flags_eq}
+use Rattle.cap_filter.specs.Tokens.{is_word_byte}
 use Rattle.cap_changes.specs.Entries.{TableEntries}
 use Rattle.cap_changes.specs.declared.row_change.RowChange.{RowChange}
 use Rattle.cap_codec.specs.declared.read.Contents.{Contents}
@@ -19,10 +20,6 @@ use Rattle.cap_files.specs.declared.load.LoadFault.TheVariants.{NoInsert, NoWord
 -- an ASCII letter or `_`
 abbrev pub is_letter : ℕ → Bool
 is_letter byte = is_ascii_alphabetic byte || byte == 95
-
--- a letter, a digit or `_`
-abbrev pub is_word_byte : ℕ → Bool
-is_word_byte byte = is_ascii_alphanumeric byte || byte == 95
 
 -- what a workload can name a table by
 abbrev pub is_word : List ℕ → Bool

@@ -2,14 +2,16 @@
 ghost use Rattle.std.specs.Prelude.{◌≡◌, ◌++◌, ◌∷◌, [], OnOk, option_copied, string_bytes};
 ghost use Rattle.std.specs.List.{flat_map, list_all};
 ghost use Rattle.cap_value.specs.Memory.{LeavesUnlessMemory, RefusesFirst, ShowsUnlessMemory};
+ghost use Rattle.cap_filter.specs.Tokens.{is_word_byte};
 ghost use Rattle.cap_files.specs.Load as spec;
 ghost use Rattle.cap_files.specs.Load.{apply_line, column_text, columns_of, create_line, is_letter, is_word};
-ghost use Rattle.cap_files.specs.Load.{is_word_byte, refused_blob, with_group, with_groups, with_table};
+ghost use Rattle.cap_files.specs.Load.{refused_blob, with_group, with_groups, with_table};
 ghost use Rattle.cap_files.specs.Summary.{is_change};
 ghost use Rattle.cap_files.specs.declared.counts.Counted.TheVariants.{Inserts};
 
 use cap_changes::{Group, RowChange};
 use cap_codec::Contents;
+use cap_filter::is_word_byte;
 use cap_row::Schema;
 use cap_value::{AllocHandle, Fault, Name, OutOfMemory};
 use thiserror::Error;
@@ -225,12 +227,6 @@ fn is_letter(byte: u8) -> bool
     ensures { result ≡ is_letter byte }
 {
     byte.is_ascii_alphabetic() || byte == b'_'
-}
-
-fn is_word_byte(byte: u8) -> bool
-    ensures { result ≡ is_word_byte byte }
-{
-    byte.is_ascii_alphanumeric() || byte == b'_'
 }
 
 fn has_inserts_alone<A: AllocHandle>(changes: &[RowChange<A>]) -> bool

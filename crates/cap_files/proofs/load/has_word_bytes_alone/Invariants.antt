@@ -1,6 +1,6 @@
 use Rattle.std.proofs.Common.{◌≡◌, drop}
 use Rattle.std.specs.List.{list_all}
-use Rattle.cap_files.specs.Load.{is_word_byte}
+use Rattle.cap_filter.specs.Tokens.{is_word_byte}
 use Rattle.cap_files.proofs.load.has_word_bytes_alone.Given as goal
 
 -- bytes of a word alone so far
