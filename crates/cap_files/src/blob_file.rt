@@ -1,7 +1,8 @@
 //! The blob in a file.
-ghost use Rattle.std.specs.Prelude.{◌≡◌, ◌==◌, ◌++◌, ◌∷◌, [], IfOk, length};
+ghost use Rattle.std.specs.Prelude.{◌≡◌, ◌==◌, ◌<◌, ◌≤◌, ◌++◌, ◌∷◌, [], IfOk, IfSome, length};
 ghost use Rattle.cap_value.specs.Memory.{ShowsUnlessMemory};
 ghost use Rattle.cap_files.specs.FileBlob.{black, digits_blob, file_blob, hex_blob, is_white, no_digit};
+ghost use Rattle.cap_files.specs.FileBlob.{no_digit_in, word_len};
 ghost use Rattle.hex.specs.Hex.{encode_lower, is_hex_digit};
 
 use cap_value::{AllocHandle, Fault, OutOfMemory};
@@ -11,7 +12,8 @@ use thiserror::Error;
 /// How a file has a blob.
 #[derive(Clone, Copy, Debug, PartialEq, Eq, Drop)]
 pub enum FileForm {
-    /// As hex digits in either case, with white space before, between and after them.
+    /// As hex digits in either case, with white space before, between and after them, and at the beginning of
+    /// the file the word that a reply has before them: `changeset`, `patchset` or `buffer` and a space.
     Hex,
     /// As they are.
     Bytes,
@@ -44,14 +46,16 @@ pub struct FileBlob<A: AllocHandle> {
 }
 
 /// The blob in a file with these bytes. What begins with a hex digit is hex digits, `-` alone is the blob
-/// without bytes, and all else is bytes.
+/// without bytes, and all else is bytes. A line of a reply is taken as well: the word before its blob is passed
+/// over.
 pub fn file_blob<A: AllocHandle>(
     alloc: A,
     given: Vec<u8, A>,
 ) -> Result<FileBlob<A>, Fault<TextFault>>
     ensures { ShowsUnlessMemory (λ blob. (blob.form, blob.bytes.items)) result (file_blob given.items) }
 {
-    let digits = without_white(alloc, given.as_slice())?;
+    let word = word_len(given.as_slice());
+    let digits = without_white(alloc, &given.as_slice()[word..])?;
     let [first, others @ ..] = digits.as_slice() else {
         return Err(Fault::Refused(TextFault::Empty));
     };
@@ -67,7 +71,7 @@ pub fn file_blob<A: AllocHandle>(
             bytes: given,
         });
     }
-    match no_digit(given.as_slice()) {
+    match no_digit_in(given.as_slice()) {
         Some(at) => Err(Fault::Refused(TextFault::NotHex { at })),
         None => decoded(alloc, digits.as_slice()),
     }
@@ -100,9 +104,37 @@ fn without_white<A: AllocHandle>(alloc: A, bytes: &[u8]) -> Result<Vec<u8, A>, O
     Ok(found)
 }
 
+// How long the word is that a reply has before its blob, with the space behind it.
+fn word_len(given: &[u8]) -> usize
+    ensures len { result ≡ word_len given.now }
+    ensures bound { result ≤ length given.now }
+{
+    if given.starts_with(b"changeset ") {
+        10
+    } else if given.starts_with(b"patchset ") {
+        9
+    } else if given.starts_with(b"buffer ") {
+        7
+    } else {
+        0
+    }
+}
+
+// The place in the file of the first byte behind that word that is neither a hex digit nor white space.
+fn no_digit_in(given: &[u8]) -> Option<usize>
+    ensures { result ≡ no_digit_in given.now }
+{
+    let word = word_len(given);
+    match no_digit(&given[word..]) {
+        Some(at) => Some(word + at),
+        None => None,
+    }
+}
+
 // The place of the first byte that is neither a hex digit nor white space.
 fn no_digit(bytes: &[u8]) -> Option<usize>
-    ensures { result ≡ no_digit 0 bytes.now }
+    ensures place { result ≡ no_digit 0 bytes.now }
+    ensures bound { IfSome result (λ at. at < length bytes.now) }
 {
     for (at, byte) in bytes.iter().enumerate() {
         if !is_white(*byte) && !is_digit(*byte) {
