@@ -1,8 +1,6 @@
-//! The program `changecap`. `run` runs the workload on standard input and prints the replies; `shell` runs
-//! each line as it is read; `show` prints the changes in a blob; `invert` and `patchset` print the inverse
-//! and the patchset of a changeset; `concat` prints the concatenation of blobs, and `rebase` a changeset
-//! over buffers. `check` and `summary` look at blobs, and `load` prints lines that make what dumps have. All
-//! but `shell` also read files.
+//! The program `changecap`. `run` and `shell` run workloads; `show`, `check` and `summary` look at blobs;
+//! `invert`, `patchset`, `concat` and `rebase` make blobs of blobs; `load` prints lines that make what dumps
+//! have. All but `shell` also read files.
 #![tactic(auto)]
 
 ghost use Rattle.cap_command_line.specs.Options.{IsInRange};
