@@ -120,6 +120,16 @@ class Maker:
     def commit_at(self):
         self.add(f"commitat {self.server.version - self.chance(0.3) if self.server.version else 0} {self.ops()}")
 
+    def transaction(self):
+        """A transaction over several lines. A few of its lines stand before it or behind it, and are refused there."""
+        self.add(self.pick(("begin",) * 9 + ("savepoint",)))
+        for _ in range(self.random.randint(0, 12)):
+            name = self.table()
+            weights = {self.op(): 12, "savepoint": 4, f"rollback to {self.random.randint(0, 4)}": 3, "begin": 0.3,
+                       f"scan {name}": 1, f"get {name} {self.row_name(name)}": 2, f"isempty {self.session()}": 1}
+            self.add(self.random.choices(list(weights), list(weights.values()))[0])
+        self.add(self.pick(("end",) * 3 + ("rollback",)))
+
     # Blobs
 
     def record(self, group, keys):
@@ -165,7 +175,11 @@ class Maker:
         content = self.pick(self.blobs) if self.blobs and self.chance(0.6) else self.blob_by_hand()
         quiet = ",".join(str(self.session()) for _ in range(self.random.randint(1, 2)))
         word = f"applyquiet {quiet}" if self.chance(0.3) else "apply"
-        self.add(f"{word} x'{content.hex()}' {self.policy()}{self.pick((' report', ' buffer', ''))}")
+        self.add(f"{word} x'{content.hex()}' {self.policy()}{self.pick((' report', ' buffer', ''))}{self.accepted()}")
+
+    def accepted(self):
+        """A filter at the end of an application, or none."""
+        return f" filter {self.pick(FILTERS)}" if self.chance(0.2) else ""
 
     # Sessions
 
@@ -250,6 +264,21 @@ def workload_case(number):
         maker.step()
     maker.finish()
     return Case(f"random workload {number}", maker.end())
+
+
+def transaction_case(number):
+    """Transactions over several lines, with savepoints, of which each is committed or rolled back."""
+    maker = Maker(f"transactions {number}")
+    for _ in range(maker.random.randint(1, 3)):
+        maker.create()
+    for _ in range(maker.random.randint(0, 4)):
+        maker.commit()
+    maker.new_session()
+    for _ in range(maker.random.randint(1, 6)):
+        maker.transaction()
+        maker.pick((maker.commit, maker.read, maker.capture, maker.restart))()
+    maker.finish()
+    return Case(f"random transactions {number}", maker.end())
 
 
 def exchange_case(number):

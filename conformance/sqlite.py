@@ -173,16 +173,18 @@ class Connection:
     def session(self):
         return Session(self)
 
-    def apply(self, blob, policy):
-        """Applies a changeset or a patchset by `sqlite3changeset_apply`. The policy is a function from the kind of a
-        conflict to an answer; what it raises is raised again. The result code is in what is returned."""
+    def apply(self, blob, policy, accepts=None):
+        """Applies a changeset or a patchset by `sqlite3changeset_apply`, to the tables whose names a function accepts,
+        or to all. The policy is a function from the kind of a conflict to an answer; what it raises is raised again.
+        The result code is in what is returned."""
         applied = Applied(policy)
+        chosen = XFilter(lambda _, name: bool(accepts(name.decode()))) if accepts else None
         update = XUpdate(lambda _, operation, database, table, row: applied.note_row(table.decode()))
         conflict = XConflict(lambda _, kind, at: applied.note_conflict(CONFLICTS[kind]))
         before = len(library().log)
         self.calls.sqlite3_update_hook(self.at, update, None)
         try:
-            applied.code = self.calls.sqlite3changeset_apply(self.at, len(blob), blob, None, conflict, None)
+            applied.code = self.calls.sqlite3changeset_apply(self.at, len(blob), blob, chosen, conflict, None)
         finally:
             self.calls.sqlite3_update_hook(self.at, XUpdate(0), None)
         for _, text in library().log[before:]:

@@ -128,6 +128,7 @@ class SqliteServer:
         self.connection.execute(f"CREATE TEMP TABLE {CASCADES}(x)")
         self.tables, self.sessions, self.saved = {}, {}, {}
         self.version, self.next_session = 0, 1
+        self.standing, self.marks, self.ids, self.marks_made = None, [], None, 0
 
     def close(self):
         self.connection.close()
@@ -182,17 +183,22 @@ class SqliteServer:
                 self.carry_out_one(op, at)
             point.is_kept = True
 
-    def rehearse(self, work):
-        """Does the work with all sessions disabled, and takes it back."""
+    @contextmanager
+    def unrecorded(self):
+        """All sessions are disabled meanwhile."""
         enabled = [state for state in self.sessions.values() if state.session.enable()]
         for state in enabled:
             state.session.enable(False)
         try:
-            with self.savepoint():
-                work()
+            yield
         finally:
             for state in enabled:
                 state.session.enable(True)
+
+    def rehearse(self, work):
+        """Does the work with all sessions disabled, and takes it back."""
+        with self.unrecorded(), self.savepoint():
+            work()
 
     @contextmanager
     def savepoint(self):
@@ -284,6 +290,70 @@ class SqliteServer:
         """The row id of the row that was inserted last."""
         ((rowid,),) = self.connection.execute(f"SELECT max(rowid) FROM {quoted(table.name)}")
         return rowid
+
+    # Transactions over several lines: no session records one before its end, where what stands of it is committed
+
+    def all_ids(self):
+        """What `take_all_back` puts back, as often as it is asked to."""
+        return [(table, *table.ids()) for table in self.tables.values()]
+
+    def take_all_back(self, ids):
+        for table, loose, next_id in ids:
+            table.take_back((dict(loose), next_id))
+
+    def open(self):
+        """The operations that stand in the transaction. The line is refused where none is open."""
+        if self.standing is None:
+            raise Refusal("E21 NoTransaction")
+        return self.standing
+
+    def do_begin(self):
+        if self.standing is not None:
+            raise Refusal("E22 InTransaction")
+        self.standing, self.marks, self.ids, self.marks_made = [], [], self.all_ids(), 0
+        self.connection.execute("SAVEPOINT whole")
+        return "ok"
+
+    def do_op(self, op):
+        standing = self.open()
+        with self.unrecorded(), self.savepoint() as point:
+            self.carry_out_one(op, None)
+            point.is_kept = True
+        standing.append(op)
+        return "ok"
+
+    def do_savepoint(self):
+        number, self.marks_made = self.marks_made, self.marks_made + 1
+        self.marks.append((number, len(self.open()), self.all_ids()))
+        self.connection.execute(f"SAVEPOINT mark{number}")
+        return f"savepoint {number}"
+
+    def do_rollback(self, number):
+        standing = self.open()
+        if number is None:
+            self.undo()
+            return "ok"
+        found = next((place for place, mark in enumerate(self.marks) if mark[0] == number), None)
+        if found is None:
+            raise Refusal("E20 NoMark")
+        with self.unrecorded():
+            self.connection.execute(f"ROLLBACK TO mark{number}")
+        del self.marks[found + 1:], standing[self.marks[found][1]:]
+        self.take_all_back(self.marks[found][2])
+        return "ok"
+
+    def do_end(self):
+        standing = self.open()
+        self.undo()
+        return self.do_commit(None, standing)
+
+    def undo(self):
+        """Ends the transaction, and leaves nothing of it."""
+        with self.unrecorded():
+            self.connection.execute("ROLLBACK TO whole")
+        self.connection.execute("RELEASE whole")
+        self.take_all_back(self.ids)
+        self.standing = None
 
     # Reads
 
@@ -439,16 +509,19 @@ class SqliteServer:
 
     # Applying
 
-    def do_apply(self, content, on_data, on_notfound, on_conflict, more):
+    def do_apply(self, content, on_data, on_notfound, on_conflict, more, accepted):
         answers = {"data": on_data, "notfound": on_notfound, "conflict": on_conflict}
-        self.rehearse(lambda: self.apply(content, answers))
-        applied, skipped = self.apply(content, answers)
+        accepts = filter_of(accepted) if accepted else None
+        passed = [number for number, group in enumerate(blob.read(content)) if accepts and not accepts(group.table)]
+        self.rehearse(lambda: self.apply(content, answers, accepts, passed))
+        applied, skipped = self.apply(content, answers, accepts, passed)
         for state in self.sessions.values():
             state.note(applied.tables)
-        counts = self.written(f", applied {applied.made}, omitted {applied.omitted}, skipped {len(skipped)}")
+        counts = self.written(f", applied {applied.made}, omitted {applied.omitted}, skipped {len(skipped)}"
+                              + (f", passed {len(passed)}" if accepts else ""))
         if more == "buffer":
-            return [counts, buffer_line(content, applied.conflicts, skipped)]
-        return [counts, *report_lines(content, applied.conflicts, skipped)] if more == "report" else counts
+            return [counts, buffer_line(content, applied.conflicts, skipped + passed)]
+        return [counts, *report_lines(content, applied.conflicts, skipped, passed)] if more == "report" else counts
 
     def do_applyquiet(self, quiet, *application):
         """The same, with the quiet sessions disabled around it."""
@@ -461,13 +534,14 @@ class SqliteServer:
             for state in enabled:
                 state.session.enable(True)
 
-    def apply(self, content, answers):
-        """Applies the blob, and returns what is seen of that and the numbers of the groups that SQLite skipped."""
-        applied = self.connection.apply(content, answers.__getitem__)
+    def apply(self, content, answers, accepts, passed):
+        """Applies the blob, and returns what is seen of that and the numbers of the groups that SQLite skipped. Those
+        that were passed over are given."""
+        applied = self.connection.apply(content, answers.__getitem__, accepts)
         skipped = [number for number, group in enumerate(blob.read(content))
-                   if group.changes and is_skipped(group, applied.warnings)]
+                   if number not in passed and group.changes and is_skipped(group, applied.warnings)]
         if applied.code in (sqlite.ABORT, sqlite.MISUSE):
-            at = change_of(content, skipped, applied.conflicts[-1])
+            at = change_of(content, skipped + passed, applied.conflicts[-1])
             raise Refusal("E16 Misuse" if applied.code == sqlite.MISUSE else "E15 Aborted", at)
         if applied.code != sqlite.OK:
             raise sqlite.SqliteError(applied.code, "sqlite3changeset_apply")
@@ -481,9 +555,9 @@ def is_skipped(group, warnings):
                or warning.startswith(f"table {name} has ") for warning in warnings)
 
 
-def report_lines(content, conflicts, skipped):
+def report_lines(content, conflicts, skipped, passed):
     """What `apply .. report` prints behind the counts."""
-    numbered = [(change_of(content, skipped, conflict), *conflict[:2]) for conflict in conflicts]
+    numbered = [(change_of(content, skipped + passed, conflict), *conflict[:2]) for conflict in conflicts]
     return [*(f"conflict {change} {kind} {answer}" for change, kind, answer in numbered),
             *(f"omitted {change}" for change, _, answer in numbered if answer == "omit"),
             *(f"skipped {number}" for number in skipped)]

@@ -91,11 +91,17 @@ def read(text):
 
 
 def is_known(text):
-    """Whether each command has a form here."""
+    """Whether each command has a form here, and between the lines of a transaction only what SQLite's one connection
+    answers there as well: what reads the transaction, and whether a session is empty."""
     try:
-        read(text)
+        commands = read(text)
     except (KeyError, ValueError):
         return False
+    is_open = False
+    for command in commands:
+        if is_open and command.word not in BETWEEN:
+            return False
+        is_open = (is_open or command.word == "begin") and command.line.strip() not in ("rollback", "end")
     return True
 
 
@@ -105,6 +111,8 @@ def command_of(line):
     word = tokens.word()
     if word == "filter":
         return Command(word, (tokens.number(), line[tokens.at:]), line)
+    if word in ("insert", "update", "delete", "cascade"):
+        word, tokens = "op", Tokens(line, found.end() if found else 0)
     command = Command(word, tuple(FORMS[word](tokens)), line)
     if not tokens.is_done():
         raise ValueError(f"more than a command: {line}")
@@ -175,9 +183,22 @@ def capture_of(tokens):
     return tokens.number(), has_places(tokens)
 
 
+def mark_of(tokens):
+    """The number of the savepoint that a rollback goes back to, where it does."""
+    return (None,) if tokens.is_done() else (tokens.word("to") and tokens.number(),)
+
+
 def application_of(tokens):
+    """A blob, three answers, what is printed beside the counts, and the text of a filter, which ends the line."""
     blob, answers = tokens.take("blob"), [tokens.word("omit", "replace", "abort") for _ in range(3)]
-    return blob, *answers, None if tokens.is_done() else tokens.word("report", "buffer")
+    more = tokens.word("report", "buffer") if tokens.peek()[1] in ("report", "buffer") else None
+    return blob, *answers, more, None if tokens.is_done() else filter_text_of(tokens)
+
+
+def filter_text_of(tokens):
+    tokens.word("filter")
+    text, tokens.at = tokens.line[tokens.at:], len(tokens.line)
+    return text
 
 
 def quiet_application_of(tokens):
@@ -187,7 +208,14 @@ def quiet_application_of(tokens):
     return quiet, *application_of(tokens)
 
 
+# What a line may be between those of a transaction.
+BETWEEN = ("begin", "op", "savepoint", "rollback", "end", "get", "scan", "isempty")
 FORMS = {
+    "begin": lambda tokens: (),
+    "op": lambda tokens: (op_of(tokens),),
+    "savepoint": lambda tokens: (),
+    "rollback": mark_of,
+    "end": lambda tokens: (),
     "create": lambda tokens: (tokens.word(), tokens.word()),
     "commit": lambda tokens: (None, ops_of(tokens)),
     "commitat": lambda tokens: (tokens.number(), ops_of(tokens)),

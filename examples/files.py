@@ -228,7 +228,8 @@ REFUSED = [
 ]
 # What is expected where a line begins.
 COMMANDS = ("expected create commit commitat apply applyquiet get scan save dropdatabase attach enable indirect diff "
-            "changeset patchset restart dump drop attachall filter isempty session sessions databases tables @")
+            "changeset patchset restart dump insert update delete cascade rollback drop attachall filter isempty "
+            "session sessions databases tables begin savepoint end @")
 # What is said on standard error beside the replies: the words of a command, its standard input, what it prints there
 # and on standard error, and its status.
 EXPLAINED = [

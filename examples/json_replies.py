@@ -82,7 +82,9 @@ def applied_text(members, command):
     version, applied = members.number("version"), members.number("applied")
     conflicts = members.objects("conflicts")
     omitted, skipped = members.take("omitted", list), members.take("skipped", list)
-    lines = [f"ok version {version}, applied {applied}, omitted {len(omitted)}, skipped {len(skipped)}"]
+    command, has_filter, _ = command.partition(" filter ")
+    passed = f", passed {members.number('passed')}" if has_filter else ""
+    lines = [f"ok version {version}, applied {applied}, omitted {len(omitted)}, skipped {len(skipped)}{passed}"]
     if command.rstrip(" ").endswith(" report"):
         lines += [f"conflict {it['change']} {it['kind']} {it['answer']}" for it in conflicts]
         lines += [f"omitted {it}" for it in omitted] + [f"skipped {it}" for it in skipped]
@@ -127,8 +129,8 @@ def refused_text(members):
     return f"refused{at}: {refusal}{more}{members.optional('item', ' item ')}"
 
 
-def text_of(members, command):
-    """The text of a reply to a command."""
+def text_of(members, command, is_open):
+    """The text of a reply to a command. What is read in a transaction that is open has no version."""
     kind = members.text("reply")
     if kind == "done":
         return "ok"
@@ -147,7 +149,9 @@ def text_of(members, command):
         return str(is_on).lower() if command.split()[0] == "isempty" else on_text(is_on)
     if kind == "refused":
         return refused_text(members)
-    version = members.number("version")
+    if kind == "savepoint":
+        return f"savepoint {members.number('savepoint')}"
+    version = members.number("version") if kind not in ("row", "rows") or not is_open else None
     if kind == "written":
         return f"ok version {version}"
     if kind in ("changeset", "patchset"):
@@ -164,7 +168,7 @@ def text_of(members, command):
 
 def replies(workload, printed):
     """The text of each reply, and of the fault at which the run ended, if any."""
-    lines, texts = printed.removesuffix("\n").split("\n"), []
+    lines, texts, is_open = printed.removesuffix("\n").split("\n"), [], False
     for line, (number, worker, command) in zip(lines, commands_of(workload)):
         members = Members(line)
         if members.has("fault"):
@@ -175,7 +179,9 @@ def replies(workload, printed):
         if members.has("worker") != (worker is not None) or worker not in (None, members.left[0][1]):
             raise ValueError(f"not of worker {worker}: {line}")
         members.left = members.left[worker is not None:]
-        texts.append(text_of(members, command))
+        texts.append(text_of(members, command, is_open))
+        begins, ends = command.strip(" ") == "begin", command.strip(" ") in ("rollback", "end")
+        is_open = (is_open or begins and texts[-1] == "ok") and not ends
         if members.left:
             raise ValueError(f"more than the text has: {line}")
     if len(texts) != len(lines):

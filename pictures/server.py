@@ -364,12 +364,17 @@ class Server:
             for session in enabled:
                 session.enabled = True
 
-    def do_apply(self, content, data, notfound, conflict, more):
+    def do_apply(self, content, data, notfound, conflict, more, accepted):
+        accepts = filters.filter_of(accepted) if accepted else None
         policy = {"data": data, "notfound": notfound, "conflict": conflict}
         tables = {name: table.copy() for name, table in self.tables.items()}
         groups, changes, conflicts, answers, number = blob.read(content), [], [], {}, 0
-        omitted, skipped, applied = [], [], 0
+        omitted, skipped, passed, applied = [], [], 0, 0
         for at, group in enumerate(groups):
+            if accepts and not accepts(group.table):
+                passed += 1
+                number += len(group.changes)
+                continue
             table = tables.get(group.table)
             if not fits(group, table):
                 skipped.append(f"skipped {at}")
@@ -392,7 +397,8 @@ class Server:
                     changes += applied_change(table, group, change, found)
             number += bool(group.changes)
         self.settle(tables, changes)
-        reply = self.written(f", applied {applied}, omitted {len(omitted)}, skipped {len(skipped)}")
+        reply = self.written(f", applied {applied}, omitted {len(omitted)}, skipped {len(skipped)}"
+                             + (f", passed {passed}" if accepts else ""))
         if more == "report":
             reply = "\n".join([reply, *conflicts, *omitted, *skipped])
         if more == "buffer":

@@ -1,8 +1,10 @@
 pub mod Applier
+pub mod Chosen
 pub mod Counted
 pub mod Looked
 pub mod Merge
 pub mod Named
+pub mod Numbering
 pub mod Progress
 pub mod Reach
 pub mod Remaining

@@ -12,7 +12,7 @@ use Rattle.cap_connection.specs.Calls.{Applies}
 use Rattle.cap_connection.specs.Connection.{ConnectionState}
 use Rattle.cap_connection.specs.Iter.{IterState}
 use Rattle.cap_connection.specs.Runs.{misused}
-use Rattle.cap_connection.specs.declared.chosen.Passed.{Passed}
+use Rattle.cap_applier.specs.declared.passed.Passed.{Passed}
 use Rattle.cap_connection.specs.declared.fault.ConnectionFault.{ConnectionFault}
 use Rattle.cap_connection.specs.declared.fault.ConnectionFault.TheVariants as fault
 use Rattle.cap_connection.specs.declared.replies.Applied.{Applied}

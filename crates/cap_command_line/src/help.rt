@@ -28,7 +28,8 @@ Nothing runs before the end of the input, except in `changecap shell`, which run
 What is refused has a code. G1 Syntax, G2 (a limit, with its E) and G3 (a blob, with its D) are of a line
 of a workload, and have its number. D1 Truncated, D2 BadHeader, D3 BadVarint, D4 BadName, D5 BadOp, D6
 BadField, D7 Real, D8 BadText, D9 BadRecord and D10 Mixed are of the bytes of a blob. E1 to E20 are of a
-command, as E5 Duplicate; the refusal is its reply, and the next command runs.
+command, as E5 Duplicate, and E21 and E22 of a line that fits no open transaction or needs none; the refusal
+is its reply, and the next line runs.
 
 The exit status is 0 where the input was run or printed, 1 where it is refused, 2 where the command line
 is, and 3 where memory ran out or a read or a write failed. With -v a line on standard error then says what
@@ -123,6 +124,13 @@ Tables:
   save B              save all tables under a name: save old
   databases           list what is saved
   dropdatabase B      drop a saved database: dropdatabase old
+Transactions over several lines, in a shell and without --threads:
+  begin               begin one on a snapshot; then OP alone, as insert t (1,'x'), is made in it,
+                      and get and scan read what stands in it
+  savepoint           make a savepoint; its reply has its number
+  rollback to N       undo what was made since: rollback to 0
+  rollback            undo all of it
+  end                 commit it, unless what it looked at has changed
 Sessions:
   session             make a session, which records changes; its reply has its number
   sessions            list the sessions, with their flags and tables
@@ -144,6 +152,8 @@ Changes:
                       apply x'5402..' omit omit replace
   .. D N C report     print each conflict too, each omitted change and each skipped group
   .. D N C buffer     print its buffer too, which `changecap rebase` reads
+  .. filter F         apply only to tables of some names; it is the last of the line:
+                      apply x'5402..' omit omit replace report filter is t
   applyquiet S,.. ..  the same, of which the sessions S,.. record nothing:
                       applyquiet 1,2 x'5402..' omit omit replace
 

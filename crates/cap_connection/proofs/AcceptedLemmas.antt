@@ -5,7 +5,7 @@ use Rattle.cap_value.specs.declared.memory.Fault.TheVariants as stop
 use Rattle.cap_filter.specs.Rule.{Rule}
 use Rattle.cap_apply.specs.declared.policy.Policy.{Policy}
 use Rattle.cap_connection.specs.Accepted.{AppliesAccepted, AppliesGiven}
-use Rattle.cap_connection.specs.Chosen.{accepted_in}
+use Rattle.cap_applier.specs.Chosen.{accepted_in}
 use Rattle.cap_connection.specs.Connection.{ConnectionState}
 use Rattle.cap_connection.specs.Iter.{IterState, begin}
 use Rattle.cap_connection.specs.declared.application.ApplicationFault.{ApplicationFault}

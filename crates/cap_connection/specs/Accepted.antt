@@ -1,5 +1,5 @@
 -- An application to the tables that a filter accepts.
-use Rattle.std.specs.Prelude.{◌≡◌, ℕ, List, Option, Some, None, Result, Ok, Err, slice_index_or}
+use Rattle.std.specs.Prelude.{◌≡◌, ℕ, List, Option, Some, None, Result, Ok, Err}
 use Rattle.std.specs.Option.{option_map}
 use Rattle.std.specs.Result.{result_map_both}
 use Rattle.cap_value.specs.declared.memory.Fault.{Fault}
@@ -7,26 +7,23 @@ use Rattle.cap_value.specs.declared.memory.Fault.TheVariants as stop
 use Rattle.cap_value.specs.declared.refusal.Refusal.{Refusal}
 use Rattle.cap_value.specs.declared.refusal.Refusal.TheVariants.{Aborted, Misuse}
 use Rattle.cap_filter.specs.Rule.{Rule}
+use Rattle.cap_applier.specs.Chosen.{accepted_in, number_in_blob, numbering_in}
+use Rattle.cap_applier.specs.declared.passed.Passed.{Passed}
 use Rattle.cap_apply.specs.declared.policy.Policy.{Policy}
 use Rattle.cap_connection.specs.Application.{filter_in}
 use Rattle.cap_connection.specs.Calls.{AppliesQuiet}
-use Rattle.cap_connection.specs.Chosen.{accepted_in, numbers_in, passed_in}
 use Rattle.cap_connection.specs.Connection.{ConnectionState}
 use Rattle.cap_connection.specs.Iter.{IterState, begin}
 use Rattle.cap_connection.specs.Runs.{Spoils}
 use Rattle.cap_connection.specs.declared.application.ApplicationFault.{ApplicationFault}
 use Rattle.cap_connection.specs.declared.application.ApplicationFault.TheVariants as wrong
-use Rattle.cap_connection.specs.declared.chosen.Passed.{Passed}
 use Rattle.cap_connection.specs.declared.fault.ConnectionFault.{ConnectionFault}
 use Rattle.cap_connection.specs.declared.fault.ConnectionFault.TheVariants as fault
 use Rattle.cap_connection.specs.declared.replies.Applied.{Applied}
 
 -- ---- Of this filter
 
--- The number in the blob of a change of what the filter leaves, where these are the numbers of its changes.
-abbrev pub number_in_blob : List ℕ → ℕ → ℕ
-number_in_blob numbers at = slice_index_or numbers at at
-
+-- the refusal with the number in the blob, where these are the numbers of what the filter leaves
 abbrev pub why_in_blob : List ℕ → Refusal → Refusal
 why_in_blob numbers (Aborted at) = Aborted (number_in_blob numbers at)
 why_in_blob numbers (Misuse at) = Misuse (number_in_blob numbers at)
@@ -43,9 +40,9 @@ fault_in_blob numbers why = why
 abbrev pub AnswersAccepted : Rule → IterState → IterState → IterState →
     Result Applied (Fault ConnectionFault) → Result (Applied × Passed) (Fault ConnectionFault) → Type 0
 AnswersAccepted rule before made after (Ok applied) result =
-    (result ≡ Ok (applied, passed_in rule before.contents)) × (after ≡ made)
+    (result ≡ Ok (applied, (numbering_in rule before.contents).passed)) × (after ≡ made)
 AnswersAccepted rule before made after (Err why) result =
-    (result ≡ Err (fault_in_blob (numbers_in rule before.contents) why)) × (after ≡ before)
+    (result ≡ Err (fault_in_blob (numbering_in rule before.contents).changes why)) × (after ≡ before)
 
 -- An iterator over the accepted groups is applied. The others are passed over: they are not looked at.
 pub record AppliesAccepted (rule : Rule) (policy : Policy) (quiet : List ℕ) (before after : IterState)

@@ -2,7 +2,6 @@ pub mod Accepted
 pub mod Application
 pub mod Called
 pub mod Calls
-pub mod Chosen
 pub mod Clients
 pub mod Columns
 pub mod Commands

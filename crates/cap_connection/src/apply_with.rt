@@ -3,15 +3,16 @@ ghost use Rattle.std.specs.Prelude.{◌≡◌};
 ghost use Rattle.std.specs.Option.{option_map};
 ghost use Rattle.cap_value.specs.Memory.{RefusesFirst};
 ghost use Rattle.cap_connection.specs.Accepted.{AppliesAccepted, AppliesToAll, AppliesWith, fault_in_blob};
-ghost use Rattle.cap_connection.specs.Accepted.{filter_fault, number_in_blob, why_in_blob};
+ghost use Rattle.cap_connection.specs.Accepted.{filter_fault, why_in_blob};
+ghost use Rattle.cap_applier.specs.Chosen.{number_in_blob};
 ghost use Rattle.cap_connection.specs.Application.{filter_misuse};
 
 use crate::application::{ApplicationFault, filter_in};
-use crate::chosen::{Chosen, Passed, chosen_of};
 use crate::connection::Connection;
 use crate::fault::ConnectionFault;
 use crate::iter::BlobIter;
 use crate::replies::Applied;
+use cap_applier::{Chosen, Numbering, Passed, chosen_of};
 use cap_apply::Policy;
 use cap_filter::TableFilter;
 use cap_value::{Fault, Refusal};
@@ -57,16 +58,15 @@ impl Connection {
         };
         let Chosen {
             contents,
-            numbers,
-            passed,
+            numbering,
         } = chosen;
         let mut accepted = BlobIter::new(alloc, contents);
         match self.apply_quiet(alloc, &mut accepted, policy, quiet) {
             Ok(applied) => {
                 *it = accepted;
-                Ok((applied, passed))
+                Ok((applied, numbering.passed()))
             }
-            Err(why) => Err(fault_in_blob(numbers.as_slice(), why)),
+            Err(why) => Err(fault_in_blob(&numbering, why)),
         }
     }
 
@@ -103,48 +103,42 @@ fn filter_fault(why: ApplicationFault) -> ConnectionFault
 }
 
 // The fault with the number that the refused change has in the blob.
-fn fault_in_blob(numbers: &[u64], why: Fault<ConnectionFault>) -> Fault<ConnectionFault>
-    ensures { result ≡ fault_in_blob numbers.now why }
+fn fault_in_blob(
+    numbering: &Numbering<Global>,
+    why: Fault<ConnectionFault>,
+) -> Fault<ConnectionFault>
+    ensures { result ≡ fault_in_blob numbering.now.changes why }
 {
     match why {
         Fault::Refused(ConnectionFault::Refused { at, why }) => {
             Fault::Refused(ConnectionFault::Refused {
-                at: at_in_blob(numbers, at),
-                why: why_in_blob(numbers, why),
+                at: at_in_blob(numbering, at),
+                why: why_in_blob(numbering, why),
             })
         }
         _ => why,
     }
 }
 
-fn at_in_blob(numbers: &[u64], at: Option<u64>) -> Option<u64>
-    ensures { result ≡ option_map (number_in_blob numbers.now) at }
+fn at_in_blob(numbering: &Numbering<Global>, at: Option<u64>) -> Option<u64>
+    ensures { result ≡ option_map (number_in_blob numbering.now.changes) at }
 {
     match at {
-        Some(at) => Some(number_in_blob(numbers, at)),
+        Some(at) => Some(numbering.change(at)),
         None => None,
     }
 }
 
-fn why_in_blob(numbers: &[u64], why: Refusal) -> Refusal
-    ensures { result ≡ why_in_blob numbers.now why }
+fn why_in_blob(numbering: &Numbering<Global>, why: Refusal) -> Refusal
+    ensures { result ≡ why_in_blob numbering.now.changes why }
 {
     match why {
         Refusal::Aborted { at } => Refusal::Aborted {
-            at: number_in_blob(numbers, at),
+            at: numbering.change(at),
         },
         Refusal::Misuse { at } => Refusal::Misuse {
-            at: number_in_blob(numbers, at),
+            at: numbering.change(at),
         },
         _ => why,
-    }
-}
-
-fn number_in_blob(numbers: &[u64], at: u64) -> u64
-    ensures { result ≡ number_in_blob numbers.now at }
-{
-    match numbers.get(at as usize) {
-        Some(number) => *number,
-        None => at,
     }
 }

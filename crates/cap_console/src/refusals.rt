@@ -1,7 +1,7 @@
 //! What each refusal of a command means.
 
 // The number and the name of each refusal, and a sentence.
-pub(crate) static REFUSALS: [(&str, &str); 20] = [
+pub(crate) static REFUSALS: [(&str, &str); 22] = [
     (
         "E1 TooLong",
         "a text or a blob has more than 1,000,000,000 bytes",
@@ -29,7 +29,7 @@ pub(crate) static REFUSALS: [(&str, &str); 20] = [
     ),
     (
         "E11 Stale",
-        "the commit was made on a version that is not the latest one",
+        "the commit was made on a version that is not the latest one, or its transaction looked at something that has changed",
     ),
     ("E12 BadFilter", "the filter is not written as filters are"),
     (
@@ -61,6 +61,11 @@ pub(crate) static REFUSALS: [(&str, &str); 20] = [
         "E20 NoMark",
         "the transaction has no such savepoint, or it was undone",
     ),
+    (
+        "E21 NoTransaction",
+        "no transaction is open; begin opens one, but not on several threads",
+    ),
+    ("E22 InTransaction", "a transaction is open already"),
 ];
 
 // What is said of the refusal that this text names: its number and name, and a sentence.

@@ -14,10 +14,10 @@ use Rattle.cap_script.specs.Script.{is_ignored}
 use Rattle.cap_script.specs.declared.fault.ScriptFault.{ScriptFault}
 use Rattle.cap_script.specs.declared.fault.ScriptFault.TheVariants.{Syntax}
 
--- the words of operations, rows, flags, captures, applications and values, and those of filters
+-- the words of steps, rows, flags, captures, applications and values, and those of filters
 abbrev pub inner_words : List (List ℕ)
 inner_words =
-    codes "insert" ∷ codes "update" ∷ codes "delete" ∷ codes "cascade" ∷ codes "key" ∷ codes "loose"
+    codes "to" ∷ codes "key" ∷ codes "loose"
     ∷ codes "set" ∷ codes "on" ∷ codes "off" ∷ codes "ask" ∷ codes "places" ∷ codes "omit" ∷ codes "replace"
     ∷ codes "abort" ∷ codes "report" ∷ codes "buffer" ∷ codes "null" ∷ codes "all" ∷ codes "nothing"
     ∷ codes "is" ∷ codes "starts" ∷ codes "ends" ∷ codes "not" ∷ codes "and" ∷ codes "or" ∷ []

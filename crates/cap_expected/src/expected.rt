@@ -9,7 +9,7 @@ use cap_language::after_blanks;
 use cap_script::{ScriptFault, a_line_without_fault, read_line};
 use cap_value::{AllocHandle, Fault, OutOfMemory};
 
-const COMMAND_WORDS: [&str; 25] = [
+const COMMAND_WORDS: [&str; 33] = [
     "create",
     "commit",
     "commitat",
@@ -27,6 +27,11 @@ const COMMAND_WORDS: [&str; 25] = [
     "patchset",
     "restart",
     "dump",
+    "insert",
+    "update",
+    "delete",
+    "cascade",
+    "rollback",
     "drop",
     "attachall",
     "filter",
@@ -35,12 +40,14 @@ const COMMAND_WORDS: [&str; 25] = [
     "sessions",
     "databases",
     "tables",
+    "begin",
+    "savepoint",
+    "end",
 ];
 
-const INNER_WORDS: [&str; 25] = [
-    "insert", "update", "delete", "cascade", "key", "loose", "set", "on", "off", "ask", "places",
-    "omit", "replace", "abort", "report", "buffer", "null", "all", "nothing", "is", "starts",
-    "ends", "not", "and", "or",
+const INNER_WORDS: [&str; 22] = [
+    "to", "key", "loose", "set", "on", "off", "ask", "places", "omit", "replace", "abort",
+    "report", "buffer", "null", "all", "nothing", "is", "starts", "ends", "not", "and", "or",
 ];
 
 const SIGNS: [&str; 6] = ["(", ")", ",", ";", "=", "@"];
@@ -113,7 +120,7 @@ fn list_first_words<A: AllocHandle>(
 ) -> Result<(), OutOfMemory>
     ensures { OnOk result (string_bytes out.new ≡ string_bytes out.old ++ first_words A before.now) }
 {
-    let words: [&str; 25] = COMMAND_WORDS;
+    let words: [&str; 33] = COMMAND_WORDS;
     list_among(alloc, before, words.as_slice(), out)
 }
 
@@ -125,7 +132,7 @@ fn list_later_words<A: AllocHandle>(
 ) -> Result<(), OutOfMemory>
     ensures { OnOk result (string_bytes out.new ≡ string_bytes out.old ++ later_words A before.now) }
 {
-    let words: [&str; 25] = INNER_WORDS;
+    let words: [&str; 22] = INNER_WORDS;
     list_among(alloc, before, words.as_slice(), out)
 }
 

@@ -18,7 +18,7 @@ use Rattle.cap_language.specs.declared.fault.LineFault.TheVariants.{BadBlob, Lim
 use Rattle.cap_language.proofs.GrammarLaws.{leaves_end}
 use Rattle.cap_language.proofs.PlaceLaws.{Local, by_test, enough_at, local, local_at_most, local_both, local_done, made, same_rest, same_value}
 use Rattle.cap_language.proofs.TokenLaws.{begins_scanned, blanks_shorter, blanks_twice, found_some}
-use Rattle.cap_language.proofs.OpenLaws.{end_here, end_tail, end_text, Behind, Ended, Finish, Here, Nothings, Open, OpenKind, Sample, Skips, Tail, Tails, finish_of, goes_with, nothing_tail, open_both, open_done, open_map, open_next, open_sign, open_skip, open_where, reached, reached_at, same_tail, sample_both, sample_map, sample_sign, tail_byte, tail_sign, weaker, weaker_sample}
+use Rattle.cap_language.proofs.OpenLaws.{end_here, end_tail, end_text, Behind, Ended, Finish, Here, Nothing, Nothings, Open, OpenKind, Sample, Skips, Tail, Tails, finish_of, goes_with, nothing_tail, nothing_tails, open_both, open_done, open_map, open_next, open_sign, open_skip, open_where, reached, reached_at, same_tail, sample_both, sample_map, sample_sign, tail_byte, tail_sign, weaker, weaker_sample}
 
 -- ---- grammars with all of that
 
@@ -336,6 +336,17 @@ eats_made f (Err fault) y rest e = absurd cc
 pub eats_map : {X Y : Type 0} (first : Grammar X) (f : X → Y) → Eats (read first) → Eats (read (follows first (λ x. done (f x))))
 eats_map first f eats line rest y e = let (x, is) = eats_made f (read first line) y rest e in eats line rest x is
 
+-- something is taken by the first
+eats_then : {X Y : Type 0} (first : Grammar X) (go : X → Grammar Y) → Eats (read first) → (line rest : List ℕ) (y : Y) (o : Read X) → read first line ≡ o → and_then o (λ x mid. read (go x) mid) ≡ Ok (y, rest) → length rest < length line
+eats_then first go eats line rest y (Ok (x, mid)) is e =
+    let (f, at) = leaves_end true (go x) mid mid y rest e in
+    let end = ap length at in
+    omega (arith, eats line mid x is, end, length-append f rest)
+eats_then first go eats line rest y (Err fault) is e = absurd cc
+
+pub eats_follows : {X Y : Type 0} (first : Grammar X) (go : X → Grammar Y) → Eats (read first) → Eats (read (follows first go))
+eats_follows first go eats line rest y e = eats_then first go eats line rest y (read first line) refl e
+
 never_idle : {X : Type 0} (reads : List ℕ → Read X) → Eats reads → (line : List ℕ) (x : X) → reads line ≡ Ok (x, line) → ⊥
 never_idle reads eats line x e = let less = eats line line x e in omega (arith, less)
 
@@ -345,12 +356,28 @@ pub record Last {X : Type 0} (T : X → List ℕ → Type 0) (g : Grammar X) : T
   pub skips : Skips (read g)
   pub sample : Sample T (read g)
 
-pub last_end : {X : Type 0} (x : X) (other : Grammar X) → Form other → Eats (read other) → Last Nothings (spaced (on_end (done x) other))
-last_end x other form eats = record {
-  inner = open_skip Nothings (by_end (made x []) (read other)) (local (on_end (done x) other)) (end_here x (read other) (local other) form.inner (never_idle (read other) eats));
+pub last_form : {X : Type 0} (T : X → List ℕ → Type 0) → ((x : X) (l : List ℕ) → T x l → Tail l) → (g : Grammar X) → Form g → Last T g
+last_form T tails g form = record { inner = weaker T tails (read g) form.inner; skips = form.skips; sample = weaker_sample T tails (read g) form.sample }
+
+-- nothing, or else this
+pub last_or : {X : Type 0} (T : X → List ℕ → Type 0) (x : X) → ((line : List ℕ) → T x line → Nothing line) → (other : Grammar X) → Last T other → Eats (read other) → Last T (spaced (on_end (done x) other))
+last_or T x none other last eats = record {
+  inner = open_skip T (by_end (made x []) (read other)) (local (on_end (done x) other)) (end_here x (read other) T none last.inner (never_idle (read other) eats));
   skips = λ line. ap (by_end (made x []) (read other)) (sym (blanks_twice line));
-  sample = record { value = x; text = []; tail = end_tail x (read other) (local other) form.inner; holds = end_text x (read other) (local other) form.inner };
+  sample = record { value = x; text = []; tail = end_tail x (read other) T none last.inner; holds = end_text x (read other) T none last.inner };
 }
+
+pub last_end : {X : Type 0} (x : X) (other : Grammar X) → Form other → Eats (read other) → Last Nothings (spaced (on_end (done x) other))
+last_end x other form eats = last_or Nothings x (λ line nil. nil) other (last_form Nothings nothing_tails other form) eats
+
+pub last_next : {W X : Type 0} (T : X → List ℕ → Type 0) → ((x : X) (l : List ℕ) → T x l → Tail l) → (wanted : Wanted W) (go : W → Grammar X) → ((t : W) → OpenKind T (go t)) → Sample Tails (read (spaced (takes wanted go))) → Last T (spaced (takes wanted go))
+last_next T tails wanted go known sample =
+    let weak = weaker_sample T tails (read (spaced (takes wanted go))) sample in
+    record {
+      inner = open_next T tails wanted go known (finish_of T (read (spaced (takes wanted go))) weak);
+      skips = λ line. ap (λ (here : List ℕ). token_then here (wanted_in wanted (token_at here)) (λ t rest. read_at true (go t) here rest)) (sym (blanks_twice line));
+      sample = weak;
+    }
 
 pub last_both : {X Y : Type 0} (T : Y → List ℕ → Type 0) → ((y : Y) (l : List ℕ) → T y l → Tail l) → (first : Grammar X) (go : X → Grammar Y) → Form first → ((x : X) → Last T (go x)) → Last T (follows first go)
 last_both T tails first go one two = record {
@@ -365,6 +392,3 @@ last_map T first f one = record {
   skips = λ line. ap (λ r. and_then r (λ x rest. made (f x) rest)) (one.skips line);
   sample = sample_map T (read first) f one.inner one.sample;
 }
-
-pub last_form : {X : Type 0} (T : X → List ℕ → Type 0) → ((x : X) (l : List ℕ) → T x l → Tail l) → (g : Grammar X) → Form g → Last T g
-last_form T tails g form = record { inner = weaker T tails (read g) form.inner; skips = form.skips; sample = weaker_sample T tails (read g) form.sample }

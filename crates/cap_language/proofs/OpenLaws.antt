@@ -560,37 +560,38 @@ nothing_tails x l nil = nothing_tail l nil
 
 -- ---- the line's end
 
-module _ {X : Type 0} (x : X) (other : List ℕ → Read X) (inside : Local other) (inner : Open Tails other) where
+module _ {X : Type 0} (x : X) (other : List ℕ → Read X) (T : X → List ℕ → Type 0) (none : (line : List ℕ) → T x line → Nothing line) (inner : Open T other) where
   abbrev ending : List ℕ → Read X
   ending = by_end (Ok (x, [])) other
 
   end_read : (line : List ℕ) → Nothing line → Reached x (ending (behind_blanks line)) line
   end_read line e = subst (λ (l : List ℕ). Reached x (ending (behind_blanks l)) l) (sym e) ([], refl, refl)
 
-  pub end_tail : (line : List ℕ) → Nothing line → Tail (32 ∷ ([] ++ line))
-  end_tail line e = (refl, ap (λ (l : List ℕ). begins goes_with (behind_blanks l)) e)
+  pub end_tail : (line : List ℕ) → T x line → Tail (32 ∷ ([] ++ line))
+  end_tail line tail = (refl, ap (λ (l : List ℕ). begins goes_with (behind_blanks l)) (none line tail))
 
-  pub end_text : (line : List ℕ) → Nothing line → Reached x (ending (behind_blanks (32 ∷ ([] ++ line)))) line
-  end_text line e = subst (λ (l : List ℕ). Reached x (ending (behind_blanks (32 ∷ l))) l) (sym e) ([], refl, refl)
+  pub end_text : (line : List ℕ) → T x line → Reached x (ending (behind_blanks (32 ∷ ([] ++ line)))) line
+  end_text line tail = subst (λ (l : List ℕ). Reached x (ending (behind_blanks (32 ∷ l))) l) (sym (none line tail)) ([], refl, refl)
 
   -- where nothing is read, nothing stands there, or it would not be idle
   end_idle : ((line : List ℕ) (y : X) → other line ≡ Ok (y, line) → ⊥) → (behind : List ℕ) (y : X) → ending behind ≡ Ok (y, behind) → x ≡ y
   end_idle busy [] y e = same_value x y [] [] e
   end_idle busy (byte ∷ behind) y e = absurd (busy (byte ∷ behind) y e)
 
-  end_finishes : (c : ℕ) (front behind : List ℕ) → other (c ∷ front ++ behind) ≡ Err (Syntax (length behind)) → Finish Nothings ending (c ∷ front)
+  end_idles : ((line : List ℕ) (y : X) → other line ≡ Ok (y, line) → ⊥) → (behind line : List ℕ) (y : X) → T y line → ending behind ≡ Ok (y, behind) → Reached y (ending (behind_blanks line)) line
+  end_idles busy behind line y tail e =
+      let same : x ≡ y = end_idle busy behind y e in
+      subst (λ z. Reached z (ending (behind_blanks line)) line) same (end_read line (none line (subst (λ z. T z line) (sym same) tail)))
+
+  end_finishes : (c : ℕ) (front behind : List ℕ) → other (c ∷ front ++ behind) ≡ Err (Syntax (length behind)) → Finish T ending (c ∷ front)
   end_finishes c front behind e =
       let more = inner.finishes (c ∷ front) behind e in
-      record { value = more.value; text = more.text; tail = λ line nil. more.tail line (weak more.value line nil); ends = λ line nil. more.ends line (weak more.value line nil) }
-    where
-      weak : (x : Option X) (line : List ℕ) → Behind Nothings x line → Behind Tails x line
-      weak (Some x) line nil = nothing_tail line nil
-      weak None line nil = nil
+      record { value = more.value; text = more.text; tail = more.tail; ends = λ line tail. more.ends line tail }
 
-  pub end_here : ((line : List ℕ) (y : X) → other line ≡ Ok (y, line) → ⊥) → Here Nothings ending
+  pub end_here : ((line : List ℕ) (y : X) → other line ≡ Ok (y, line) → ⊥) → Here T ending
   end_here busy = record {
-    passes = λ c front rest behind line y nil e. inner.passes (c ∷ front) rest behind line y (nothing_tail line nil) e;
-    idles = λ behind line y nil e. subst (λ z. Reached z (ending (behind_blanks line)) line) (end_idle busy behind y e) (end_read line nil);
+    passes = λ c front rest behind line y tail e. inner.passes (c ∷ front) rest behind line y tail e;
+    idles = end_idles busy;
     finishes = λ c front behind e. end_finishes c front behind e;
-    begins_at = λ behind e. record { value = Some x; text = []; tail = end_tail; ends = λ line nil. end_text line nil };
+    begins_at = λ behind e. record { value = Some x; text = []; tail = end_tail; ends = λ line tail. end_text line tail };
   }

@@ -1,6 +1,7 @@
 -- The reply to a line of a workload as JSON (RFC 8259): an object on a line.
 use Rattle.std.specs.Prelude.{ℕ, Bool, Option, Some, None, Result, Ok, Err, List, [], ◌∷◌, ◌++◌, codes, decimal, map}
 use Rattle.std.specs.List.{flat_map}
+use Rattle.std.specs.Option.{option_map}
 use Rattle.hex.specs.Hex.{encode_lower}
 use Rattle.json.specs.Print.{print}
 use Rattle.json.specs.Token.{Token}
@@ -18,6 +19,7 @@ use Rattle.cap_codec.specs.Patchset.{patch_list_bytes_with}
 use Rattle.cap_codec.specs.declared.key_flags.KeyFlags.TheVariants.{Ones}
 use Rattle.cap_codec.specs.declared.read.Contents.{Contents}
 use Rattle.cap_codec.specs.declared.read.Contents.TheVariants.{Changes, Patches}
+use Rattle.cap_applier.specs.Chosen.{in_blob}
 use Rattle.cap_apply.specs.Report.{ReportState}
 use Rattle.cap_apply.specs.declared.conflict.Conflict.{Conflict}
 use Rattle.cap_dump.specs.Dump.{dump_bytes}
@@ -33,10 +35,13 @@ use Rattle.cap_core.specs.declared.reply.Reply.TheVariants.{Capture, Databases, 
 use Rattle.cap_core.specs.declared.reply.Reply.TheVariants.{Tables}
 use Rattle.cap_script.specs.ListText.{columns_text}
 use Rattle.cap_script.specs.RefusalText.{refusal_name}
+use Rattle.cap_script.specs.ReplyText.{place_in}
 use Rattle.cap_script.specs.Words.{answer_word, kind_word}
+use Rattle.cap_script.specs.declared.line.Detail.TheVariants as detail
 use Rattle.cap_script.specs.declared.line.Line.{Line}
 use Rattle.cap_script.specs.declared.line.Show.{Show}
-use Rattle.cap_script.specs.declared.line.Show.TheVariants.{Buffer, Changeset, Get, Patchset, Scan}
+use Rattle.cap_script.specs.declared.line.Show.TheVariants.{Accepted, Buffer, Changeset, Get}
+use Rattle.cap_script.specs.declared.line.Show.TheVariants.{Patchset, Scan, Step}
 use Rattle.cap_show.specs.Json.{text_member, value}
 
 -- ---- members
@@ -97,6 +102,10 @@ refused at why =
     kind (codes "refused") ++ (optional_member (codes "at") at
     ++ (text_member (codes "refusal") (refusal_name why) ++ stale_members why))
 
+-- a refusal that has a number and a name alone
+abbrev pub named_refusal : List ℕ → List Token
+named_refusal name = kind (codes "refused") ++ text_member (codes "refusal") name
+
 -- ---- applied blobs
 
 -- the change that had a conflict, the conflict's kind, and the answer to it
@@ -117,16 +126,32 @@ report r =
     ++ (numbers_member (codes "omitted") r.omitted ++ numbers_member (codes "skipped") r.skipped))
 
 module _ {A : Type 0} where
+  -- what a filter accepts of a blob has its numbers in the blob
+  abbrev pub report_in : Show A → ReportState → ReportState
+  report_in (Accepted detail numbering) r = in_blob numbering r
+  report_in show r = r
+
+  -- how many groups were passed over, where there is a filter
+  abbrev pub passed_member : Show A → List Token
+  passed_member (Accepted detail numbering) = number_member (codes "passed") numbering.passed.groups
+  passed_member show = []
+
   -- the hex digits of the buffer of an application; a patchset has none
   abbrev pub buffer : Contents A → List Conflict → List Token
   buffer (Changes list) conflicts =
       token.string (encode_lower (list_bytes_with Ones (buffer_of list conflicts))) ∷ []
   buffer (Patches list) conflicts = token.null ∷ []
 
-  -- the buffer of the command, an apply, where the line asks for it
-  abbrev pub buffer_member : Show A → Command A → List Conflict → List Token
-  buffer_member Buffer (command.Apply contents policy quiet) conflicts =
+  -- the buffer of the command, an apply
+  abbrev pub asked_buffer : Command A → List Conflict → List Token
+  asked_buffer (command.Apply contents policy quiet) conflicts =
       token.key (codes "buffer") ∷ buffer contents conflicts
+  asked_buffer asked conflicts = []
+
+  -- the same, where the line asks for it
+  abbrev pub buffer_member : Show A → Command A → List Conflict → List Token
+  buffer_member Buffer asked conflicts = asked_buffer asked conflicts
+  buffer_member (Accepted detail.Buffer numbering) asked conflicts = asked_buffer asked conflicts
   buffer_member show asked conflicts = []
 
   -- ---- rows
@@ -163,9 +188,11 @@ module _ {A : Type 0} where
   scan_reply version (Ok rows) = kind_at (codes "rows") version ++ rows_member rows
   scan_reply version (Err why) = refused None why
 
+  -- A step of a transaction reads a snapshot where no transaction is open.
   abbrev pub snapshot_reply : Show A → SnapshotState A → List Token
   snapshot_reply (Get table name) s = get_reply s.version (read s.database table name)
   snapshot_reply (Scan table) s = scan_reply s.version (rows_of s.database table)
+  snapshot_reply (Step step) s = named_refusal (codes "E21 NoTransaction")
   snapshot_reply show s = kind (codes "done")
 
   -- ---- captures
@@ -218,7 +245,8 @@ module _ {A : Type 0} where
   reply_members line Done = kind (codes "done")
   reply_members line (Written version) = kind_at (codes "written") version
   reply_members line (Applied version r) =
-      kind_at (codes "applied") version ++ (report r ++ buffer_member line.show line.command r.conflicts)
+      kind_at (codes "applied") version ++ (report (report_in line.show r)
+      ++ (passed_member line.show ++ buffer_member line.show line.command r.conflicts))
   reply_members line (Session number) =
       kind (codes "session") ++ number_member (codes "session") number
   reply_members line (Databases names) =
@@ -229,7 +257,7 @@ module _ {A : Type 0} where
   reply_members line (Flag flag) = kind (codes "flag") ++ flag_member (codes "flag") flag
   reply_members line (Capture capture) = capture_reply line.show capture
   reply_members line (Dump snapshot) = dump_reply line.show snapshot
-  reply_members line (Refused at why) = refused at why
+  reply_members line (Refused at why) = refused (option_map (place_in line.show) at) why
 
   -- the reply to the line with this number
   unfoldable pub reply_json : ℕ → Line A → Reply A → List ℕ

@@ -4,6 +4,8 @@
 mod lists;
 mod members;
 mod numbers;
+mod outcome;
+mod outcome_json;
 mod printer;
 mod reply_json;
 mod report;
@@ -12,6 +14,7 @@ mod run_line;
 mod run_lines;
 mod text_line;
 
+pub use outcome::{Outcome, write_outcome};
 pub use printer::{Printer, append_made};
 pub use reply_json::print_reply_json;
 pub use run_line::{ReplyForm, RunLine, write_run_reply};

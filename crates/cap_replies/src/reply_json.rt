@@ -2,7 +2,9 @@
 ghost use Rattle.std.specs.Prelude.{◌≡◌, ◌++◌, ◌∷◌, [], IfOk, codes, string_bytes};
 ghost use Rattle.json.specs.Print.{print};
 ghost use Rattle.json.specs.Token as token;
+ghost use Rattle.std.specs.Option.{option_map};
 ghost use Rattle.cap_replies.specs.ReplyJson as spec;
+ghost use Rattle.cap_script.specs.ReplyText.{place_in};
 ghost use Rattle.cap_changes.specs.Patch.{patch_list_of};
 ghost use Rattle.cap_codec.specs.Changeset.{list_bytes_with};
 ghost use Rattle.cap_codec.specs.Patchset.{patch_list_bytes_with};
@@ -13,12 +15,12 @@ use crate::lists::{write_databases, write_sessions, write_tables};
 use crate::members::{
     write_blob, write_flag, write_kind, write_kind_at, write_number, write_optional,
 };
-use crate::report::{write_buffer, write_refused, write_report};
+use crate::report::{write_buffer, write_passed, write_refused, write_report};
 use crate::rows::write_snapshot;
 use cap_apply::Report;
 use cap_codec::KeyFlags;
 use cap_core::{Capture, Dump, Reply};
-use cap_script::{Line, Show};
+use cap_script::{Line, Show, place_in};
 use cap_value::{AllocHandle, OutOfMemory};
 use json::Writer;
 
@@ -44,7 +46,7 @@ pub fn print_reply_json<A: AllocHandle>(
 }
 
 // The text that was written.
-fn text_of<A: AllocHandle>(writer: Writer<A>) -> Result<String<A>, OutOfMemory>
+pub(crate) fn text_of<A: AllocHandle>(writer: Writer<A>) -> Result<String<A>, OutOfMemory>
     requires { writer.before ≡ [] }
     ensures { IfOk result (λ text. string_bytes text ≡ print writer.tokens) }
 {
@@ -71,7 +73,8 @@ fn write_object<A: AllocHandle>(
     writer.end_object()
 }
 
-fn write_line<A: AllocHandle>(
+// Writes the number of the line, and of its worker where it has one.
+pub(crate) fn write_line<A: AllocHandle>(
     writer: &mut Writer<A>,
     number: u64,
     worker: Option<u64>,
@@ -102,7 +105,20 @@ fn write_reply<A: AllocHandle>(
         Reply::Flag(flag) => write_flag_reply(writer, *flag),
         Reply::Capture(capture) => write_capture(alloc, writer, &line.show, capture),
         Reply::Dump(dump) => write_dump(alloc, writer, &line.show, dump),
-        Reply::Refused { at, why } => write_refused(writer, *at, *why),
+        Reply::Refused { at, why } => {
+            let at = place_of(&line.show, *at);
+            write_refused(writer, at, *why)
+        }
+    }
+}
+
+// The number of a refused operation or change, where there is one.
+fn place_of<A: AllocHandle>(show: &Show<A>, at: Option<u64>) -> Option<u64>
+    ensures { result ≡ option_map (place_in show.now) at }
+{
+    match at {
+        Some(place) => Some(place_in(show, place)),
+        None => None,
     }
 }
 
@@ -130,11 +146,13 @@ fn write_applied<A: AllocHandle>(
     report: &Report<A>,
 ) -> Result<(), OutOfMemory>
     ensures { Appends result writer.old writer.new
-        (spec.kind_at (codes "applied") version ++ (spec.report report.now
-        ++ spec.buffer_member line.now.show line.now.command report.now.conflicts)) }
+        (spec.kind_at (codes "applied") version
+        ++ (spec.report (spec.report_in line.now.show report.now) ++ (spec.passed_member line.now.show
+        ++ spec.buffer_member line.now.show line.now.command report.now.conflicts))) }
 {
     write_kind_at(writer, "applied", version)?;
-    write_report(writer, report)?;
+    write_report(alloc, writer, &line.show, report)?;
+    write_passed(writer, &line.show)?;
     write_buffer(alloc, writer, &line.show, &line.command, report.conflicts())
 }
 

@@ -2,15 +2,17 @@
 ghost use Rattle.std.specs.Prelude.{◌≡◌, ◌++◌, ◌∷◌, [], codes};
 ghost use Rattle.std.specs.List.{flat_map};
 ghost use Rattle.json.specs.Token as token;
+ghost use Rattle.cap_applier.specs.Chosen.{in_blob};
 ghost use Rattle.cap_replies.specs.ReplyJson as spec;
 ghost use Rattle.cap_show.specs.Json.{Appends};
 
 use crate::members::{write_key, write_kind, write_number, write_numbers, write_optional};
+use cap_applier::Numbering;
 use cap_apply::{Conflict, Report};
 use cap_codec::{Contents, KeyFlags, write_changes_with};
 use cap_core::Command;
 use cap_rebase::buffer_of;
-use cap_script::{Show, answer_word, kind_word, refusal_name};
+use cap_script::{Detail, Show, answer_word, kind_word, refusal_name};
 use cap_show::write_text_member;
 use cap_value::{AllocHandle, OutOfMemory, Refusal};
 use json::Writer;
@@ -29,6 +31,17 @@ pub(crate) fn write_refused<A: AllocHandle>(
     write_stale(writer, why)
 }
 
+// Writes a refusal of a step of a transaction, which has this number and name.
+pub(crate) fn write_named_refusal<A: AllocHandle>(
+    writer: &mut Writer<A>,
+    name: &str,
+) -> Result<(), OutOfMemory>
+    ensures { Appends result writer.old writer.new (spec.named_refusal name.now) }
+{
+    write_kind(writer, "refused")?;
+    write_text_member(writer, "refusal", name)
+}
+
 // Writes the versions of a stale batch, and the item that has changed.
 fn write_stale<A: AllocHandle>(writer: &mut Writer<A>, why: Refusal) -> Result<(), OutOfMemory>
     ensures { Appends result writer.old writer.new (spec.stale_members why) }
@@ -43,17 +56,92 @@ fn write_stale<A: AllocHandle>(writer: &mut Writer<A>, why: Refusal) -> Result<(
     }
 }
 
-// Writes a report.
+// Writes a report, with the numbers in the whole blob.
 pub(crate) fn write_report<A: AllocHandle>(
+    alloc: A,
+    writer: &mut Writer<A>,
+    show: &Show<A>,
+    report: &Report<A>,
+) -> Result<(), OutOfMemory>
+    ensures { Appends result writer.old writer.new (spec.report (spec.report_in show.now report.now)) }
+{
+    match show {
+        Show::Accepted(_, numbering) => write_report_in_blob(alloc, writer, numbering, report),
+        _ => write_own_report(writer, report),
+    }
+}
+
+fn write_own_report<A: AllocHandle>(
     writer: &mut Writer<A>,
     report: &Report<A>,
 ) -> Result<(), OutOfMemory>
     ensures { Appends result writer.old writer.new (spec.report report.now) }
 {
-    write_number(writer, "applied", report.applied())?;
-    write_conflicts(writer, report.conflicts())?;
-    write_numbers(writer, "omitted", report.omitted())?;
-    write_numbers(writer, "skipped", report.skipped())
+    write_parts(
+        writer,
+        report.applied(),
+        report.conflicts(),
+        report.omitted(),
+        report.skipped(),
+    )
+}
+
+// Writes the parts of a report.
+fn write_parts<A: AllocHandle>(
+    writer: &mut Writer<A>,
+    applied: u64,
+    conflicts: &[Conflict],
+    omitted: &[u64],
+    skipped: &[u64],
+) -> Result<(), OutOfMemory>
+    ensures { Appends result writer.old writer.new (spec.report (record {
+      applied = applied;
+      conflicts = conflicts.now;
+      omitted = omitted.now;
+      skipped = skipped.now;
+    })) }
+{
+    write_number(writer, "applied", applied)?;
+    write_conflicts(writer, conflicts)?;
+    write_numbers(writer, "omitted", omitted)?;
+    write_numbers(writer, "skipped", skipped)
+}
+
+// Writes the report of what a filter accepts of a blob, with the numbers in the blob.
+fn write_report_in_blob<A: AllocHandle>(
+    alloc: A,
+    writer: &mut Writer<A>,
+    numbering: &Numbering<A>,
+    report: &Report<A>,
+) -> Result<(), OutOfMemory>
+    ensures { Appends result writer.old writer.new (spec.report (in_blob numbering.now report.now)) }
+{
+    let conflicts = numbering.conflicts(alloc, report.conflicts())?;
+    let omitted = numbering.changes(alloc, report.omitted())?;
+    let skipped = numbering.groups(alloc, report.skipped())?;
+    write_parts(
+        writer,
+        report.applied(),
+        conflicts.as_slice(),
+        omitted.as_slice(),
+        skipped.as_slice(),
+    )
+}
+
+// Writes how many groups were passed over, where there is a filter.
+pub(crate) fn write_passed<A: AllocHandle>(
+    writer: &mut Writer<A>,
+    show: &Show<A>,
+) -> Result<(), OutOfMemory>
+    ensures { Appends result writer.old writer.new (spec.passed_member show.now) }
+{
+    match show {
+        Show::Accepted(_, numbering) => {
+            let passed = numbering.passed().groups;
+            write_number(writer, "passed", passed)
+        }
+        _ => Ok(()),
+    }
 }
 
 #[tactic(auto, unfolding(crate::specs::ReplyJson::conflicts_member))]
@@ -118,6 +206,7 @@ pub(crate) fn write_buffer<A: AllocHandle>(
 {
     match show {
         Show::Buffer => write_asked_buffer(alloc, writer, command, conflicts),
+        Show::Accepted(Detail::Buffer, _) => write_asked_buffer(alloc, writer, command, conflicts),
         _ => Ok(()),
     }
 }
@@ -128,8 +217,7 @@ fn write_asked_buffer<A: AllocHandle>(
     command: &Command<A>,
     conflicts: &[Conflict],
 ) -> Result<(), OutOfMemory>
-    ensures { Appends result writer.old writer.new
-        (spec.buffer_member Show.Buffer command.now conflicts.now) }
+    ensures { Appends result writer.old writer.new (spec.asked_buffer command.now conflicts.now) }
 {
     match command {
         Command::Apply { blob, .. } => {

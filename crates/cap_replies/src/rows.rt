@@ -9,7 +9,7 @@ ghost use Rattle.cap_show.specs.Json.{Appends, value};
 ghost use Rattle.cap_table.specs.Scan.{name_shown, row_shown};
 
 use crate::members::{write_kind, write_kind_at, write_number};
-use crate::report::write_refused;
+use crate::report::{write_named_refusal, write_refused};
 use cap_database::Snapshot;
 use cap_row::Row;
 use cap_script::Show;
@@ -31,6 +31,7 @@ pub(crate) fn write_snapshot<A: AllocHandle>(
     match show {
         Show::Get(table, row) => write_get(alloc, writer, version, snapshot.get(table, row)),
         Show::Scan(table) => write_scan(alloc, writer, version, snapshot.scan(table)),
+        Show::Step(_) => write_named_refusal(writer, "E21 NoTransaction"),
         _ => write_kind(writer, "done"),
     }
 }
@@ -66,7 +67,7 @@ fn write_got<A: AllocHandle>(
 }
 
 // Writes a row, or null.
-fn write_found<A: AllocHandle>(
+pub(crate) fn write_found<A: AllocHandle>(
     alloc: A,
     writer: &mut Writer<A>,
     found: Option<&Row<A>>,
@@ -97,8 +98,9 @@ fn write_scan<A: AllocHandle>(
     }
 }
 
+// Writes the rows of a table as a member.
 #[tactic(auto, unfolding(crate::specs::ReplyJson::rows_member))]
-fn write_rows<A: AllocHandle>(
+pub(crate) fn write_rows<A: AllocHandle>(
     alloc: A,
     writer: &mut Writer<A>,
     rows: Scan<'_, A>,

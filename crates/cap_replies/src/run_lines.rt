@@ -13,8 +13,8 @@ use std::marker::Model;
 
 /// The remaining lines of a workload's text, each with its number and the form of its reply.
 ///
-/// The whole text is parsed before the first line is given, so every line is valid. Lines are not kept: each
-/// is parsed again when it is given.
+/// The whole text is parsed before the first line is given, so every line is valid. The first lines of a short
+/// text are kept until they are given, as `Lines` of `cap_script` has it.
 #[derive(Drop)]
 pub struct RunLines<'t, A: AllocHandle> {
     form: ReplyForm,

@@ -16,9 +16,10 @@ use Rattle.cap_history.specs.Seat.{SeatState, calls, newcomer}
 use Rattle.cap_run.proofs.OrderLemmas.{each_met_called, order_block}
 use Rattle.cap_run.proofs.SeatLemmas.{calls-begin, count_few, is_of, lines-other, lines-own, nat_eq-other, nat_eq-same, number-at, own-one, own-other, reply_texts-none, reports, same-nat_eq, same_length, seat_of-most, texts-other, texts-own, zip-at}
 use Rattle.cap_run.proofs.WorkerLemmas.{seat_lines-parts, seat_lines-some}
-use Rattle.cap_run.specs.Run.{Ended, on_a_line, reply_lines}
+use Rattle.cap_interpreter.specs.Lines.{on_a_line}
+use Rattle.cap_run.specs.Run.{Ended}
 use Rattle.cap_run.specs.Code.Calls.{AreNumbered, AreSeats, EachAt, EachSawIn, Gathers, GoesOn, HasMet, first_seen, HasCalledLines, HasCalledOwn, HasSeen, HasWorked, HaveCalled, IsFaultOf, OneHasSeen, Work, reply_texts, seat_lines, texts_of, work}
-use Rattle.cap_run.specs.Workload.{HasCount, calls_of, seat_of}
+use Rattle.cap_run.specs.Workload.{HasCount, calls_of, reply_lines, seat_of}
 use Rattle.cap_replies.specs.Printed.{reply_text}
 use Rattle.cap_replies.specs.declared.run_line.RunLine.{RunLine}
 use Rattle.cap_locked.specs.declared.fault.CallFault.{CallFault}

@@ -14,9 +14,10 @@ use Rattle.cap_history.specs.History.{own}
 use Rattle.cap_history.specs.Own.{own-append}
 use Rattle.cap_history.specs.Seat.{SeatState, calls, newcomer}
 use Rattle.cap_run.proofs.OrderLemmas.{order_alone, order_longer, order_more, order_none}
-use Rattle.cap_run.specs.Run.{Ended, events_max, on_a_line, reply_lines}
+use Rattle.cap_interpreter.specs.Lines.{events_max, on_a_line}
+use Rattle.cap_run.specs.Run.{Ended}
 use Rattle.cap_run.specs.Code.Calls.{AreNumbered, AreSeats, HasCalledLine, HasCalledOwn, HasSeen, HaveCalled, KeepsCalls, reply_texts, seat_lines, texts_of}
-use Rattle.cap_run.specs.Workload.{AreCalls, HasCount, ReportsEvents, calls_of, seat_of}
+use Rattle.cap_run.specs.Workload.{AreCalls, HasCount, ReportsEvents, calls_of, reply_lines, seat_of}
 use Rattle.cap_replies.specs.Printed.{reply_text}
 use Rattle.cap_replies.specs.declared.run_line.RunLine.{RunLine}
 use Rattle.cap_locked.specs.declared.fault.CallFault.{CallFault}

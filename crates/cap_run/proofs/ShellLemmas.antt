@@ -3,27 +3,26 @@ use Rattle.std.proofs.Common.{◌≡◌, ◌∙◌, ◌⊎◌, ℕ, suc, ◌+◌
 use Rattle.std.specs.Io.KnownBytes.{Appends, IsAtEnd, prepend_known}
 use Rattle.std.proofs.KnownBytes.{Appends-nil, Appends-trans}
 use Rattle.cap_codec.specs.StreamCalls.{AllWent, Calls, LastFailed}
-use Rattle.cap_core.specs.Answer.{State, IsLegal, event_by, reply_of, state}
-use Rattle.cap_core.specs.Past.{HasRoom}
-use Rattle.cap_core.specs.Table.{BlobFits, BlobsFit}
-use Rattle.cap_core.specs.declared.event.Event.{Event}
+use Rattle.cap_interpreter.specs.Interpreter.{InterpreterState}
+use Rattle.cap_interpreter.specs.Lines.{Course, IsAt as Stands, after_line, after_lines, begin_course, on_a_line, text_of}
 use Rattle.cap_script.specs.ReadLine.{IsFound}
-use Rattle.cap_script.specs.ReplyText.{reply_text}
 use Rattle.cap_script.specs.declared.line.Line.{Line}
 use Rattle.cap_locked.specs.declared.fault.CallFault.{CallFault}
 use Rattle.cap_locked.specs.declared.fault.CallFault.TheVariants as call
+use Rattle.cap_replies.specs.Lines.{run_line}
 use Rattle.cap_replies.specs.declared.run_line.ReplyForm.TheVariants.{Text}
+use Rattle.cap_replies.specs.declared.run_line.RunLine.{RunLine}
 use Rattle.cap_run.specs.BlobList.{HasLines}
-use Rattle.cap_run.specs.Code.Shell.{HasAnswered, IsLeftBy, MatchEnd, MayEnd}
+use Rattle.cap_run.specs.Code.Shell.{HasAnswered, MatchEnd, MayEnd}
 use Rattle.cap_run.specs.Code.Unread.{Counted, CutsLine, Failed, HasLine, HasPart}
 use Rattle.cap_run.specs.Reads.{EndsAtFault, LimitReached}
-use Rattle.cap_run.specs.Run.{AppendsFront, Ended, ending, on_a_line}
-use Rattle.cap_run.specs.Shell.{AreReadAs, EndsBefore, HasRun, Ignored, IsReadAs, NoText, Outputs, Prints, PrintsPart, ReadLine, Refused, Spelled, WritesShell, after_line, after_lines, fault_of, faults_of, outputs, replies_to, reply_to}
+use Rattle.cap_run.specs.Run.{AppendsFront, Ended, ending, history_of, replies_to}
+use Rattle.cap_run.specs.Shell.{AreReadAs, EndsBefore, HasRun, IsReadAs, Outputs, Prints, PrintsPart, ReadLine, Spelled, WritesShell, fault_of, faults_of, lines_run, of_each, outputs, run_of}
 use Rattle.cap_run.specs.Writes.{EndsAtWriteFault, EndsBoth, EndsWrites}
 use Rattle.cap_run.specs.declared.fault.RunFault.{RunFault}
 use Rattle.cap_run.specs.declared.fault.RunFault.TheVariants.{Blob, Call, Close, BlobList, NotHex, NotUtf8, OutOfMemory, Patchset, Read, Script, Write}
 use Rattle.cap_run.proofs.OutputLemmas.{fault_later, went_on, writes_later}
-use Rattle.cap_run.proofs.RunLemmas.{IsLegal-none, IsLegal-push, events-state, fits-none, fits-push}
+use Rattle.cap_run.proofs.RunLemmas.{after_parts, front_more, legal_run, replies_parts, stands_events}
 use Rattle.cap_run.proofs.UnreadLemmas.{lines_cut, lines_end, lines_kept, lines_known, lines_one}
 
 -- ---- reads and writes
@@ -51,38 +50,20 @@ module _ {W E : Type 0} (went failed : W → W → Type 0) (e_went e_failed : E 
 
 -- ---- a part of what is written
 
-pub front_of : (a b c : Option (List ℕ)) (before bytes : List ℕ) → Appends a b before → AppendsFront b c bytes → AppendsFront a c (before ++ bytes)
-front_of a b c before bytes wrote (front, rest, parts, more) =
-    (before ++ front, rest, ap (λ (r : List ℕ). before ++ r) parts ∙ sym (append_assoc before front rest), Appends-trans a b c before front wrote more)
-
-pub front_none : (a : Option (List ℕ)) (bytes : List ℕ) → AppendsFront a a bytes
-front_none a bytes = ([], bytes, refl, Appends-nil a)
-
 front_all : (a b : Option (List ℕ)) (bytes : List ℕ) → Appends a b bytes → AppendsFront a b bytes
 front_all a b bytes wrote = (bytes, [], sym (append-nil bytes), wrote)
 
 module _ {A : Type 0} where
   -- ---- one line more
 
-  after_push : (lines : List (ReadLine A)) (line : ReadLine A) (h : List (Event A)) → after_lines h (lines ++ line ∷ []) ≡ after_line (after_lines h lines) line
-  after_push [] line h = refl
-  after_push (x ∷ lines) line h = after_push lines line (after_line h x)
-
-  replies_push : (lines : List (ReadLine A)) (line : ReadLine A) (h : List (Event A)) → replies_to h (lines ++ line ∷ []) ≡ replies_to h lines ++ reply_to (after_lines h lines) line
-  replies_push [] line h = append-nil (reply_to h line)
-  replies_push (x ∷ lines) line h =
-      let rest = after_line h x in
-      ap (λ (t : List ℕ). reply_to h x ++ t) (replies_push lines line rest)
-      ∙ sym (append_assoc (reply_to h x) (replies_to rest lines) (reply_to (after_lines rest lines) line))
-
-  faults_push : (lines : List (ReadLine A)) (line : ReadLine A) (number : ℕ) → faults_of number (lines ++ line ∷ []) ≡ faults_of number lines ++ fault_of (number + length lines) line
-  faults_push [] line number = (let n : number ≡ number + 0 = omega arith in append-nil (fault_of number line) ∙ ap (λ (k : ℕ). fault_of k line) n)
-  faults_push (x ∷ lines) line number =
+  each_push : {X : Type 0} (of_one : ℕ → ReadLine A → List X) (lines : List (ReadLine A)) (line : ReadLine A) (number : ℕ) → of_each of_one number (lines ++ line ∷ []) ≡ of_each of_one number lines ++ of_one (number + length lines) line
+  each_push of_one [] line number = (let n : number ≡ number + 0 = omega arith in append-nil (of_one number line) ∙ ap (λ (k : ℕ). of_one k line) n)
+  each_push {X} of_one (x ∷ lines) line number =
       let n : (number + 1) + length lines ≡ number + suc (length lines) = omega arith in
-      let first = fault_of number x in
-      let others = faults_of (number + 1) lines in
-      ap (λ (t : List ℕ). first ++ t) (faults_push lines line (number + 1) ∙ ap (λ (k : ℕ). others ++ fault_of k line) n)
-      ∙ sym (append_assoc first others (fault_of (number + suc (length lines)) line))
+      let first = of_one number x in
+      let others = of_each of_one (number + 1) lines in
+      ap (λ (t : List X). first ++ t) (each_push of_one lines line (number + 1) ∙ ap (λ (k : ℕ). others ++ of_one k line) n)
+      ∙ sym (append_assoc first others (of_one (number + suc (length lines)) line))
 
   read_push : (texts : List (List ℕ)) (lines : List (ReadLine A)) (text : List ℕ) (line : ReadLine A) (number : ℕ) → AreReadAs number texts lines → IsReadAs (number + length texts) text line
       → AreReadAs number (texts ++ text ∷ []) (lines ++ line ∷ [])
@@ -99,78 +80,59 @@ module _ {A : Type 0} where
   read_length (x ∷ texts) [] number read = absurd read
   read_length (x ∷ texts) (y ∷ lines) number read = ap suc (read_length texts lines (number + 1) read.1)
 
-  -- ---- the server
+  -- ---- what one line does
 
-  pub leaves_none : (core : State A) → core ≡ state [] → IsLeftBy [] core
-  leaves_none core is = record {
-    legal = IsLegal-none A;
-    blobs = fits-none A;
-    few = omega arith;
-    state_is = sym is;
-  }
-
-  -- the history as the core has it
-  pub leaves_events : (h : List (Event A)) (core : State A) → IsLeftBy h core → core.events ≡ length h
-  leaves_events h core so = ap (λ (s : State A). s.events) (sym so.state_is) ∙ events-state h
-
-  -- no command was run
-  pub no_command : {P E : Type 0} (reply fault : P → List ℕ) (number : ℕ) (text : List ℕ) (line : ReadLine A) (shown : List ℕ) (result : Result P E) (h : List (Event A)) (core : State A)
-      → after_line h line ≡ h → reply_to h line ≡ [] → fault_of number line ≡ shown → IsReadAs number text line → IsLeftBy h core → IfOk result (λ p. (reply p ≡ []) × (fault p ≡ shown))
-      → IfOk result (λ p. HasAnswered number text h core (reply p) (fault p))
-  no_command reply fault number text line shown (Ok p) h core same none fault_is is so (no_reply, fault_shown) =
-      (line, is, subst (λ (k : List (Event A)). IsLeftBy k core) (sym same) so, no_reply ∙ sym none, fault_shown ∙ sym fault_is)
-  no_command reply fault number text line shown (Err e) h core same none fault_is is so met = tt
+  -- nothing was run
+  pub no_command : {P E : Type 0} (reply fault : P → List ℕ) (number : ℕ) (text : List ℕ) (line : ReadLine A) (shown : List ℕ) (result : Result P E) (course : Course A) (state : InterpreterState A)
+      → run_of number line ≡ [] → fault_of number line ≡ shown → IsReadAs number text line → Stands course state → IfOk result (λ p. (reply p ≡ []) × (fault p ≡ shown))
+      → IfOk result (λ p. HasAnswered number text course state (reply p) (fault p))
+  no_command reply fault number text line shown (Ok p) course state none fault_is is so (no_reply, fault_shown) = (
+    line,
+    is,
+    subst (λ (ls : List (RunLine A)). Stands (after_lines course ls) state) (sym none) so,
+    no_reply ∙ ap (λ (ls : List (RunLine A)). replies_to course ls) (sym none),
+    fault_shown ∙ sym fault_is,
+  )
+  no_command reply fault number text line shown (Err e) course state none fault_is is so met = tt
 
   -- the line's command was run
-  pub answered_command : (number : ℕ) (text : List ℕ) (line : Line A) (h : List (Event A)) (core next : State A) (reply fault : List ℕ) → IsLeftBy h core → BlobFits line.command → HasRoom core.events
-      → IsUtf8 text → IsFound (Some line) text → next ≡ state (h ++ event_by 0 line.command (reply_of h line.command) ∷ []) → reply ≡ on_a_line (reply_text line (reply_of h line.command)) → fault ≡ []
-      → HasAnswered number text h next reply fault
-  answered_command number text line h core next reply fault so fits room utf8 found after is none =
-      let event = event_by 0 line.command (reply_of h line.command) in (
-        Spelled line,
-        (utf8, found),
-        record {
-          legal = IsLegal-push h line.command so.legal;
-          blobs = fits-push h line.command (reply_of h line.command) so.blobs fits;
-          few = omega (arith, room, leaves_events h core so, length-append h (event ∷ []));
-          state_is = sym after;
-        },
-        is,
-        none,
-      )
+  pub answered_command : (number : ℕ) (text : List ℕ) (line : Line A) (course : Course A) (next : InterpreterState A) (reply fault : List ℕ) → IsUtf8 text → IsFound (Some line) text
+      → Stands (after_line course (run_line Text number line)) next → reply ≡ on_a_line (text_of course (run_line Text number line)) → fault ≡ [] → HasAnswered number text course next reply fault
+  answered_command number text line course next reply fault utf8 found stands is none =
+      (Spelled line, (utf8, found), stands, is ∙ sym (append-nil (on_a_line (text_of course (run_line Text number line)))), none)
 
   -- ---- lines one after the other
 
-  -- The lines that were done left this server, and their replies and faults were written. The others are
-  -- what is left of the input.
-  pub record IsAt (input left : Option (List ℕ)) (core : State A) (number : ℕ) (old new : Outputs) : Type 0 where
+  -- The interpreter stands so after the lines that were done, and their replies and faults were written. The
+  -- others are what is left of the input.
+  pub record IsAt (input left : Option (List ℕ)) (state : InterpreterState A) (number : ℕ) (old new : Outputs) : Type 0 where
     pub lines : List (ReadLine A)
     pub texts : List (List ℕ)
     pub parts : (others : List (List ℕ)) → HasLines left others → HasLines input (texts ++ others)
     pub read : AreReadAs 1 texts lines
     pub counted : number ≡ length texts
-    pub leaves : IsLeftBy (after_lines [] lines) core
-    pub printed : Appends old.replies new.replies (replies_to [] lines)
-    pub reported : Appends old.faults new.faults (faults_of 1 lines)
+    pub stands : Stands (after_lines begin_course (lines_run lines)) state
+    pub printed : Appends old.replies new.replies (replies_to begin_course (lines_run lines))
+    pub reported : Appends old.faults new.faults (faults_of lines)
 
-  pub at_first : (input left : Option (List ℕ)) (core : State A) (old : Outputs) → core ≡ state [] → ((others : List (List ℕ)) → HasLines left others → HasLines input others) → IsAt input left core 0 old old
-  at_first input left core old is parts = record {
+  pub at_first : (input left : Option (List ℕ)) (state : InterpreterState A) (old : Outputs) → Stands begin_course state → ((others : List (List ℕ)) → HasLines left others → HasLines input others) → IsAt input left state 0 old old
+  at_first input left state old stands parts = record {
     lines = [];
     texts = [];
     parts = parts;
     read = tt;
     counted = refl;
-    leaves = leaves_none core is;
+    stands = stands;
     printed = Appends-nil old.replies;
     reported = Appends-nil old.faults;
   }
 
-  -- the text of the next line's fault, by its number
-  fault_counted : (texts : List (List ℕ)) (lines : List (ReadLine A)) (line : ReadLine A) (number count : ℕ) → AreReadAs 1 texts lines → number ≡ length texts → count ≡ number + 1
-      → faults_of 1 (lines ++ line ∷ []) ≡ faults_of 1 lines ++ fault_of count line
-  fault_counted texts lines line number count read counted is =
+  -- what there is of the next line, by its number
+  each_counted : {X : Type 0} (of_one : ℕ → ReadLine A → List X) (texts : List (List ℕ)) (lines : List (ReadLine A)) (line : ReadLine A) (number count : ℕ) → AreReadAs 1 texts lines → number ≡ length texts → count ≡ number + 1
+      → of_each of_one 1 (lines ++ line ∷ []) ≡ of_each of_one 1 lines ++ of_one count line
+  each_counted {X} of_one texts lines line number count read counted is =
       let n : 1 + length lines ≡ count = omega (arith, read_length texts lines 1 read, counted, is) in
-      faults_push lines line 1 ∙ ap (λ (k : ℕ). faults_of 1 lines ++ fault_of k line) n
+      each_push of_one lines line 1 ∙ ap (λ (k : ℕ). of_each of_one 1 lines ++ of_one k line) n
 
   read_counted : (texts : List (List ℕ)) (lines : List (ReadLine A)) (text : List ℕ) (line : ReadLine A) (number count : ℕ) → AreReadAs 1 texts lines → number ≡ length texts → count ≡ number + 1
       → IsReadAs count text line → AreReadAs 1 (texts ++ text ∷ []) (lines ++ line ∷ [])
@@ -178,59 +140,70 @@ module _ {A : Type 0} where
       let n : count ≡ 1 + length texts = omega (arith, counted, is) in
       read_push texts lines text line 1 read (subst (λ (k : ℕ). IsReadAs k text line) n one)
 
-  pub at_next : (input left rest : Option (List ℕ)) (core next : State A) (number count : ℕ) (a b c : Outputs) (text reply fault : List ℕ) (so : IsAt input left core number a b)
-      → CutsLine text left rest → count ≡ number + 1 → HasAnswered count text (after_lines [] so.lines) next reply fault
+  pub at_next : (input left rest : Option (List ℕ)) (state next : InterpreterState A) (number count : ℕ) (a b c : Outputs) (text reply fault : List ℕ) (so : IsAt input left state number a b)
+      → CutsLine text left rest → count ≡ number + 1 → HasAnswered count text (after_lines begin_course (lines_run so.lines)) next reply fault
       → Appends b.replies c.replies reply × Appends b.faults c.faults fault → IsAt input rest next count a c
-  at_next input left rest core next number count a b c text reply fault so cut is (line, one, leaves, reply_is, fault_is) (printed, reported) = record {
-    lines = so.lines ++ line ∷ [];
-    texts = so.texts ++ text ∷ [];
-    parts = λ others has. subst (λ (l : List (List ℕ)). HasLines input l) (sym (append_assoc so.texts (text ∷ []) others)) (so.parts (text ∷ others) (lines_cut text left rest others cut has));
-    read = read_counted so.texts so.lines text line number count so.read so.counted is one;
-    counted = omega (arith, is, so.counted, length-append so.texts (text ∷ []));
-    leaves = subst (λ (h : List (Event A)). IsLeftBy h next) (sym (after_push so.lines line [])) leaves;
-    printed = subst (Appends a.replies c.replies) (ap (λ (t : List ℕ). replies_to [] so.lines ++ t) reply_is ∙ sym (replies_push so.lines line [])) (Appends-trans a.replies b.replies c.replies (replies_to [] so.lines) reply so.printed printed);
-    reported = subst (Appends a.faults c.faults) (ap (λ (t : List ℕ). faults_of 1 so.lines ++ t) fault_is ∙ sym (fault_counted so.texts so.lines line number count so.read so.counted is)) (Appends-trans a.faults b.faults c.faults (faults_of 1 so.lines) fault so.reported reported);
-  }
+  at_next input left rest state next number count a b c text reply fault so cut is (line, one, stands, reply_is, fault_is) (printed, reported) =
+      let before = lines_run so.lines in
+      let run = run_of count line in
+      let more = each_counted run_of so.texts so.lines line number count so.read so.counted is in
+      let replies = replies_to begin_course before in
+      let faults = each_counted fault_of so.texts so.lines line number count so.read so.counted is in
+      record {
+        lines = so.lines ++ line ∷ [];
+        texts = so.texts ++ text ∷ [];
+        parts = λ others has. subst (λ (l : List (List ℕ)). HasLines input l) (sym (append_assoc so.texts (text ∷ []) others)) (so.parts (text ∷ others) (lines_cut text left rest others cut has));
+        read = read_counted so.texts so.lines text line number count so.read so.counted is one;
+        counted = omega (arith, is, so.counted, length-append so.texts (text ∷ []));
+        stands = subst (λ (k : Course A). Stands k next) (sym (after_parts (lines_run (so.lines ++ line ∷ [])) before run more)) stands;
+        printed = subst (Appends a.replies c.replies) (ap (λ (t : List ℕ). replies ++ t) reply_is ∙ sym (replies_parts (lines_run (so.lines ++ line ∷ [])) before run more)) (Appends-trans a.replies b.replies c.replies replies reply so.printed printed);
+        reported = subst (Appends a.faults c.faults) (ap (λ (t : List ℕ). faults_of so.lines ++ t) fault_is ∙ sym faults) (Appends-trans a.faults b.faults c.faults (faults_of so.lines) fault so.reported reported);
+      }
 
-  has_run : (input left : Option (List ℕ)) (core : State A) (number : ℕ) (a b : Outputs) (so : IsAt input left core number a b) (others : List (List ℕ)) → HasLines left others → HasRun input others so.lines
-  has_run input left core number a b so others has = record {
+  has_run : (input left : Option (List ℕ)) (state : InterpreterState A) (number : ℕ) (a b : Outputs) (so : IsAt input left state number a b) (others : List (List ℕ)) → HasLines left others → HasRun input others so.lines
+  has_run input left state number a b so others has = record {
     texts = so.texts;
     parts = so.parts others has;
     read = so.read;
-    legal = so.leaves.legal;
-    blobs = so.leaves.blobs;
+    run = legal_run (lines_run so.lines) state so.stands;
   }
 
-  prints : (input left : Option (List ℕ)) (core : State A) (number : ℕ) (a b : Outputs) (so : IsAt input left core number a b) → Prints so.lines (Ok tt) a b
-  prints input left core number a b so = (subst (Appends a.replies b.replies) (sym (append-nil (replies_to [] so.lines))) so.printed, so.reported)
+  prints : (input left : Option (List ℕ)) (state : InterpreterState A) (number : ℕ) (a b : Outputs) (so : IsAt input left state number a b) → Prints so.lines (Ok tt) a b
+  prints input left state number a b so = (subst (Appends a.replies b.replies) (sym (append-nil (replies_to begin_course (lines_run so.lines)))) so.printed, so.reported)
 
   -- the input has ended
-  pub at_end : (input left : Option (List ℕ)) (core : State A) (number : ℕ) (a b : Outputs) → IsAt input left core number a b → IsAtEnd left → WritesShell A input left (Ok tt) a b
-  at_end input left core number a b so none = (so.lines, has_run input left core number a b so [] (lines_end left none), prints input left core number a b so)
+  pub at_end : (input left : Option (List ℕ)) (state : InterpreterState A) (number : ℕ) (a b : Outputs) → IsAt input left state number a b → IsAtEnd left → WritesShell A input left (Ok tt) a b
+  at_end input left state number a b so none = (so.lines, has_run input left state number a b so [] (lines_end left none), prints input left state number a b so)
 
   -- a read failed
-  pub at_unread : (input left rest : Option (List ℕ)) (core : State A) (number : ℕ) (a b : Outputs) → IsAt input left core number a b → HasPart left rest → WritesShell A input rest (Err Read) a b
-  at_unread input left rest core number a b so (partial, clear, kept) =
+  pub at_unread : (input left rest : Option (List ℕ)) (state : InterpreterState A) (number : ℕ) (a b : Outputs) → IsAt input left state number a b → HasPart left rest → WritesShell A input rest (Err Read) a b
+  at_unread input left rest state number a b so (partial, clear, kept) =
       let known = lines_known (prepend_known partial rest) in (
         so.lines,
         known.0,
-        has_run input left core number a b so known.0 (lines_kept left (prepend_known partial rest) known.0 kept known.1),
+        has_run input left state number a b so known.0 (lines_kept left (prepend_known partial rest) known.0 kept known.1),
         (partial, clear, known.1),
-        prints input left core number a b so,
+        prints input left state number a b so,
       )
 
   -- out of memory for a line, or the history is full
-  pub ends_before : (fault : CallFault) (h : List (Event A)) (core : State A) (others : List (List ℕ)) → IsLeftBy h core → MayEnd fault core → 0 < length others → EndsBefore fault h others
-  ends_before call.OutOfMemory h core others so may some = some
-  ends_before (call.Overtaken front) h core others so may some = absurd may
-  ends_before call.HistoryFull h core others so may some = (some, omega (arith, may, so.few, leaves_events h core so))
+  pub ends_before : (fault : CallFault) (lines : List (RunLine A)) (state : InterpreterState A) (others : List (List ℕ)) → Stands (after_lines begin_course lines) state → MayEnd fault state → 0 < length others → EndsBefore fault (history_of lines) others
+  ends_before call.OutOfMemory lines state others stands may some = some
+  ends_before (call.Overtaken front) lines state others stands may some = absurd may
+  ends_before call.HistoryFull lines state others stands may some = (some, omega (arith, may, stands.few, stands_events (after_lines begin_course lines) state stands))
 
   -- a write of what is printed for a line failed
-  pub at_line : (input left rest known : Option (List ℕ)) (core next : State A) (number count : ℕ) (a b c : Outputs) (text reply fault : List ℕ) (so : IsAt input left core number a b)
-      → CutsLine text left rest → count ≡ number + 1 → HasAnswered count text (after_lines [] so.lines) next reply fault
+  pub at_line : (input left rest known : Option (List ℕ)) (state next : InterpreterState A) (number count : ℕ) (a b c : Outputs) (text reply fault : List ℕ) (so : IsAt input left state number a b)
+      → CutsLine text left rest → count ≡ number + 1 → HasAnswered count text (after_lines begin_course (lines_run so.lines)) next reply fault
       → AppendsFront b.replies c.replies reply × AppendsFront b.faults c.faults fault → WritesShell A input known (Err Write) a c
-  at_line input left rest known core next number count a b c text reply fault so cut is (line, one, leaves, reply_is, fault_is) (printed, reported) =
-      let others = lines_known rest in (
+  at_line input left rest known state next number count a b c text reply fault so cut is (line, one, stands, reply_is, fault_is) (printed, reported) =
+      let others = lines_known rest in
+      let all = lines_run (so.lines ++ line ∷ []) in
+      let before = lines_run so.lines in
+      let run = run_of count line in
+      let more = each_counted run_of so.texts so.lines line number count so.read so.counted is in
+      let replies = replies_to begin_course before in
+      let faults = each_counted fault_of so.texts so.lines line number count so.read so.counted is in (
         so.lines ++ line ∷ [],
         others.0,
         Ok tt,
@@ -238,46 +211,45 @@ module _ {A : Type 0} where
           texts = so.texts ++ text ∷ [];
           parts = subst (λ (l : List (List ℕ)). HasLines input l) (sym (append_assoc so.texts (text ∷ []) others.0)) (so.parts (text ∷ others.0) (lines_cut text left rest others.0 cut others.1));
           read = read_counted so.texts so.lines text line number count so.read so.counted is one;
-          legal = subst IsLegal (sym (after_push so.lines line [])) leaves.legal;
-          blobs = subst BlobsFit (sym (after_push so.lines line [])) leaves.blobs;
+          run = legal_run all next (subst (λ (k : Course A). Stands k next) (sym (after_parts all before run more)) stands);
         },
         (
-          subst (AppendsFront a.replies c.replies) (ap (λ (t : List ℕ). replies_to [] so.lines ++ t) reply_is ∙ sym (replies_push so.lines line []) ∙ sym (append-nil (replies_to [] (so.lines ++ line ∷ [])))) (front_of a.replies b.replies c.replies (replies_to [] so.lines) reply so.printed printed),
-          subst (AppendsFront a.faults c.faults) (ap (λ (t : List ℕ). faults_of 1 so.lines ++ t) fault_is ∙ sym (fault_counted so.texts so.lines line number count so.read so.counted is)) (front_of a.faults b.faults c.faults (faults_of 1 so.lines) fault so.reported reported),
+          subst (AppendsFront a.replies c.replies) (ap (λ (t : List ℕ). replies ++ t) reply_is ∙ sym (replies_parts all before run more) ∙ sym (append-nil (replies_to begin_course all))) (front_more a.replies b.replies c.replies replies reply so.printed printed),
+          subst (AppendsFront a.faults c.faults) (ap (λ (t : List ℕ). faults_of so.lines ++ t) fault_is ∙ sym faults) (front_more a.faults b.faults c.faults (faults_of so.lines) fault so.reported reported),
         ),
       )
 
   -- what ended the shell was written, or a beginning of it
-  pub at_fault : (input left known : Option (List ℕ)) (core : State A) (number : ℕ) (a b : Outputs) (after : Option (List ℕ)) (fault : CallFault) (result : Result (Unit {0}) RunFault) → IsAt input left core number a b
-      → MayEnd fault core → ((others : List (List ℕ)) × HasLines left others × (0 < length others)) → OnOk result ⊥
+  pub at_fault : (input left known : Option (List ℕ)) (state : InterpreterState A) (number : ℕ) (a b : Outputs) (after : Option (List ℕ)) (fault : CallFault) (result : Result (Unit {0}) RunFault) → IsAt input left state number a b
+      → MayEnd fault state → ((others : List (List ℕ)) × HasLines left others × (0 < length others)) → OnOk result ⊥
       → IfErr result (λ why. MatchEnd why (λ f. (f ≡ fault) × Appends b.replies after (ending Text (Err fault))) (AppendsFront b.replies after (ending Text (Err fault))))
       → WritesShell A input known result a (outputs after b.faults)
-  at_fault input left known core number a b after fault (Ok done) so may some fails wrote = absurd fails
-  at_fault input left known core number a b after fault (Err (Script f)) so may some fails wrote = absurd wrote
-  at_fault input left known core number a b after fault (Err NotUtf8) so may some fails wrote = absurd wrote
-  at_fault input left known core number a b after fault (Err NotHex) so may some fails wrote = absurd wrote
-  at_fault input left known core number a b after fault (Err (Blob f)) so may some fails wrote = absurd wrote
-  at_fault input left known core number a b after fault (Err Patchset) so may some fails wrote = absurd wrote
-  at_fault input left known core number a b after fault (Err (BlobList f)) so may some fails wrote = absurd wrote
-  at_fault input left known core number a b after fault (Err (Call f)) so may (others, has, some) fails (same, wrote) =
+  at_fault input left known state number a b after fault (Ok done) so may some fails wrote = absurd fails
+  at_fault input left known state number a b after fault (Err (Script f)) so may some fails wrote = absurd wrote
+  at_fault input left known state number a b after fault (Err NotUtf8) so may some fails wrote = absurd wrote
+  at_fault input left known state number a b after fault (Err NotHex) so may some fails wrote = absurd wrote
+  at_fault input left known state number a b after fault (Err (Blob f)) so may some fails wrote = absurd wrote
+  at_fault input left known state number a b after fault (Err Patchset) so may some fails wrote = absurd wrote
+  at_fault input left known state number a b after fault (Err (BlobList f)) so may some fails wrote = absurd wrote
+  at_fault input left known state number a b after fault (Err (Call f)) so may (others, has, some) fails (same, wrote) =
       let P : CallFault → Type 0 = λ g. WritesShell A input known (Err (Call g)) a (outputs after b.faults) in
       subst P (sym same) (
         so.lines,
         others,
-        has_run input left core number a b so others has,
-        ends_before fault (after_lines [] so.lines) core others so.leaves may some,
-        (Appends-trans a.replies b.replies after (replies_to [] so.lines) (ending Text (Err fault)) so.printed wrote, so.reported),
+        has_run input left state number a b so others has,
+        ends_before fault (lines_run so.lines) state others so.stands may some,
+        (Appends-trans a.replies b.replies after (replies_to begin_course (lines_run so.lines)) (ending Text (Err fault)) so.printed wrote, so.reported),
       )
-  at_fault input left known core number a b after fault (Err Read) so may some fails wrote = absurd wrote
-  at_fault input left known core number a b after fault (Err Write) so may (others, has, some) fails wrote = (
+  at_fault input left known state number a b after fault (Err Read) so may some fails wrote = absurd wrote
+  at_fault input left known state number a b after fault (Err Write) so may (others, has, some) fails wrote = (
     so.lines,
     others,
     Err fault,
-    has_run input left core number a b so others has,
-    (front_of a.replies b.replies after (replies_to [] so.lines) (ending Text (Err fault)) so.printed wrote, front_all a.faults b.faults (faults_of 1 so.lines) so.reported),
+    has_run input left state number a b so others has,
+    (front_more a.replies b.replies after (replies_to begin_course (lines_run so.lines)) (ending Text (Err fault)) so.printed wrote, front_all a.faults b.faults (faults_of so.lines) so.reported),
   )
-  at_fault input left known core number a b after fault (Err OutOfMemory) so may some fails wrote = absurd wrote
-  at_fault input left known core number a b after fault (Err Close) so may some fails wrote = absurd wrote
+  at_fault input left known state number a b after fault (Err OutOfMemory) so may some fails wrote = absurd wrote
+  at_fault input left known state number a b after fault (Err Close) so may some fails wrote = absurd wrote
 
 -- the line is there
 pub line_there : (text : List ℕ) (left rest : Option (List ℕ)) → CutsLine text left rest → (others : List (List ℕ)) × HasLines left others × (0 < length others)

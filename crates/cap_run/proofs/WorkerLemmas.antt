@@ -13,7 +13,8 @@ use Rattle.cap_history.specs.History.{own}
 use Rattle.cap_history.specs.Seat.{HasCalled, SeatState, SeesMore, calls}
 use Rattle.cap_run.proofs.OrderLemmas.{goes_called, goes_later, goes_same, goes_seen}
 use Rattle.cap_run.proofs.SeatLemmas.{calls-begin, calls_of-append, calls_of-longer, calls_of-none, is_of, lines-own, nat_eq-other, nat_eq-same, reply_texts-none}
-use Rattle.cap_run.specs.Run.{Ended, on_a_line}
+use Rattle.cap_interpreter.specs.Lines.{on_a_line}
+use Rattle.cap_run.specs.Run.{Ended}
 use Rattle.cap_run.specs.Code.Calls.{HasCalledLine, HasCalledLines, HasSeen, HasWorked, KeepsCalls, Work, reply_texts, seat_lines, work}
 use Rattle.cap_run.specs.Workload.{calls_of, seat_of}
 use Rattle.cap_replies.specs.Printed.{reply_text}

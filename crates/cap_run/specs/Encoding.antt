@@ -7,7 +7,7 @@ use Rattle.cap_run.specs.declared.encoding.Encoding.TheVariants.{Binary, Hex}
 use Rattle.cap_run.specs.declared.fault.RunFault.{RunFault}
 use Rattle.cap_run.specs.declared.fault.RunFault.TheVariants.{NotHex}
 use Rattle.cap_run.specs.Hex.{digits_of}
-use Rattle.cap_run.specs.Run.{on_a_line}
+use Rattle.cap_interpreter.specs.Lines.{on_a_line}
 
 -- the bytes of the blob in an input
 abbrev pub decoded : Encoding → List ℕ → Result (List ℕ) RunFault

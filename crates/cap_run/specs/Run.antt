@@ -1,20 +1,20 @@
--- The output of a run: the text of each reply as a line, and then the fault at which it ended.
-use Rattle.std.specs.Prelude.{◌≡◌, ℕ, ◌-◌, ◌^◌, ◌<◌, List, [], ◌∷◌, ◌++◌, Option, Result, Ok, Err, IfSome}
-use Rattle.std.specs.Prelude.{map, length, codes, decimal}
+-- The output of a run: the text of the reply to each line, and then the fault at which it ended.
+use Rattle.std.specs.Prelude.{◌≡◌, ℕ, List, [], ◌∷◌, ◌++◌, Option, Result, Ok, Err, IfSome}
+use Rattle.std.specs.Prelude.{length, codes, decimal}
 use Rattle.std.specs.Io.KnownBytes.{Appends, Keeps}
-use Rattle.cap_core.specs.declared.command.Command.{Command}
 use Rattle.cap_locked.specs.declared.fault.CallFault.{CallFault}
 use Rattle.cap_locked.specs.declared.fault.CallFault.TheVariants as call
-use Rattle.cap_core.specs.declared.reply.Reply.{Reply}
-use Rattle.cap_core.specs.Answer.{IsLegal, history_of}
+use Rattle.cap_core.specs.Answer.{IsLegal}
 use Rattle.cap_core.specs.Past.{HasRoom}
 use Rattle.cap_core.specs.Table.{BlobsFit}
+use Rattle.cap_core.specs.declared.event.Event.{Event}
+use Rattle.cap_interpreter.specs.Lines.{Course, after_line, after_lines, begin_course, command_of, deed}
+use Rattle.cap_interpreter.specs.Lines.{events_max, on_a_line, text_of}
 use Rattle.cap_run.specs.declared.fault.RunFault.{RunFault}
 use Rattle.cap_run.specs.declared.fault.RunFault.TheVariants.{Call, Write}
 use Rattle.cap_replies.specs.declared.run_line.ReplyForm.{ReplyForm}
 use Rattle.cap_replies.specs.declared.run_line.ReplyForm.TheVariants.{Json, Text}
 use Rattle.cap_replies.specs.declared.run_line.RunLine.{RunLine}
-use Rattle.cap_replies.specs.Printed.{reply_text}
 use Rattle.cap_replies.specs.Lines.{SpellsLines}
 
 -- what a writer holds, where it is known
@@ -30,18 +30,10 @@ abbrev pub AppendsFront : Known → Known → List ℕ → Type 0
 AppendsFront old new bytes =
     (front : List ℕ) × (rest : List ℕ) × (bytes ≡ front ++ rest) × Appends old new front
 
--- a text, on a line of its own
-abbrev pub on_a_line : List ℕ → List ℕ
-on_a_line text = text ++ 10 ∷ []
-
 unfoldable pub call_fault_text : CallFault → List ℕ
 call_fault_text call.OutOfMemory = codes "refused for memory"
 call_fault_text (call.Overtaken front) = codes "overtaken " ++ decimal front
 call_fault_text call.HistoryFull = codes "history full"
-
--- the most events of a history
-abbrev pub events_max : ℕ
-events_max = 2 ^ 63 - 1
 
 -- the fault of the line at which a run ended, on a line of its own: as text or as a JSON object
 abbrev pub fault_line : ReplyForm → CallFault → List ℕ
@@ -58,45 +50,60 @@ abbrev pub run_outcome : Ended → Result (Unit {0}) RunFault
 run_outcome (Ok done) = Ok done
 run_outcome (Err fault) = Err (Call fault)
 
--- A run without a fault ends after the last line. Out of memory may end it before any line, and a full
--- history ends it before the line that would exceed it.
-abbrev pub EndsAt : Ended → ℕ → ℕ → Type 0
-EndsAt (Ok done) lines count = count ≡ lines
-EndsAt (Err call.OutOfMemory) lines count = (count < lines) × HasRoom count
-EndsAt (Err (call.Overtaken front)) lines count = ⊥
-EndsAt (Err call.HistoryFull) lines count = (count < lines) × (count ≡ events_max)
-
 module _ {A : Type 0} where
-  abbrev pub commands_of : List (RunLine A) → List (Command A)
-  commands_of lines = map (λ line. line.line.command) lines
+  -- ---- lines one after the other
 
-  -- the replies to the first lines, each on a line of its own
-  abbrev pub reply_lines : List (RunLine A) → List (Reply A) → List ℕ
-  reply_lines [] replies = []
-  reply_lines (line ∷ lines) [] = []
-  reply_lines (line ∷ lines) (reply ∷ replies) =
-      on_a_line (reply_text line reply) ++ reply_lines lines replies
+  -- the text of the reply to each, on a line of its own
+  abbrev pub replies_to : Course A → List (RunLine A) → List ℕ
+  replies_to course [] = []
+  replies_to course (line ∷ lines) =
+      on_a_line (text_of course line) ++ replies_to (after_line course line) lines
 
-  -- The text is that of the replies to the first `count` lines and of what ended the run there. The replies
-  -- are those of a legal history of the lines' commands, whose blobs fit.
-  pub record IsRun (form : ReplyForm) (lines : List (RunLine A)) (count : ℕ) (ended : Ended) (text : List ℕ) : Type 0 where
-    pub replies : List (Reply A)
-    pub counted : length replies ≡ count
-    pub legal : IsLegal (history_of (commands_of lines) replies)
-    pub blobs : BlobsFit (history_of (commands_of lines) replies)
-    pub text_is : text ≡ reply_lines lines replies ++ ending form ended
+  -- the history of a run of the lines, from a new server on
+  abbrev pub history_of : List (RunLine A) → List (Event A)
+  history_of lines = (after_lines begin_course lines).history
 
-  -- all of a run's text was written
+  -- that history is legal, and its blobs fit
+  pub record IsLegalRun (lines : List (RunLine A)) : Type 0 where
+    pub legal : IsLegal (history_of lines)
+    pub blobs : BlobsFit (history_of lines)
+
+  -- where a line carries out a command of the server, the history has room for its event
+  abbrev pub HasRoomAt : Course A → RunLine A → Type 0
+  HasRoomAt course line =
+      IfSome (command_of (deed course.txn line.line)) (λ command. HasRoom (length course.history))
+
+  -- there is a next line, and it is so
+  abbrev pub NextIs : (RunLine A → Type 0) → List (RunLine A) → Type 0
+  NextIs IsSo [] = ⊥
+  NextIs IsSo (line ∷ lines) = IsSo line
+
+  -- Where a run ends, after some lines and before others: without a fault after the last line. Out of memory
+  -- may end it before any line that has room, and a full history before a line.
+  abbrev pub EndsAt : Ended → List (RunLine A) → List (RunLine A) → Type 0
+  EndsAt (Ok done) lines others = others ≡ []
+  EndsAt (Err call.OutOfMemory) lines others = NextIs (HasRoomAt (after_lines begin_course lines)) others
+  EndsAt (Err (call.Overtaken front)) lines others = ⊥
+  EndsAt (Err call.HistoryFull) lines others =
+      NextIs (λ line. length (history_of lines) ≡ events_max) others
+
+  -- ---- the output
+
+  -- the replies, and what ended the run behind them
+  abbrev pub run_text : ReplyForm → List (RunLine A) → Ended → List ℕ
+  run_text form lines ended = replies_to begin_course lines ++ ending form ended
+
+  -- all of a run's text was written: the first lines have replies, up to the line at which it ended
   abbrev pub WritesRun : ReplyForm → List (RunLine A) → Ended → Known → Known → Type 0
   WritesRun form lines ended old new =
-      (count : ℕ) × (text : List ℕ) × EndsAt ended (length lines) count × IsRun form lines count ended text
-      × Appends old new text
+      (first others : List (RunLine A)) × (lines ≡ first ++ others) × IsLegalRun first
+      × EndsAt ended first others × Appends old new (run_text form first ended)
 
   -- a prefix of a run's text was written
   abbrev pub BeginsRun : ReplyForm → List (RunLine A) → Known → Known → Type 0
   BeginsRun form lines old new =
-      (count : ℕ) × (ended : Ended) × (text : List ℕ) × IsRun form lines count ended text
-      × AppendsFront old new text
+      (first others : List (RunLine A)) × (ended : Ended) × (lines ≡ first ++ others) × IsLegalRun first
+      × AppendsFront old new (run_text form first ended)
 
   -- The output of a run of the lines: all of its text, a prefix where a write failed, or nothing where it did
   -- not begin.

@@ -1,22 +1,22 @@
--- The output of a shell, line by line: the reply to the line's command, or its fault.
+-- The output of a shell: the text of a run of its lines, and the faults of those that are not run.
 use Rattle.std.specs.Prelude.{◌≡◌, ℕ, ◌+◌, ◌<◌, List, [], ◌∷◌, ◌++◌, None, Some, Result, Ok, Err}
 use Rattle.std.specs.Prelude.{IsUtf8, codes, decimal, false, length}
 use Rattle.std.specs.Io.KnownBytes.{Appends, prepend_known}
-use Rattle.cap_core.specs.Answer.{IsLegal, event_by, reply_of}
-use Rattle.cap_core.specs.Table.{BlobsFit}
 use Rattle.cap_core.specs.declared.event.Event.{Event}
 use Rattle.cap_value.specs.declared.memory.Fault.TheVariants as fault
 use Rattle.cap_script.specs.FaultText.{fault_text}
 use Rattle.cap_script.specs.ReadLine.{HasFault, IsFound}
-use Rattle.cap_script.specs.ReplyText.{reply_text}
 use Rattle.cap_script.specs.Script.{has_line_feed}
 use Rattle.cap_script.specs.declared.fault.ScriptFault.{ScriptFault}
 use Rattle.cap_script.specs.declared.line.Line.{Line}
 use Rattle.cap_locked.specs.declared.fault.CallFault.{CallFault}
 use Rattle.cap_locked.specs.declared.fault.CallFault.TheVariants as call
+use Rattle.cap_interpreter.specs.Lines.{events_max, on_a_line}
+use Rattle.cap_replies.specs.Lines.{run_line}
 use Rattle.cap_replies.specs.declared.run_line.ReplyForm.TheVariants.{Text}
+use Rattle.cap_replies.specs.declared.run_line.RunLine.{RunLine}
 use Rattle.cap_run.specs.BlobList.{HasLines}
-use Rattle.cap_run.specs.Run.{AppendsFront, Ended, Known, ending, events_max, on_a_line}
+use Rattle.cap_run.specs.Run.{AppendsFront, Ended, IsLegalRun, Known, history_of, run_text}
 use Rattle.cap_run.specs.declared.fault.RunFault.{RunFault}
 use Rattle.cap_run.specs.declared.fault.RunFault.TheVariants.{Call, Read, Write}
 
@@ -45,20 +45,12 @@ module _ {A : Type 0} where
   IsReadAs number text (Spelled line) = IsUtf8 text × IsFound (Some line) text
   IsReadAs number text (Refused why) = IsUtf8 text × HasFault A number (fault.Refused why) text
 
-  -- the events after it
-  abbrev pub after_line : List (Event A) → ReadLine A → List (Event A)
-  after_line history NoText = history
-  after_line history Ignored = history
-  after_line history (Spelled line) =
-      history ++ event_by 0 line.command (reply_of history line.command) ∷ []
-  after_line history (Refused why) = history
-
-  -- what is printed for it: the reply to its command
-  abbrev pub reply_to : List (Event A) → ReadLine A → List ℕ
-  reply_to history NoText = []
-  reply_to history Ignored = []
-  reply_to history (Spelled line) = on_a_line (reply_text line (reply_of history line.command))
-  reply_to history (Refused why) = []
+  -- what is run of the line with this number: a line of a run
+  abbrev pub run_of : ℕ → ReadLine A → List (RunLine A)
+  run_of number NoText = []
+  run_of number Ignored = []
+  run_of number (Spelled line) = run_line Text number line ∷ []
+  run_of number (Refused why) = []
 
   -- what is printed for it on the writer of the faults: its fault
   abbrev pub fault_of : ℕ → ReadLine A → List ℕ
@@ -76,40 +68,39 @@ module _ {A : Type 0} where
   AreReadAs number (text ∷ texts) (line ∷ lines) =
       IsReadAs number text line × AreReadAs (number + 1) texts lines
 
-  abbrev pub after_lines : List (Event A) → List (ReadLine A) → List (Event A)
-  after_lines history [] = history
-  after_lines history (line ∷ lines) = after_lines (after_line history line) lines
+  -- what there is of each line by its number, one after the other
+  abbrev pub of_each : {X : Type 0} → (ℕ → ReadLine A → List X) → ℕ → List (ReadLine A) → List X
+  of_each of_one number [] = []
+  of_each of_one number (line ∷ lines) = of_one number line ++ of_each of_one (number + 1) lines
 
-  abbrev pub replies_to : List (Event A) → List (ReadLine A) → List ℕ
-  replies_to history [] = []
-  replies_to history (line ∷ lines) =
-      reply_to history line ++ replies_to (after_line history line) lines
+  -- what is run of all
+  abbrev pub lines_run : List (ReadLine A) → List (RunLine A)
+  lines_run lines = of_each run_of 1 lines
 
-  abbrev pub faults_of : ℕ → List (ReadLine A) → List ℕ
-  faults_of number [] = []
-  faults_of number (line ∷ lines) = fault_of number line ++ faults_of (number + 1) lines
+  abbrev pub faults_of : List (ReadLine A) → List ℕ
+  faults_of lines = of_each fault_of 1 lines
 
-  -- The lines of the input before the others are these. Their commands have a legal history, whose blobs fit.
+  -- The lines of the input before the others are these. What is run of them has a legal history, whose blobs
+  -- fit.
   pub record HasRun (input : Known) (others : List (List ℕ)) (lines : List (ReadLine A)) : Type 0 where
     pub texts : List (List ℕ)
     pub parts : HasLines input (texts ++ others)
     pub read : AreReadAs 1 texts lines
-    pub legal : IsLegal (after_lines [] lines)
-    pub blobs : BlobsFit (after_lines [] lines)
+    pub run : IsLegalRun (lines_run lines)
 
   -- ---- the output
 
-  -- the replies were written, then what ended the shell, and the faults
+  -- the text of a run of the lines was written, up to what ended the shell, and the faults
   abbrev pub Prints : List (ReadLine A) → Ended → Outputs → Outputs → Type 0
   Prints lines ended old new =
-      Appends old.replies new.replies (replies_to [] lines ++ ending Text ended)
-      × Appends old.faults new.faults (faults_of 1 lines)
+      Appends old.replies new.replies (run_text Text (lines_run lines) ended)
+      × Appends old.faults new.faults (faults_of lines)
 
   -- a prefix of each was written
   abbrev pub PrintsPart : List (ReadLine A) → Ended → Outputs → Outputs → Type 0
   PrintsPart lines ended old new =
-      AppendsFront old.replies new.replies (replies_to [] lines ++ ending Text ended)
-      × AppendsFront old.faults new.faults (faults_of 1 lines)
+      AppendsFront old.replies new.replies (run_text Text (lines_run lines) ended)
+      × AppendsFront old.faults new.faults (faults_of lines)
 
   -- out of memory may end a shell before any line, and a full history before a line that would exceed it
   abbrev pub EndsBefore : CallFault → List (Event A) → List (List ℕ) → Type 0
@@ -130,7 +121,7 @@ WritesShell A input left (Ok done) old new =
     (lines : List (ReadLine A)) × HasRun input [] lines × Prints lines (Ok tt) old new
 WritesShell A input left (Err (Call fault)) old new =
     (lines : List (ReadLine A)) × (others : List (List ℕ)) × HasRun input others lines
-    × EndsBefore fault (after_lines [] lines) others × Prints lines (Err fault) old new
+    × EndsBefore fault (history_of (lines_run lines)) others × Prints lines (Err fault) old new
 WritesShell A input left (Err Read) old new =
     (lines : List (ReadLine A)) × (others : List (List ℕ)) × HasRun input others lines × AreLeft left others
     × Prints lines (Ok tt) old new

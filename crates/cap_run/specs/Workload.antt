@@ -8,9 +8,11 @@ use Rattle.cap_core.specs.Table.{BlobsFit}
 use Rattle.cap_core.specs.declared.event.Event.{Event}
 use Rattle.cap_core.specs.declared.reply.Reply.{Reply}
 use Rattle.cap_history.specs.History.{own}
-use Rattle.cap_run.specs.Run.{AppendsFront, Ended, IsSpelled, Known, ending, events_max, reply_lines}
+use Rattle.cap_interpreter.specs.Lines.{events_max, on_a_line}
+use Rattle.cap_run.specs.Run.{AppendsFront, Ended, IsSpelled, Known, ending}
 use Rattle.cap_run.specs.declared.fault.RunFault.{RunFault}
 use Rattle.cap_run.specs.declared.fault.RunFault.TheVariants.{Call, Close, Write}
+use Rattle.cap_replies.specs.Printed.{reply_text}
 use Rattle.cap_replies.specs.declared.run_line.ReplyForm.{ReplyForm}
 use Rattle.cap_replies.specs.declared.run_line.RunLine.{RunLine}
 use Rattle.cap_locked.specs.Fault.{MatchCallFault}
@@ -32,6 +34,13 @@ ReportsEvents Are (Ok done) = Unit {0}
 ReportsEvents Are (Err fault) = MatchCallFault fault (Unit {0}) Are (Are events_max)
 
 module _ {A : Type 0} where
+  -- the replies to the first lines, each on a line of its own
+  abbrev pub reply_lines : List (RunLine A) → List (Reply A) → List ℕ
+  reply_lines [] replies = []
+  reply_lines (line ∷ lines) [] = []
+  reply_lines (line ∷ lines) (reply ∷ replies) =
+      on_a_line (reply_text line reply) ++ reply_lines lines replies
+
   -- the calls of the lines that have replies, in the order of the lines, each by its line's seat
   abbrev pub calls_of : ℕ → List (RunLine A) → List (Reply A) → List (Event A)
   calls_of threads [] replies = []

@@ -4,7 +4,7 @@ ghost use Rattle.cap_value.specs.Memory.{ShowsUnlessMemory};
 ghost use Rattle.hex.specs.Hex.{encode_lower};
 ghost use Rattle.cap_run.specs.Encoding.{decoded, encoded};
 ghost use Rattle.cap_run.specs.Reads.{EndsReads, ShowsUnlessUnread};
-ghost use Rattle.cap_run.specs.Run.{on_a_line};
+ghost use Rattle.cap_interpreter.specs.Lines.{on_a_line};
 ghost use Rattle.cap_run.specs.RunFault.{input_fault, is_read, RunsNothing};
 
 use crate::RunFault;

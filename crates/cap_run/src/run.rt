@@ -1,19 +1,15 @@
 //! Runs a workload on one thread.
-ghost use Rattle.std.specs.Prelude.{◌≡◌, ◌⊎◌, ◌++◌, ◌∷◌, ◌≤◌, ℕ, List, [], length, IfSome, IfOk, IfErr};
-ghost use Rattle.std.specs.Prelude.{false, OnOk, OnErr, IsErrAnd, IsUtf8, string_bytes};
-ghost use Rattle.std.specs.Io.KnownBytes.{Appends};
-ghost use Rattle.cap_core.specs.Answer.{IsLegal, answer, event_by, reply_of, state};
+ghost use Rattle.std.specs.Prelude.{◌≡◌, ◌⊎◌, ◌<◌, ◌≤◌, List, [], IfSome, IfOk, IfErr, MatchResult, OnErr};
+ghost use Rattle.std.specs.Prelude.{false, length, true, IsErrAnd, IsUtf8, string_bytes};
 ghost use Rattle.cap_core.specs.Past.{HasRoom};
-ghost use Rattle.cap_core.specs.Transition.{next};
-ghost use Rattle.cap_core.specs.declared.event.Event.{Event};
-ghost use Rattle.cap_run.specs.Run.{AppendsFront, BeginsRun, EndsAt, IsRun, Writes, WritesInput};
-ghost use Rattle.cap_run.specs.Run.{ending, events_max, on_a_line, run_outcome};
+ghost use Rattle.cap_interpreter.specs.Lines.{events_max};
+ghost use Rattle.cap_run.specs.Code.Run.{HaveEnded, MayEnd, RunsNext};
+ghost use Rattle.cap_run.specs.Run.{BeginsRun, Writes, WritesInput, run_outcome};
 ghost use Rattle.cap_run.specs.Reads.{EndsReads};
 ghost use Rattle.cap_run.specs.RunFault.{exit_status, is_read, is_script, IsNoWorkload, IsOfText, IsUnread};
 ghost use Rattle.cap_run.specs.RunFault.{IsUnspelled};
 ghost use Rattle.cap_run.specs.Writes.{EndsWrites};
 ghost use Rattle.cap_script.specs.FirstRefused.{SpellsWithin};
-ghost use Rattle.cap_replies.specs.Printed.{HasRoomFor, IsMade, reply_text};
 ghost use Rattle.cap_replies.specs.Lines.{SpellsLines, SpellsRun, all_lines};
 ghost use Rattle.cap_replies.specs.declared.run_line.ReplyForm.{ReplyForm};
 ghost use Rattle.cap_replies.specs.declared.run_line.RunLine.{RunLine};
@@ -23,16 +19,19 @@ use crate::input::read_whole;
 use crate::output::{write_ending, write_long, write_pending};
 use crate::{RunFault, RunOutput};
 use cap_codec::Source;
-use cap_core::{Core, EVENTS_MAX, legal_histories_grow};
+use cap_core::EVENTS_MAX;
+use cap_interpreter::Interpreter;
 use cap_locked::CallFault;
-use cap_replies::{Printer, ReplyForm, RunLine, RunLines, append_made};
-use cap_value::{AllocHandle, Fault, OutOfMemory};
+use cap_replies::{ReplyForm, RunLine, RunLines};
+use cap_value::{AllocHandle, Fault};
 
-/// Runs the workload from the reader on a new server, one command after the other, and writes the replies.
+/// Runs the workload from the reader on a new server, one line after the other, and writes the replies. A
+/// transaction may go over several lines, with lines of others between them.
 ///
-/// The whole text is parsed before anything runs, and each line again when it runs, so at most one command is
-/// held beside the text. Where a command has no reply, or memory runs out, the replies before it are written,
-/// then its fault, and the run ends. A line that is refused for memory has not run.
+/// The whole text is parsed before anything runs. The first commands of a short text are held until they run,
+/// as `Lines` of `cap_script` has it; each other line is parsed again when it runs. Where a line has no reply, or
+/// memory runs out, the replies before it are written, then its fault, and the run ends. A line that is refused
+/// for memory has not run.
 ///
 /// The contracts say exactly which input is refused as not UTF-8, where it is known what the reader gives. A
 /// failed read and out of memory may come before any other answer. They say which other texts are refused,
@@ -69,8 +68,8 @@ pub fn run_core<A: AllocHandle, R: Source, W: RunOutput>(
     // Nothing is written where the input is refused.
     ensures silent { IfErr result (λ fault. exit_status fault ≡ 1 → writer.new ≡ writer.old) }
 
-    // The output is the replies of a legal history of the commands that the input spells, line by line, up to
-    // the end of the run.
+    // The output is the replies to the lines that the input spells, one after the other up to the end of the
+    // run, whose history is legal.
     ensures written { WritesInput A form (R.remaining reader.old) result
         (W.contents writer.old) (W.contents writer.new) }
 {
@@ -161,121 +160,59 @@ fn write_replies<A: AllocHandle, W: RunOutput>(
     pending: &mut String<A>,
 ) -> Result<Result<(), CallFault>, RunFault>
     requires { string_bytes pending.old ≡ [] }
-    ensures ok { (form : ReplyForm) → (spelled : List (RunLine A)) → SpellsRun spelled lines.old
-        → IfOk result (λ ended. (count : ℕ) × (written : List ℕ)
-        × EndsAt ended (length spelled) count
-        × IsRun form spelled count (Ok tt) (written ++ string_bytes pending.new)
-        × Appends (W.contents writer.old) (W.contents writer.new) written) }
+    ensures ok { (spelled : List (RunLine A)) → SpellsRun spelled lines.old → IfOk result (λ ended.
+        HaveEnded spelled ended (string_bytes pending.new) (W.contents writer.old) (W.contents writer.new)) }
     ensures err { (form : ReplyForm) → (spelled : List (RunLine A)) → SpellsRun spelled lines.old
         → IfErr result (λ fault. BeginsRun form spelled (W.contents writer.old) (W.contents writer.new)) }
     ensures write { IfErr result (λ fault. fault ≡ RunFault.Write) }
     ensures write_reported { EndsWrites W.went W.failed result writer.old writer.new }
 {
-    let mut core = Core::new(alloc);
+    let mut interpreter = Interpreter::new(alloc);
     let mut made = String::new(alloc);
     loop {
-        let line = match lines.next_line() {
-            Ok(Some(line)) => line,
-            Ok(None) => return Ok(Ok(())),
-            Err(_) => return Ok(Err(line_fault(&core))),
-        };
-        line.line.command.blob_fits();
-        match run_line(alloc, &mut core, &line, &mut made, pending) {
-            Ok(()) => {}
+        match run_next(alloc, &mut interpreter, lines, &mut made, pending) {
+            Ok(true) => {}
+            Ok(false) => return Ok(Ok(())),
             Err(fault) => return Ok(Err(fault)),
         }
         write_long(writer, pending)?;
     }
 }
 
-// The fault of a line that is out of memory. A full history comes first, and no call is overtaken.
-fn line_fault<A: AllocHandle>(core: &Core<A>) -> CallFault
-    ensures { MatchCallFault result (HasRoom core.now.events) (λ _. ⊥) (events_max ≤ core.now.events) }
+// Runs the next line, and appends its reply to `pending`. False behind the last line.
+fn run_next<A: AllocHandle>(
+    alloc: A,
+    interpreter: &mut Interpreter<A>,
+    lines: &mut RunLines<'_, A>,
+    made: &mut String<A>,
+    pending: &mut String<A>,
+) -> Result<bool, CallFault>
+    ensures next { (spelled : List (RunLine A)) → SpellsRun spelled lines.old → MatchResult result
+        (λ found. RunsNext found spelled lines.new interpreter.old interpreter.new
+        (string_bytes pending.old) (string_bytes pending.new))
+        (λ fault. MayEnd fault spelled interpreter.old) }
+    ensures same { OnErr result (string_bytes pending.new ≡ string_bytes pending.old) }
+    ensures left { IfOk result (λ found. found ≡ true → length lines.new.text < length lines.old.text) }
 {
-    if core.events() >= EVENTS_MAX {
+    let line = match lines.next_line() {
+        Ok(Some(line)) => line,
+        Ok(None) => return Ok(false),
+        Err(_) => return Err(line_fault(interpreter)),
+    };
+    match interpreter.run(alloc, &line, made, pending) {
+        Ok(()) => Ok(true),
+        Err(fault) => Err(fault),
+    }
+}
+
+// The fault of a line that is out of memory. A full history comes first, and no call is overtaken.
+fn line_fault<A: AllocHandle>(interpreter: &Interpreter<A>) -> CallFault
+    ensures { MatchCallFault result (HasRoom interpreter.now.core.events) (λ _. ⊥)
+        (events_max ≤ interpreter.now.core.events) }
+{
+    if interpreter.events() >= EVENTS_MAX {
         CallFault::HistoryFull
     } else {
         CallFault::OutOfMemory
-    }
-}
-
-// Runs a line's command. The reply is made in `made` and appended to `pending`, as a line, before the command
-// takes effect: a line without a reply has not run.
-pub(crate) fn run_line<A: AllocHandle>(
-    alloc: A,
-    core: &mut Core<A>,
-    line: &RunLine<A>,
-    made: &mut String<A>,
-    pending: &mut String<A>,
-) -> Result<(), CallFault>
-    ensures history { (h : List (Event A)) → IsLegal h → state h ≡ core.old → OnOk result (
-        (core.new ≡ state (h ++ event_by 0 line.now.line.command (reply_of h line.now.line.command) ∷ []))
-        × (string_bytes pending.new
-        ≡ string_bytes pending.old ++ on_a_line (reply_text line.now (reply_of h line.now.line.command)))) }
-    ensures room { OnOk result (HasRoom core.old.events) }
-    ensures full { IfErr result (λ fault.
-        MatchCallFault fault (HasRoom core.old.events) (λ _. ⊥) (events_max ≤ core.old.events)) }
-    ensures same { OnErr result (string_bytes pending.new ≡ string_bytes pending.old) }
-    ensures unchanged { OnErr result (core.new ≡ core.old) }
-{
-    legal_histories_grow::<A>();
-    if core.events() >= EVENTS_MAX {
-        return Err(CallFault::HistoryFull);
-    }
-    match run_command(alloc, core, line, made, pending) {
-        Ok(()) => Ok(()),
-        Err(_) => Err(CallFault::OutOfMemory),
-    }
-}
-
-// Runs a line's command, and appends its reply.
-fn run_command<A: AllocHandle>(
-    alloc: A,
-    core: &mut Core<A>,
-    line: &RunLine<A>,
-    made: &mut String<A>,
-    pending: &mut String<A>,
-) -> Result<(), OutOfMemory>
-    requires room { HasRoom core.old.events }
-    ensures ok { OnOk result ((core.new ≡ next core.old line.now.line.command)
-        × (string_bytes pending.new ≡ string_bytes pending.old
-        ++ on_a_line (reply_text line.now (answer core.old line.now.line.command)))) }
-    ensures err { OnErr result ((core.new ≡ core.old)
-        × (string_bytes pending.new ≡ string_bytes pending.old)) }
-{
-    match step_printing(&alloc, core, line, made, pending) {
-        Ok(()) => {
-            append_made(pending, made);
-            Ok(())
-        }
-        Err(_) => Err(OutOfMemory),
-    }
-}
-
-// Runs a line's command, with the hook that prints.
-fn step_printing<A: AllocHandle>(
-    alloc: &A,
-    core: &mut Core<A>,
-    line: &RunLine<A>,
-    made: &mut String<A>,
-    pending: &mut String<A>,
-) -> Result<(), OutOfMemory>
-    requires room { HasRoom core.old.events }
-    ensures ok { OnOk result ((core.new ≡ next core.old line.now.line.command)
-        × IsMade line.now (answer core.old line.now.line.command) made.new
-        × HasRoomFor made.new pending.new) }
-    ensures err { OnErr result (core.new ≡ core.old) }
-    ensures same { string_bytes pending.new ≡ string_bytes pending.old }
-{
-    let mut printer = Printer {
-        alloc,
-        line,
-        made,
-        output: pending,
-    };
-    match core.step(&line.line.command, &mut printer) {
-        Ok(_) => Ok(()),
-        Err(Fault::OutOfMemory) => Err(OutOfMemory),
-        Err(Fault::Refused(why)) => Err(why),
     }
 }

@@ -1,12 +1,12 @@
 //! Runs each line of an input as it is read.
-ghost use Rattle.std.specs.Prelude.{◌≡◌, ◌≤◌, ◌++◌, List, [], Err, Some, IfErr, IfOk, OnOk, codes, decimal};
+ghost use Rattle.std.specs.Prelude.{◌≡◌, ◌++◌, [], Err, Some, IfErr, IfOk, OnOk, codes, decimal};
 ghost use Rattle.std.specs.Prelude.{false};
 ghost use Rattle.std.specs.Prelude.{string_bytes};
 ghost use Rattle.std.specs.Io.KnownBytes.{Appends};
-ghost use Rattle.cap_core.specs.declared.event.Event.{Event};
-ghost use Rattle.cap_run.specs.Code.Shell.{HasAnswered, IsLeftBy, MatchEnd, MayEnd};
+ghost use Rattle.cap_interpreter.specs.Lines.{Course, IsAt, on_a_line};
+ghost use Rattle.cap_run.specs.Code.Shell.{HasAnswered, MatchEnd, MayEnd};
 ghost use Rattle.cap_run.specs.Reads.{EndsReads};
-ghost use Rattle.cap_run.specs.Run.{AppendsFront, ending, on_a_line};
+ghost use Rattle.cap_run.specs.Run.{AppendsFront, ending};
 ghost use Rattle.cap_run.specs.RunFault.{exit_status, is_read};
 ghost use Rattle.cap_run.specs.Shell.{WritesShell, outputs};
 ghost use Rattle.cap_run.specs.Writes.{EndsBoth, EndsWrites};
@@ -15,22 +15,22 @@ ghost use Rattle.cap_script.specs.ReadLine.{HasFault, IsFound};
 
 use crate::input::READS_MAX;
 use crate::output::{write_ending, write_output};
-use crate::run::run_line;
 use crate::unread::{ReadFault, Unread, next_line};
 use crate::{RunFault, RunOutput};
 use cap_codec::Source;
-use cap_core::Core;
+use cap_interpreter::Interpreter;
 use cap_locked::CallFault;
 use cap_replies::{ReplyForm, RunLine};
 use cap_script::{Line, ScriptFault, print_fault, read_line};
 use cap_value::{AllocHandle, Fault};
 
-/// Runs the lines from the reader on a new server, each as it is read. The reply to each is written and
-/// flushed before the next line is read.
+/// Runs the lines from the reader on a new server, each as it is read, as `run_core` runs those of a workload.
+/// The reply to each is written and flushed before the next line is read.
 ///
 /// The fault of a line that spells no command within the limits, or is not UTF-8, is written to `faults`, and
-/// the next line is read. A line that begins with `@K` is run as any other. Where a command has no reply, or
-/// memory runs out, the fault of that is written to `replies`, and the shell ends.
+/// the next line is read; an open transaction stays open. A line that begins with `@K` is run as any other.
+/// Where a line has no reply, or memory runs out, the fault of that is written to `replies`, and the shell
+/// ends.
 pub fn run_shell<A: AllocHandle, R: Source, W: RunOutput, E: RunOutput>(
     alloc: A,
     reader: &mut R,
@@ -44,13 +44,13 @@ pub fn run_shell<A: AllocHandle, R: Source, W: RunOutput, E: RunOutput>(
     // When a failed write is reported, as far as the outcomes of the writes are known.
     ensures write_reported { EndsBoth W.went W.failed E.went E.failed result
         replies.old replies.new faults.old faults.new }
-    // What is written is, line by line, the reply of a legal history to the command that the line spells, or
-    // the line's fault, with its number.
+    // What is written is the text of a run of the lines that spell a command, whose history is legal, and of
+    // each other line its fault, with its number.
     ensures written { WritesShell A (R.remaining reader.old) (R.remaining reader.new) result
         (outputs (W.contents replies.old) (E.contents faults.old))
         (outputs (W.contents replies.new) (E.contents faults.new)) }
 {
-    let mut core = Core::new(alloc);
+    let mut interpreter = Interpreter::new(alloc);
     let mut unread = Unread::new(alloc);
     let mut reads = READS_MAX;
     let mut number = 0u64;
@@ -64,7 +64,7 @@ pub fn run_shell<A: AllocHandle, R: Source, W: RunOutput, E: RunOutput>(
             return Ok(());
         };
         number += 1;
-        let printed = match answer_line(alloc, &mut core, number, line.as_slice()) {
+        let printed = match answer_line(alloc, &mut interpreter, number, line.as_slice()) {
             Ok(printed) => printed,
             Err(fault) => return end(replies, fault),
         };
@@ -121,16 +121,17 @@ fn end<W: RunOutput>(replies: &mut W, fault: CallFault) -> Result<(), RunFault>
 // Runs the line with this number.
 fn answer_line<A: AllocHandle>(
     alloc: A,
-    core: &mut Core<A>,
+    interpreter: &mut Interpreter<A>,
     number: u64,
     line: &[u8],
 ) -> Result<Printed<A>, CallFault>
-    ensures answered { (h : List (Event A)) → IsLeftBy h core.old → IfOk result (λ printed.
-        HasAnswered number line.now h core.new (string_bytes printed.reply) (string_bytes printed.fault)) }
-    ensures ended { IfErr result (λ fault. MayEnd fault core.old) }
+    ensures answered { (course : Course A) → IsAt course interpreter.old → IfOk result (λ printed.
+        HasAnswered number line.now course interpreter.new
+        (string_bytes printed.reply) (string_bytes printed.fault)) }
+    ensures ended { IfErr result (λ fault. MayEnd fault interpreter.old) }
 {
     match str::from_utf8(line) {
-        Ok(text) => answer_text(alloc, core, number, text),
+        Ok(text) => answer_text(alloc, interpreter, number, text),
         Err(_) => printed_not_utf8(alloc, number),
     }
 }
@@ -138,35 +139,36 @@ fn answer_line<A: AllocHandle>(
 // Runs the line with this number and this text.
 fn answer_text<A: AllocHandle>(
     alloc: A,
-    core: &mut Core<A>,
+    interpreter: &mut Interpreter<A>,
     number: u64,
     text: &str,
 ) -> Result<Printed<A>, CallFault>
-    ensures answered { (h : List (Event A)) → IsLeftBy h core.old → IfOk result (λ printed.
-        HasAnswered number text.now h core.new (string_bytes printed.reply) (string_bytes printed.fault)) }
-    ensures ended { IfErr result (λ fault. MayEnd fault core.old) }
+    ensures answered { (course : Course A) → IsAt course interpreter.old → IfOk result (λ printed.
+        HasAnswered number text.now course interpreter.new
+        (string_bytes printed.reply) (string_bytes printed.fault)) }
+    ensures ended { IfErr result (λ fault. MayEnd fault interpreter.old) }
 {
     match read_line(alloc, number, text) {
-        Ok(Some(line)) => answer_command(alloc, core, number, text, line),
+        Ok(Some(line)) => answer_command(alloc, interpreter, number, text, line),
         Ok(None) => Ok(nothing(alloc)),
-        Err(fault) => answer_refused(alloc, core, number, text, fault),
+        Err(fault) => answer_refused(alloc, interpreter, number, text, fault),
     }
 }
 
-// Runs the command of a line.
+// Runs a line that spells a command.
 fn answer_command<A: AllocHandle>(
     alloc: A,
-    core: &mut Core<A>,
+    interpreter: &mut Interpreter<A>,
     number: u64,
     text: &str,
     line: Line<A>,
 ) -> Result<Printed<A>, CallFault>
     requires found { IsFound (Some line) text.now }
-    ensures answered { (h : List (Event A)) → IsLeftBy h core.old → IfOk result (λ printed.
-        HasAnswered number text.now h core.new (string_bytes printed.reply) (string_bytes printed.fault)) }
-    ensures ended { IfErr result (λ fault. MayEnd fault core.old) }
+    ensures answered { (course : Course A) → IsAt course interpreter.old → IfOk result (λ printed.
+        HasAnswered number text.now course interpreter.new
+        (string_bytes printed.reply) (string_bytes printed.fault)) }
+    ensures ended { IfErr result (λ fault. MayEnd fault interpreter.old) }
 {
-    line.command.blob_fits();
     let line = RunLine {
         form: ReplyForm::Text,
         number,
@@ -174,7 +176,7 @@ fn answer_command<A: AllocHandle>(
     };
     let mut made = String::new(alloc);
     let mut reply = String::new(alloc);
-    match run_line(alloc, core, &line, &mut made, &mut reply) {
+    match interpreter.run(alloc, &line, &mut made, &mut reply) {
         Ok(()) => Ok(Printed {
             reply,
             fault: String::new(alloc),
@@ -186,14 +188,15 @@ fn answer_command<A: AllocHandle>(
 // Prints the fault of a line.
 fn answer_refused<A: AllocHandle>(
     alloc: A,
-    core: &Core<A>,
+    interpreter: &Interpreter<A>,
     number: u64,
     text: &str,
     fault: Fault<ScriptFault>,
 ) -> Result<Printed<A>, CallFault>
     requires fault { HasFault A number fault text.now }
-    ensures answered { (h : List (Event A)) → IsLeftBy h core.now → IfOk result (λ printed.
-        HasAnswered number text.now h core.now (string_bytes printed.reply) (string_bytes printed.fault)) }
+    ensures answered { (course : Course A) → IsAt course interpreter.now → IfOk result (λ printed.
+        HasAnswered number text.now course interpreter.now
+        (string_bytes printed.reply) (string_bytes printed.fault)) }
     ensures ended { IfErr result (λ fault. fault ≡ CallFault.OutOfMemory) }
 {
     match fault {

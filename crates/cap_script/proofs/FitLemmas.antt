@@ -2,24 +2,35 @@
 use Rattle.std.proofs.Common.{◌≡◌, ℕ, Bool, true, false, ◌&&◌, leb, List, [], ◌∷◌, length, Option, Some, Result, Ok, Err, refl, sym, subst, inl, inr}
 use Rattle.std.specs.Prelude.{All, ⊤}
 use Rattle.std.specs.List.{AllByRecursion, list_all}
-use Rattle.std.proofs.lemmas.List.Elements.{All-from_recursion}
+use Rattle.std.proofs.lemmas.List.Elements.{All-filter, All-from_recursion}
 use Rattle.hex.proofs.HexLemmas.{decode_of-ok}
 use Rattle.cap_value.specs.Bytes.{AreBytes, bytes_eq}
 use Rattle.cap_value.specs.declared.refusal.Refusal.TheVariants.{TooLong}
+use Rattle.cap_database.specs.declared.cause.Cause.TheVariants.{Direct}
+use Rattle.cap_database.specs.declared.op.Op.{Op}
 use Rattle.cap_codec.specs.BlobReading.{blob_at}
 use Rattle.cap_codec.specs.Spelling.{Spells as SpellsBlob}
 use Rattle.cap_codec.specs.declared.fault.BlobFault.{BlobFault}
 use Rattle.cap_codec.specs.declared.read.Contents.{Contents}
+use Rattle.cap_codec.specs.declared.read.Contents.TheVariants.{Changes, Patches}
+use Rattle.cap_changes.specs.Entries.{IsFitting}
+use Rattle.cap_changes.specs.Fits.{change_fits, patch_fits}
+use Rattle.cap_filter.specs.Accepts.{accepts}
+use Rattle.cap_filter.specs.Rule.{Rule}
 use Rattle.cap_apply.specs.Fitting.{FitsItsColumns}
+use Rattle.cap_apply.specs.declared.policy.Policy.{Policy}
 use Rattle.cap_core.specs.declared.command.Command.TheVariants.{Apply}
 use Rattle.cap_core.specs.Table.{BlobFits}
 use Rattle.cap_language.specs.Forms.{Words, a_blob, behind, either, one_of}
 use Rattle.cap_language.specs.Grammar.{Grammar, Spells, exceeds, unfit}
 use Rattle.cap_language.specs.Tokens.{Begins, Blob, Integer, Text, Token, Word}
-use Rattle.cap_script.specs.Language.{Filtered, Opening, alone, apply_quiet, applying, attach, changeset, command, commands, commit, commit_at, contents, contents_of, create, diff, drop_database, dump, enable, ending, get, indirect, numbered, opening, patchset, restart, save, scan, with_alone, with_numbered}
-use Rattle.cap_script.specs.Script.{Closes, LineSpelled, LinesSpelled, ScriptSpelled, SpellsLine, SpellsScript}
+use Rattle.cap_script.specs.Language.{Filtered, Opening, alone, application, apply_quiet, applying, attach, called, cascaded, changeset, command, commands, commit, commit_at, contents, contents_of, create, delete, diff, drop_database, dump, enable, ending, get, indirect, insert, numbered, opening, patchset, restart, rollback, save, scan, update, with_alone, with_numbered}
+use Rattle.cap_script.specs.Script.{Closes, LineSpelled, LinesSpelled, ScriptSpelled, SpellsLine, SpellsScript, filtered_command}
+use Rattle.cap_script.specs.declared.command.Filtering.{Filtering}
+use Rattle.cap_script.specs.declared.command.Filtering.TheVariants.{Application, Session}
 use Rattle.cap_script.specs.declared.command.Spelled.{Spelled}
 use Rattle.cap_script.specs.declared.command.Spelled.TheVariants.{Filter, Whole}
+use Rattle.cap_script.specs.declared.line.Detail.{Detail}
 use Rattle.cap_script.specs.declared.line.Line.{Line}
 
 -- all that the grammar makes
@@ -42,7 +53,8 @@ module _ {A : Type 0} (fit : (blob : Contents A) (bytes : List ℕ) → SpellsBl
   -- what a command is known to be
   abbrev Fits : Spelled A → Type 0
   Fits (Whole command show) = BlobFits command
-  Fits (Filter session) = ⊤
+  Fits (Filter (Session session)) = ⊤
+  Fits (Filter (Application blob policy quiet detail)) = FitsItsColumns blob
 
   blob-fits : (bytes : List ℕ) → AreBytes bytes → (r : Result (Contents A) BlobFault) → blob_at bytes ≡ r → Makes (FitsItsColumns {A = A}) (contents_of r)
   blob-fits bytes are (Ok blob) is x line rest made = subst FitsItsColumns (sym made.0) (fit blob bytes (spelled bytes blob are is))
@@ -64,9 +76,14 @@ module _ {A : Type 0} (fit : (blob : Contents A) (bytes : List ℕ) → SpellsBl
   contents-fit x line rest (token, bytes, between, begun, wanted, made) =
       short-fits bytes (token-fits token bytes _ between begun wanted) (leb (length bytes) 1000000000) x between rest made
 
+  application-fits : (blob : Contents A) (policy : Policy) (quiet : List ℕ) (detail : Detail × Bool) → FitsItsColumns blob → Fits (application blob policy quiet detail)
+  application-fits blob policy quiet (detail, false) fits = fits
+  application-fits blob policy quiet (detail, true) fits = fits
+
   apply-fits : (quiet : List ℕ) → Makes Fits (applying quiet)
   unfolding applying
-  apply-fits quiet x line rest (blob, a, made, (policy, b, p, (show, c, q, e))) = subst Fits (sym e.0) (contents-fit blob line a made)
+  apply-fits quiet x line rest (blob, a, made, (policy, b, p, (detail, c, q, e))) =
+      subst Fits (sym e.0) (application-fits blob policy quiet detail (contents-fit blob line a made))
 
   apply_quiet-fits : Makes Fits apply_quiet
   unfolding apply_quiet
@@ -134,6 +151,13 @@ module _ {A : Type 0} (fit : (blob : Contents A) (bytes : List ℕ) → SpellsBl
   unfolding dump
   dump-fits x line rest (flags, a, p, e) = subst Fits (sym e.0) tt
 
+  called-fits : (operation : Grammar (Op A)) → Makes Fits (called operation)
+  called-fits operation x line rest (op, a, p, e) = subst Fits (sym e.0) tt
+
+  rollback-fits : Makes Fits rollback
+  unfolding rollback
+  rollback-fits x line rest (taken, a, p, e) = subst Fits (sym e.0) tt
+
   -- ---- lines
 
   either-fits : (b : Bool) (first second : Grammar (Spelled A)) → Makes Fits first → Makes Fits second → Makes Fits (either b (behind first) second)
@@ -153,10 +177,12 @@ module _ {A : Type 0} (fit : (blob : Contents A) (bytes : List ℕ) → SpellsBl
   -- no blob is applied
   abbrev has_no_blob : Spelled A → Bool
   has_no_blob (Whole (Apply blob policy quiet) show) = false
+  has_no_blob (Filter (Application blob policy quiet detail)) = false
   has_no_blob _ = true
 
   said-fits : (said : Spelled A) → has_no_blob said ≡ true → Fits said
   said-fits (Whole (Apply blob policy quiet) show) is = cc
+  said-fits (Filter (Application blob policy quiet detail)) is = cc
   said-fits _ is = tt
 
   numbered-fit : (words : List (List ℕ × (ℕ → Spelled A))) (others : Words (Spelled A)) → ((session : ℕ) → list_all (λ word. has_no_blob (word.1 session)) words ≡ true) → AreFit others → AreFit (with_numbered words others)
@@ -206,7 +232,22 @@ module _ {A : Type 0} (fit : (blob : Contents A) (bytes : List ℕ) → SpellsBl
                                 patchset-fits,
                                 (
                                   restart-fits,
-                                  (dump-fits, numbered-fit numbered (with_alone alone []) (λ _. refl) (alone-fit alone [] refl tt)),
+                                  (
+                                    dump-fits,
+                                    (
+                                      called-fits (insert Direct),
+                                      (
+                                        called-fits (update Direct),
+                                        (
+                                          called-fits (delete Direct),
+                                          (
+                                            called-fits cascaded,
+                                            (rollback-fits, numbered-fit numbered (with_alone alone []) (λ _. refl) (alone-fit alone [] refl tt)),
+                                          ),
+                                        ),
+                                      ),
+                                    ),
+                                  ),
                                 ),
                               ),
                             ),
@@ -228,13 +269,19 @@ module _ {A : Type 0} (fit : (blob : Contents A) (bytes : List ℕ) → SpellsBl
   unfolding command
   command-fits x line rest (token, w, between, begun, wanted, made) = commands-fit w x between rest made
 
+  -- what a filter accepts of a blob fits as the blob does
+  filtered-fits : (what : Filtering A) (filter : Rule) → Fits (Filter what) → BlobFits (filtered_command what filter)
+  filtered-fits (Session session) filter fits = tt
+  filtered-fits (Application (Changes list) policy quiet detail) filter fits = All-filter (λ group. accepts filter group.table) (λ group. IsFitting change_fits group) list fits
+  filtered-fits (Application (Patches list) policy quiet detail) filter fits = All-filter (λ group. accepts filter group.table) (λ group. IsFitting patch_fits group) list fits
+
   closed-fits : (w : Option ℕ) (said : Spelled A) (line : Line A) (opened : Opening A) (between rest : List ℕ) → Fits said → Spells false (ending w said) opened between rest → Closes false line opened rest → BlobFits line.command
   closed-fits w (Whole command show) line opened between rest fits (unit, behind, end, is) closes =
       let closes_too : line ≡ record { worker = w; command = command; show = show } = rw is.0 at closes in
       subst (λ (l : Line A). BlobFits l.command) (sym closes_too) fits
-  closed-fits w (Filter session) line opened between rest fits is closes =
-      let closes_too : Closes false line (Filtered w session) rest = rw is.0 at closes in
-      subst (λ (l : Line A). BlobFits l.command) (sym closes_too.3) tt
+  closed-fits w (Filter what) line opened between rest fits is closes =
+      let closes_too : Closes false line (Filtered w what) rest = rw is.0 at closes in
+      subst (λ (l : Line A). BlobFits l.command) (sym closes_too.3) (filtered-fits what closes_too.0 fits)
 
   line-fits : (line : Line A) (text : List ℕ) → SpellsLine line text → BlobFits line.command
   unfolding LineSpelled opening

@@ -4,6 +4,7 @@ mod CutLemmas
 mod FilterSize
 mod FirstLemmas
 mod FitLemmas
+mod KeptLemmas
 mod LineLaws
 mod LineLemmas
 mod NoLines

@@ -22,6 +22,7 @@ use Rattle.cap_script.specs.Language.{Ended, Filtered, Opening, command, ending,
 use Rattle.cap_script.specs.LineFaults.{FaultIs, MakesUnlessMemory, closed, filter_fault, filter_read, line_fault, line_of_text, with_filter}
 use Rattle.cap_script.specs.RefusedLines.{Leaves, NoLine}
 use Rattle.cap_script.specs.Script.{Closes, LineSpelled, filter_line, is_ignored}
+use Rattle.cap_script.specs.declared.command.Filtering.{Filtering}
 use Rattle.cap_script.specs.declared.command.Spelled.{Spelled}
 use Rattle.cap_script.specs.declared.command.Spelled.TheVariants.{Filter, Whole}
 use Rattle.cap_script.specs.declared.line.Line.{Line}
@@ -102,15 +103,15 @@ begun_worker limits w text between (inr (none, is)) = none ∙ sym (ap is_some i
 module _ {A : Type 0} where
   -- ---- what is read is spelled within the limits
 
-  filter_closed : FilterIsSpelled → (w : Option ℕ) (session : ℕ) (rest : List ℕ) (line : Line A) (read : Result Rule Refusal) → filter_of rest ≡ read → with_filter A w session (filter_read rest read) ≡ Ok line → Closes true line (Filtered w session) rest
-  filter_closed law w session rest line (Ok filter) is e = (filter, law rest filter is, λ limits. read_within rest filter is, sym (same_made (filter_line w session filter) line e))
-  filter_closed law w session rest line (Err why) is e = absurd cc
+  filter_closed : FilterIsSpelled → (w : Option ℕ) (what : Filtering A) (rest : List ℕ) (line : Line A) (read : Result Rule Refusal) → filter_of rest ≡ read → with_filter A w what (filter_read rest read) ≡ Ok line → Closes true line (Filtered w what) rest
+  filter_closed law w what rest line (Ok filter) is e = (filter, law rest filter is, λ limits. read_within rest filter is, sym (same_made (filter_line w what filter) line e))
+  filter_closed law w what rest line (Err why) is e = absurd cc
 
   read_closed : FilterIsSpelled → (text : List ℕ) (line : Line A) (r : Read (Opening A)) → read opening text ≡ r → closed A r ≡ Ok line → LineSpelled true line text
   unfolding LineSpelled
   read_closed law text line (Ok (Ended whole, rest)) is e = (Ended whole, rest, spelled true opening text text (Ended whole) rest is, sym (same_made whole line e))
-  read_closed law text line (Ok (Filtered w session, rest)) is e =
-      (Filtered w session, rest, spelled true opening text text (Filtered w session) rest is, filter_closed law w session rest line (filter_of rest) refl e)
+  read_closed law text line (Ok (Filtered w what, rest)) is e =
+      (Filtered w what, rest, spelled true opening text text (Filtered w what) rest is, filter_closed law w what rest line (filter_of rest) refl e)
   read_closed law text line (Err fault) is e = absurd cc
 
   pub line_is_spelled : FilterIsSpelled → (text : List ℕ) (line : Line A) → line_of_text A text ≡ Ok line → LineSpelled true line text
@@ -121,8 +122,8 @@ module _ {A : Type 0} where
 
   closed_read : FilterIsRead → (line : Line A) (opened : Opening A) (rest : List ℕ) → Closes true line opened rest → closed A (Ok (opened, rest)) ≡ Ok line
   closed_read law line (Ended whole) rest closes = ap made (sym closes)
-  closed_read law line (Filtered w session) rest (filter, spells, within, is) =
-      ap (λ (r : Result Rule Refusal). with_filter A w session (filter_read rest r)) (law rest filter spells (within refl)) ∙ ap made (sym is)
+  closed_read law line (Filtered w what) rest (filter, spells, within, is) =
+      ap (λ (r : Result Rule Refusal). with_filter A w what (filter_read rest r)) (law rest filter spells (within refl)) ∙ ap made (sym is)
 
   pub line_is_read : FilterIsRead → (text : List ℕ) (line : Line A) → LineSpelled true line text → line_of_text A text ≡ Ok line
   unfolding LineSpelled line_of_text
@@ -133,7 +134,7 @@ module _ {A : Type 0} where
 
   closes_free : (line : Line A) (opened : Opening A) (rest : List ℕ) → Closes true line opened rest → Closes false line opened rest
   closes_free line (Ended whole) rest closes = closes
-  closes_free line (Filtered w session) rest (filter, spells, within, is) = (filter, spells, λ limits. absurd cc, is)
+  closes_free line (Filtered w what) rest (filter, spells, within, is) = (filter, spells, λ limits. absurd cc, is)
 
   pub line_free : (line : Line A) (text : List ℕ) → LineSpelled true line text → LineSpelled false line text
   unfolding LineSpelled
@@ -151,8 +152,8 @@ module _ {A : Type 0} where
 
   one_closed : OneFilter → (a b : Line A) (opened : Opening A) (rest : List ℕ) → Closes false a opened rest → Closes false b opened rest → a ≡ b
   one_closed law a b (Ended whole) rest p q = p ∙ sym q
-  one_closed law a b (Filtered w session) rest (f, f_spells, f_within, f_is) (g, g_spells, g_within, g_is) =
-      f_is ∙ ap (filter_line w session) (law rest f g f_spells g_spells) ∙ sym g_is
+  one_closed law a b (Filtered w what) rest (f, f_spells, f_within, f_is) (g, g_spells, g_within, g_is) =
+      f_is ∙ ap (filter_line w what) (law rest f g f_spells g_spells) ∙ sym g_is
 
   pub one_line : OneFilter → (a b : Line A) (text : List ℕ) → LineSpelled false a text → LineSpelled false b text → a ≡ b
   unfolding LineSpelled
@@ -165,10 +166,10 @@ module _ {A : Type 0} where
   over_limits : FilterIsRead → (text : List ℕ) (line : Line A) (fault : LineFault) → line_of_text A text ≡ Err fault → LineSpelled true line text → ⊥
   over_limits law text line fault is within = let bad = sym is ∙ line_is_read law text line within in absurd cc
 
-  filter_refused : FilterIsRead → FilterIsUnfit → (text rest : List ℕ) (line : Line A) (w : Option ℕ) (session : ℕ) (fault : LineFault) (view : Result Rule Refusal) → filter_of rest ≡ view → with_filter A w session (filter_read rest view) ≡ Err fault
+  filter_refused : FilterIsRead → FilterIsUnfit → (text rest : List ℕ) (line : Line A) (w : Option ℕ) (what : Filtering A) (fault : LineFault) (view : Result Rule Refusal) → filter_of rest ≡ view → with_filter A w what (filter_read rest view) ≡ Err fault
       → line_of_text A text ≡ Err fault → (filter : Rule) → SpellsFilter rest filter → Leaves fault (LineSpelled true line text)
-  filter_refused law unfit text rest line w session fault (Ok filter) view_is e is given spells = absurd cc
-  filter_refused law unfit text rest line w session fault (Err why) view_is e is given spells =
+  filter_refused law unfit text rest line w what fault (Ok filter) view_is e is given spells = absurd cc
+  filter_refused law unfit text rest line w what fault (Err why) view_is e is given spells =
       subst (λ (f : LineFault). Leaves f (LineSpelled true line text)) (same_fault {X = Line A} (filter_fault rest why) fault e)
       (filter_left rest why (LineSpelled true line text) (λ at why_is. unfit_none rest at (unfit rest at (view_is ∙ ap (λ (r : Refusal). Err r) why_is)) given spells) (over_limits law text line fault is))
 
@@ -176,10 +177,10 @@ module _ {A : Type 0} where
       → Leaves fault (LineSpelled true line text)
   unfolding LineSpelled
   closed_left law unfit text line fault (Ok (Ended whole, rest)) read_is e is spells = absurd cc
-  closed_left law unfit text line fault (Ok (Filtered w session, rest)) read_is e is (opened, behind, spells, closes) =
-      let same = one_value false opening text (Filtered w session) opened rest behind (within_free opening (Filtered w session) text rest (spelled true opening text text (Filtered w session) rest read_is)) spells in
-      let closes_too : Closes false line (Filtered w session) rest = subst (λ (o : Opening A). Closes false line o rest) (sym same.0) (subst (λ (r : List ℕ). Closes false line opened r) (sym same.1) closes) in
-      filter_refused law unfit text rest line w session fault (filter_of rest) refl e is closes_too.0 closes_too.1
+  closed_left law unfit text line fault (Ok (Filtered w what, rest)) read_is e is (opened, behind, spells, closes) =
+      let same = one_value false opening text (Filtered w what) opened rest behind (within_free opening (Filtered w what) text rest (spelled true opening text text (Filtered w what) rest read_is)) spells in
+      let closes_too : Closes false line (Filtered w what) rest = subst (λ (o : Opening A). Closes false line o rest) (sym same.0) (subst (λ (r : List ℕ). Closes false line opened r) (sym same.1) closes) in
+      filter_refused law unfit text rest line w what fault (filter_of rest) refl e is closes_too.0 closes_too.1
   closed_left law unfit text line fault (Err stop) read_is e is (opened, behind, spells, closes) =
       let fault_is = same_fault {X = Line A} stop fault e in
       leaves_spelled fault (Spells true opening opened text behind) (LineSpelled true line text)
@@ -219,8 +220,8 @@ module _ {A : Type 0} where
   closed_worker limits w (Whole command show) line opened between rest (x, behind, end, is) closes =
       let closes_too : line ≡ record { worker = w; command = command; show = show } = rw is.0 at closes in
       ap (λ (l : Line A). l.worker) closes_too
-  closed_worker limits w (Filter session) line opened between rest is closes =
-      let closes_too : Closes limits line (Filtered w session) rest = rw is.0 at closes in
+  closed_worker limits w (Filter what) line opened between rest is closes =
+      let closes_too : Closes limits line (Filtered w what) rest = rw is.0 at closes in
       ap (λ (l : Line A). l.worker) closes_too.3
 
   pub line_worker : (limits : Bool) (line : Line A) (text : List ℕ) → LineSpelled limits line text → begins (λ byte. eqb byte 64) (behind_blanks text) ≡ is_some line.worker

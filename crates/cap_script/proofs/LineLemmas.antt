@@ -151,6 +151,16 @@ module _ {A : Type 0} (limits : Bool) where
       first_by line others said (inl spelled) = absurd cc
       first_by line others said (inr spelled) = spelled.0
 
+  -- what is behind a first line spells the others
+  pub behind_first : (x : Line A) (lines : List (Line A)) (text line rest : List ℕ) → IsCut text line rest → is_ignored line ≡ false → ScriptSpelled limits (x ∷ lines) text → ScriptSpelled limits lines rest
+  behind_first x lines text line rest cut said spelled =
+      let parts = by_first (x ∷ lines) text line rest cut spelled in
+      others_by line parts.0 said parts.1 parts.2
+    where
+      others_by : (line : List ℕ) (others : List (List ℕ)) → is_ignored line ≡ false → AreBehind others rest → LinesSpelled limits (x ∷ lines) (line ∷ others) → ScriptSpelled limits lines rest
+      others_by line others said are (inl spelled) = absurd cc
+      others_by line others said are (inr spelled) = behind lines others rest are spelled.1
+
 module _ {A : Type 0} where
   -- ---- a text spells one workload
 

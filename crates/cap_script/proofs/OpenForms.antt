@@ -21,18 +21,23 @@ use Rattle.cap_filter.specs.Printed.{quote}
 use Rattle.cap_apply.specs.declared.policy.Answer.{Answer}
 use Rattle.cap_apply.specs.declared.policy.Answer.TheVariants.{Omit, Replace, Abort}
 use Rattle.cap_apply.specs.declared.policy.Policy.{Policy}
+use Rattle.cap_txn.specs.declared.look.Asked.TheVariants as asked
 use Rattle.cap_core.specs.declared.command.Command.{Command}
 use Rattle.cap_core.specs.declared.command.Command.TheVariants as made
 use Rattle.cap_language.specs.Forms.{Words, a_blob, a_word, either, keyword, name, natural, one_of, separated, sign, value, values}
 use Rattle.cap_language.specs.Grammar.{Grammar, done, exceeds, follows, next, read, read_at, unfit}
 use Rattle.cap_language.specs.Tokens.{Blob, Word}
 use Rattle.cap_language.proofs.FormLaws.{eats_keyword, form_keyword, form_name, form_natural, form_value, form_values, goes_44, goes_59}
-use Rattle.cap_script.specs.Language.{alone, answer, apply_quiet, applying, attach, batch, cascaded, changeset, columns, commands, commit, commit_at, contents, contents_of, create, delete, diff, drop_database, dump, enable, field, fields, flag, flags_in, get, indirect, insert, key_flags, nth_operation, numbered, numbers, operation, operations, patchset, policy, report, restart, row, row_of, save, scan, schema, update, with_alone, with_numbered}
+use Rattle.cap_script.specs.Language.{alone, answer, application, apply_quiet, applying, attach, back, batch, called, cascaded, changeset, columns, commands, commit, commit_at, contents, contents_of, create, delete, diff, drop_database, dump, enable, field, fields, filter_behind, flag, flags_in, get, indirect, insert, key_flags, nth_operation, numbered, numbers, operation, operations, patchset, policy, report, restart, rollback, row, row_of, save, scan, schema, spelled_step, update, with_alone, with_numbered}
 use Rattle.cap_script.specs.declared.command.Spelled.{Spelled}
 use Rattle.cap_script.specs.declared.command.Spelled.TheVariants.{Filter, Whole}
+use Rattle.cap_script.specs.declared.line.Detail.{Detail}
+use Rattle.cap_script.specs.declared.line.Detail.TheVariants.{Buffer, Counts, Report}
 use Rattle.cap_script.specs.declared.line.Show.{Show}
 use Rattle.cap_script.specs.declared.line.Show.TheVariants as show
-use Rattle.cap_language.proofs.OpenGrammars.{AreOpen, Form, Last, blob_token, eats_map, eats_next, finish_full, form_both, form_map, form_next, form_separated, form_sign, kind_done, kind_either, kind_exceeds, kind_no_blob, kind_one_of, kind_unfit, kind_within, last_both, last_end, last_form, last_map, open_limit, sample_fits, sample_then, word_token}
+use Rattle.cap_script.specs.declared.step.Step.{Step}
+use Rattle.cap_script.specs.declared.step.Step.TheVariants as step
+use Rattle.cap_language.proofs.OpenGrammars.{AreOpen, Form, Last, blob_token, eats_follows, eats_map, eats_next, finish_full, form_both, form_map, form_next, form_separated, form_sign, kind_done, kind_either, kind_exceeds, kind_no_blob, kind_one_of, kind_unfit, kind_within, last_both, last_end, last_form, last_map, last_next, last_or, open_limit, sample_fits, sample_then, word_token}
 use Rattle.cap_language.proofs.OpenLaws.{Nothing, Nothings, Open, OpenKind, Tail, Tails, nothing_tail, open_done, open_next, same_tail}
 
 -- ---- columns and flags
@@ -80,6 +85,36 @@ form_places = form_map (keyword (codes "places")) (λ u. Places) (form_keyword 1
 last_key_flags : Last Nothings key_flags
 unfolding key_flags
 last_key_flags = last_end Ones (follows (keyword (codes "places")) (λ u. done Places)) form_places (eats_map (keyword (codes "places")) (λ u. Places) (eats_keyword (codes "places")))
+
+-- ---- how an application ends
+
+-- what may follow it: nothing, where no filter does
+module _ (T : Detail × Bool → List ℕ → Type 0) (tails : (made : Detail × Bool) (line : List ℕ) → T made line → Tail line) (ended : (detail : Detail) (line : List ℕ) → T (detail, false) line → Nothing line) where
+  abbrev filter_word : Detail → Grammar (Detail × Bool)
+  filter_word detail = follows (keyword (codes "filter")) (λ u. done (detail, true))
+
+  form_filter_word : (detail : Detail) → Form (filter_word detail)
+  form_filter_word detail = form_map (keyword (codes "filter")) (λ u. (detail, true)) (form_keyword 102 (105 ∷ 108 ∷ 116 ∷ 101 ∷ 114 ∷ []) refl refl refl refl refl refl)
+
+  last_filter_behind : (detail : Detail) → Last T (filter_behind detail)
+  unfolding filter_behind
+  last_filter_behind detail =
+      last_or T (detail, false) (ended detail) (filter_word detail) (last_form T tails (filter_word detail) (form_filter_word detail))
+      (eats_map (keyword (codes "filter")) (λ u. (detail, true)) (eats_keyword (codes "filter")))
+
+  abbrev report_words : Words (Detail × Bool)
+  report_words = (codes "report", filter_behind Report) ∷ (codes "buffer", filter_behind Buffer) ∷ (codes "filter", done (Counts, true)) ∷ []
+
+  last_report_word : Last T (next a_word (one_of report_words))
+  last_report_word =
+      let a = last_filter_behind Report in
+      let b = last_filter_behind Buffer in
+      last_next T tails a_word (one_of report_words) (kind_one_of T report_words (a.inner, (b.inner, (open_done T (Counts, true), tt))))
+      (sample_fits a_word (one_of report_words) (Word (codes "filter")) 102 (105 ∷ 108 ∷ 116 ∷ 101 ∷ 114 ∷ []) (codes "filter") refl refl (word_token 102 (105 ∷ 108 ∷ 116 ∷ 101 ∷ 114 ∷ []) refl refl refl) refl (Counts, true) (λ before line. refl))
+
+  last_report : Last T report
+  unfolding report
+  last_report = last_or T (Counts, false) (ended Counts) (next a_word (one_of report_words)) last_report_word (eats_next a_word (one_of report_words))
 
 -- the text of a filter, behind a space
 abbrev pub filter_text : List ℕ
@@ -205,28 +240,16 @@ module _ {A : Type 0} where
       form_next a_blob of_bytes (λ bytes. kind_either Tails (leb (length bytes) 1000000000) (contents_of (blob_at bytes)) (exceeds TooLong unfit) (blob_kind (blob_at bytes)) (kind_exceeds Tails TooLong unfit))
       (sample_fits a_blob of_bytes (Blob []) 120 (quote ∷ (quote ∷ [])) [] refl refl blob_token refl (Changes []) empty_blob)
 
-  abbrev report_words : Words (Show A)
-  report_words = (codes "report", done show.Report) ∷ (codes "buffer", done show.Buffer) ∷ []
-
-  form_report_word : Form (next a_word (one_of report_words))
-  form_report_word =
-      form_next a_word (one_of report_words) (kind_one_of Tails report_words (open_done Tails show.Report, (open_done Tails show.Buffer, tt)))
-      (sample_fits a_word (one_of report_words) (Word (codes "report")) 114 (101 ∷ 112 ∷ 111 ∷ 114 ∷ 116 ∷ []) (codes "report") refl refl (word_token 114 (101 ∷ 112 ∷ 111 ∷ 114 ∷ 116 ∷ []) refl refl refl) refl show.Report (λ before line. refl))
-
-  last_report : Last Nothings (report {A = A})
-  unfolding report
-  last_report = last_end show.Plain (next a_word (one_of report_words)) form_report_word (eats_next a_word (one_of report_words))
-
   -- ---- what may follow a command
 
-  -- nothing behind a whole command, and behind a session's number the text of a filter
+  -- nothing behind a whole command, or the text of a filter
   abbrev pub Closing : Spelled A → List ℕ → Type 0
   Closing (Whole command show) line = Nothing line
-  Closing (Filter session) line = line ≡ filter_text
+  Closing (Filter what) line = line ≡ filter_text
 
   pub closing_tail : (said : Spelled A) (line : List ℕ) → Closing said line → Tail line
   closing_tail (Whole command show) line nil = nothing_tail line nil
-  closing_tail (Filter session) line is = rw is (refl, refl)
+  closing_tail (Filter what) line is = rw is (refl, refl)
 
   -- ---- commands
 
@@ -255,9 +278,10 @@ module _ {A : Type 0} where
   last_applying : (quiet : List ℕ) → Last Closing (applying {A = A} quiet)
   unfolding applying
   last_applying quiet =
-      last_both Closing closing_tail contents (λ blob. follows policy (λ policy. follows report (λ report. done (Whole (made.Apply blob policy quiet) report)))) form_contents
-      (λ blob. last_both Closing closing_tail policy (λ policy. follows report (λ report. done (Whole (made.Apply blob policy quiet) report))) form_policy
-      (λ policy. last_map Closing report (λ report. Whole (made.Apply blob policy quiet) report) last_report))
+      last_both Closing closing_tail contents (λ blob. follows policy (λ policy. follows report (λ detail. done (application blob policy quiet detail)))) form_contents
+      (λ blob. last_both Closing closing_tail policy (λ policy. follows report (λ detail. done (application blob policy quiet detail))) form_policy
+      (λ policy. last_map Closing report (application blob policy quiet)
+      (last_report (λ detail. Closing (application blob policy quiet detail)) (λ detail. closing_tail (application blob policy quiet detail)) (λ detail line nil. nil))))
 
   open_apply : Open Closing (read (applying {A = A} []))
   open_apply = let last = last_applying [] in last.inner
@@ -335,6 +359,34 @@ module _ {A : Type 0} where
   unfolding dump
   open_dump = let last = last_map Closing key_flags (λ flags. Whole made.Dump (show.Changeset flags)) last_key_flags in last.inner
 
+  -- ---- steps of a transaction
+
+  open_called : (operation : Grammar (Op A)) → Form operation → Open Closing (read (called operation))
+  open_called operation form =
+      closing (follows operation (λ op. done (spelled_step (step.Call (asked.Op op)))))
+      (form_map operation (λ op. spelled_step (step.Call (asked.Op op))) form)
+
+  abbrev back_to : ℕ → Step A
+  back_to number = step.Call (asked.BackTo (record { number = number }))
+
+  abbrev to_savepoint : Grammar (Step A)
+  to_savepoint = follows (keyword (codes "to")) (λ u. follows natural (λ number. done (back_to number)))
+
+  form_to_savepoint : Form to_savepoint
+  form_to_savepoint =
+      form_both (keyword (codes "to")) (λ u. follows natural (λ number. done (back_to number))) (form_keyword 116 (111 ∷ []) refl refl refl refl refl refl)
+      (λ u. form_map natural back_to form_natural)
+
+  last_back : Last Nothings (back {A = A})
+  unfolding back
+  last_back =
+      last_end step.Rollback to_savepoint form_to_savepoint
+      (eats_follows (keyword (codes "to")) (λ u. follows natural (λ number. done (back_to number))) (eats_keyword (codes "to")))
+
+  open_rollback : Open Closing (read (rollback {A = A}))
+  unfolding rollback
+  open_rollback = let last = last_map Closing back spelled_step last_back in last.inner
+
   open_numbered : (words : List (List ℕ × (ℕ → Spelled A))) (others : Words (Spelled A)) → AreOpen Closing others → AreOpen Closing (with_numbered words others)
   open_numbered [] others all = all
   open_numbered ((w, of_session) ∷ words) others all = (open_session of_session, open_numbered words others all)
@@ -376,7 +428,22 @@ module _ {A : Type 0} where
                                 open_patchset,
                                 (
                                   open_restart,
-                                  (open_dump, open_numbered numbered (with_alone alone []) (open_alone alone [] tt)),
+                                  (
+                                    open_dump,
+                                    (
+                                      open_called (insert Direct) (form_insert Direct),
+                                      (
+                                        open_called (update Direct) (form_update Direct),
+                                        (
+                                          open_called (delete Direct) (form_delete Direct),
+                                          (
+                                            open_called cascaded form_cascaded,
+                                            (open_rollback, open_numbered numbered (with_alone alone []) (open_alone alone [] tt)),
+                                          ),
+                                        ),
+                                      ),
+                                    ),
+                                  ),
                                 ),
                               ),
                             ),

@@ -21,6 +21,7 @@ use Rattle.cap_language.proofs.TokenLaws.{blanks_twice, found_some}
 use Rattle.cap_script.specs.FaultPlace.{BeginsLine, HasSyntaxFault, ReachesFilter}
 use Rattle.cap_script.specs.Language.{Ended as Whole_line, Filtered, Opening, command, commands, ending, opening}
 use Rattle.cap_script.specs.LineFaults.{filter_read, line_fault, line_of_text, with_filter}
+use Rattle.cap_script.specs.declared.command.Filtering.{Filtering}
 use Rattle.cap_script.specs.declared.command.Spelled.{Spelled}
 use Rattle.cap_script.specs.declared.command.Spelled.TheVariants.{Filter, Whole}
 use Rattle.cap_script.specs.declared.line.Show.{Show}
@@ -215,14 +216,14 @@ module _ (A : Type 0) where
   end_read : (rest : List ℕ) → behind_blanks rest ≡ [] → read at_end rest ≡ Ok (tt, [])
   end_read rest none = rw none refl
 
-  filter_fine : (w : Option ℕ) (session : ℕ) (rest : List ℕ) → filter_of rest ≡ Ok all → fault_of A (Ok (Filtered w session, rest)) ≡ None
-  filter_fine w session rest is = ap (λ r. result_err (with_filter A w session (filter_read rest r))) is
+  filter_fine : (w : Option ℕ) (what : Filtering A) (rest : List ℕ) → filter_of rest ≡ Ok all → fault_of A (Ok (Filtered w what, rest)) ≡ None
+  filter_fine w what rest is = ap (λ r. result_err (with_filter A w what (filter_read rest r))) is
 
   ended_fine : (w : Option ℕ) (value : Option (Spelled A)) (o : Read (Spelled A)) (line : List ℕ) → Behind Closing value line → Ended value o line → Fine (finished w o)
   ended_fine w (Some (Whole command show)) o line nil (rest, is, same) =
       inl (ap (λ p. fault_of A (finished w p)) is ∙ ap (λ r. fault_of A (and_then r (λ u end. Ok (Whole_line (record { worker = w; command = command; show = show }), end)))) (end_read rest (same ∙ ap behind_blanks nil)))
-  ended_fine w (Some (Filter session)) o line text (rest, is, same) =
-      inl (ap (λ p. fault_of A (finished w p)) is ∙ filter_fine w session rest (filter_behind rest (same ∙ ap behind_blanks text)))
+  ended_fine w (Some (Filter what)) o line text (rest, is, same) =
+      inl (ap (λ p. fault_of A (finished w p)) is ∙ filter_fine w what rest (filter_behind rest (same ∙ ap behind_blanks text)))
   ended_fine w None o line nil many = inr (ap (λ p. fault_of A (finished w p)) many)
 
   -- ---- the command
@@ -240,13 +241,13 @@ module _ (A : Type 0) where
   line_for : Option (Spelled A) → List ℕ
   line_for None = []
   line_for (Some (Whole said show)) = []
-  line_for (Some (Filter session)) = filter_text
+  line_for (Some (Filter what)) = filter_text
 
   behind_for : (value : Option (Spelled A)) → Behind Closing value (line_for value)
   unfolding line_for
   behind_for None = refl
   behind_for (Some (Whole said show)) = refl
-  behind_for (Some (Filter session)) = refl
+  behind_for (Some (Filter what)) = refl
 
   session_fine : (w : Option ℕ) → Fine (finished w (read command (codes "session")))
   unfolding command token_at
@@ -278,7 +279,7 @@ module _ (A : Type 0) where
       let more = known.finishes front behind (is ∙ refused_so (Spelled A) (Opening A) fault (Syntax (length behind)) e) in
       let line = line_for more.value in
       (32 ∷ (more.text ++ line), more.tail line (behind_for more.value), ended_fine w more.value (read command (front ++ (32 ∷ (more.text ++ line)))) line (behind_for more.value) (more.ends line (behind_for more.value)))
-  said_done w front behind (Ok (Filter session, mid)) is e = absurd cc
+  said_done w front behind (Ok (Filter what, mid)) is e = absurd cc
   said_done w front behind (Ok (Whole command_made show, mid)) is e =
       let known = local (command {A = A}) in
       let (a, same) = known.ends (front ++ behind) mid (Whole command_made show) is in

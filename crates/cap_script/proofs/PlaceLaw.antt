@@ -18,7 +18,7 @@ module _ (A : Type 0) where
 
   opening_fault : (bytes : List ℕ) (left : ℕ) (r : Read (Opening A)) → read opening bytes ≡ r → fault_of r ≡ Some (Syntax left) → (ReachesFilter A bytes → ⊥) → read (opening {A = A}) bytes ≡ Err (Syntax left)
   opening_fault bytes left (Ok (Ended whole, rest)) is e none = absurd cc
-  opening_fault bytes left (Ok (Filtered w session, rest)) is e none = absurd (none (w, session, rest, is))
+  opening_fault bytes left (Ok (Filtered w what, rest)) is e none = absurd (none (w, what, rest, is))
   opening_fault bytes left (Err fault) is e none = is ∙ ap (λ (f : LineFault). Err f) (some_fault fault (Syntax left) e)
 
   -- where no filter is reached, the fault is that of the worker and the command

@@ -6,12 +6,14 @@ use Rattle.cap_language.specs.Places.{BeginAlike}
 use Rattle.cap_language.specs.declared.fault.LineFault.TheVariants.{Limit, Syntax}
 use Rattle.cap_script.specs.Language.{Filtered, opening}
 use Rattle.cap_script.specs.LineFaults.{line_fault}
+use Rattle.cap_script.specs.declared.command.Filtering.{Filtering}
 
--- the line's filter is reached: its command is `filter`, and the session's number is read
+-- The line's filter is reached: its command is `filter`, and the session's number is read, or it is that of an
+-- application, and the word `filter` is read.
 abbrev pub ReachesFilter : Type 0 → List ℕ → Type 0
 ReachesFilter A line =
-    (worker : Option ℕ) × (session : ℕ) × (rest : List ℕ)
-    × (read (opening {A = A}) line ≡ Ok (Filtered worker session, rest))
+    (worker : Option ℕ) × (what : Filtering A) × (rest : List ℕ)
+    × (read (opening {A = A}) line ≡ Ok (Filtered worker what, rest))
 
 -- the line has a fault of syntax, from whose token on it has this many bytes
 abbrev pub HasSyntaxFault : Type 0 → List ℕ → ℕ → Type 0

@@ -23,17 +23,24 @@ use Rattle.cap_apply.specs.declared.policy.Answer.{Answer}
 use Rattle.cap_apply.specs.declared.policy.Answer.TheVariants.{Omit, Replace, Abort}
 use Rattle.cap_apply.specs.declared.policy.Policy.{Policy}
 use Rattle.cap_txn.specs.Batch.{BatchState}
+use Rattle.cap_txn.specs.declared.look.Asked.TheVariants as asked
 use Rattle.cap_core.specs.declared.command.Command.{Command}
 use Rattle.cap_core.specs.declared.command.Command.TheVariants as made
 use Rattle.cap_language.specs.Forms.{a_blob, a_word, at_end, either, keyword, name, natural, one_of}
 use Rattle.cap_language.specs.Forms.{separated, sign, value}
 use Rattle.cap_language.specs.Forms.{values, within, worker, Words}
 use Rattle.cap_language.specs.Grammar.{Grammar, done, unfit, exceeds, no_blob, ◌>>=◌, next, where_end}
+use Rattle.cap_script.specs.declared.command.Filtering.{Filtering}
+use Rattle.cap_script.specs.declared.command.Filtering.TheVariants.{Application, Session}
 use Rattle.cap_script.specs.declared.command.Spelled.{Spelled}
 use Rattle.cap_script.specs.declared.command.Spelled.TheVariants.{Filter, Whole}
+use Rattle.cap_script.specs.declared.line.Detail.{Detail}
+use Rattle.cap_script.specs.declared.line.Detail.TheVariants.{Buffer, Counts, Report}
 use Rattle.cap_script.specs.declared.line.Line.{Line}
 use Rattle.cap_script.specs.declared.line.Show.{Show}
 use Rattle.cap_script.specs.declared.line.Show.TheVariants as show
+use Rattle.cap_script.specs.declared.step.Step.{Step}
+use Rattle.cap_script.specs.declared.step.Step.TheVariants as step
 
 -- ---- columns and flags
 
@@ -88,6 +95,20 @@ policy = do
   notfound_answer ← answer
   conflict_answer ← answer
   done (record { on_data = data_answer; on_notfound = notfound_answer; on_conflict = conflict_answer })
+
+-- the line's end, or a word behind which the line is the text of a filter: whether there is one
+unfoldable pub filter_behind : Detail → Grammar (Detail × Bool)
+filter_behind detail =
+    where_end (done (detail, false)) (do _ ← keyword (codes "filter"); done (detail, true))
+
+-- How much of the outcome of an apply is printed: nothing for its counts, or a word for its conflicts or its
+-- buffer too. A filter may follow.
+unfoldable pub report : Grammar (Detail × Bool)
+report = where_end (done (Counts, false)) (next a_word (one_of (
+    (codes "report", filter_behind Report)
+    ∷ (codes "buffer", filter_behind Buffer)
+    ∷ (codes "filter", done (Counts, true))
+    ∷ [])))
 
 module _ {A : Type 0} where
   -- ---- operations
@@ -174,14 +195,6 @@ module _ {A : Type 0} where
   contents = next a_blob (λ bytes.
       either (nat_le (length bytes) 1000000000) (contents_of (blob_at bytes)) (exceeds TooLong unfit))
 
-  -- how the outcome of an apply is printed: nothing for its counts, or a word for its conflicts or its buffer
-  -- too
-  unfoldable pub report : Grammar (Show A)
-  report = where_end (done show.Plain) (next a_word (one_of (
-      (codes "report", done show.Report)
-      ∷ (codes "buffer", done show.Buffer)
-      ∷ [])))
-
   -- a command whose reply is printed alone
   abbrev pub plain : Command A → Grammar (Spelled A)
   plain command = done (Whole command show.Plain)
@@ -199,13 +212,24 @@ module _ {A : Type 0} where
   unfoldable pub commit_at : Grammar (Spelled A)
   commit_at = do base ← natural; batch ← batch (Some base); plain (made.Commit batch)
 
+  abbrev pub show_of : Detail → Show A
+  show_of Counts = show.Plain
+  show_of Report = show.Report
+  show_of Buffer = show.Buffer
+
+  -- an application to all tables, or to those that a filter accepts
+  abbrev pub application : Contents A → Policy → List ℕ → Detail × Bool → Spelled A
+  application contents policy quiet (detail, false) =
+      Whole (made.Apply contents policy quiet) (show_of detail)
+  application contents policy quiet (detail, true) = Filter (Application contents policy quiet detail)
+
   -- an application that leaves these sessions as they are
   unfoldable pub applying : List ℕ → Grammar (Spelled A)
   applying quiet = do
     contents ← contents
     policy ← policy
-    report ← report
-    done (Whole (made.Apply contents policy quiet) report)
+    detail ← report
+    done (application contents policy quiet detail)
 
   unfoldable pub apply_quiet : Grammar (Spelled A)
   apply_quiet = do quiet ← numbers; applying quiet
@@ -255,12 +279,34 @@ module _ {A : Type 0} where
   unfoldable pub dump : Grammar (Spelled A)
   dump = do flags ← key_flags; done (Whole made.Dump (show.Changeset flags))
 
+  -- ---- steps of a transaction over several lines
+
+  -- Where no transaction can be open, its line only reads.
+  abbrev pub spelled_step : Step A → Spelled A
+  spelled_step taken = Whole made.Read (show.Step taken)
+
+  -- the open transaction makes this operation
+  abbrev pub called : Grammar (Op A) → Grammar (Spelled A)
+  called operation = operation >>= λ op. done (spelled_step (step.Call (asked.Op op)))
+
+  -- how far back: all of it, or to a savepoint by its number
+  unfoldable pub back : Grammar (Step A)
+  back = where_end (done step.Rollback) (do
+    _ ← keyword (codes "to")
+    number ← natural
+    done (step.Call (asked.BackTo (record { number = number }))))
+
+  unfoldable pub rollback : Grammar (Spelled A)
+  rollback = do taken ← back; done (spelled_step taken)
+
+  -- ---- words
+
   -- the commands that are a word and the number of a session
   abbrev pub numbered : List (List ℕ × (ℕ → Spelled A))
   numbered =
       (codes "drop", λ session. Whole (made.DropSession session) show.Plain)
       ∷ (codes "attachall", λ session. Whole (made.AttachAll session) show.Plain)
-      ∷ (codes "filter", Filter)
+      ∷ (codes "filter", λ session. Filter (Session session))
       ∷ (codes "isempty", λ session. Whole (made.IsEmpty session) show.Plain)
       ∷ []
 
@@ -271,6 +317,9 @@ module _ {A : Type 0} where
       ∷ (codes "sessions", Whole made.Sessions show.Plain)
       ∷ (codes "databases", Whole made.Databases show.Plain)
       ∷ (codes "tables", Whole made.Tables show.Plain)
+      ∷ (codes "begin", spelled_step step.Begin)
+      ∷ (codes "savepoint", spelled_step (step.Call asked.Savepoint))
+      ∷ (codes "end", spelled_step step.End)
       ∷ []
 
   abbrev pub with_numbered : List (List ℕ × (ℕ → Spelled A)) → Words (Spelled A) → Words (Spelled A)
@@ -302,22 +351,27 @@ module _ {A : Type 0} where
       ∷ (codes "patchset", patchset)
       ∷ (codes "restart", restart)
       ∷ (codes "dump", dump)
+      ∷ (codes "insert", called (insert Direct))
+      ∷ (codes "update", called (update Direct))
+      ∷ (codes "delete", called (delete Direct))
+      ∷ (codes "cascade", called cascaded)
+      ∷ (codes "rollback", rollback)
       ∷ with_numbered numbered (with_alone alone [])
 
   unfoldable pub command : Grammar (Spelled A)
   command = next a_word (one_of commands)
 
--- a line up to its end, or up to the text of a filter for this session, which goes to the line's end
+-- a line up to its end, or up to the text of a filter for this, which goes to the line's end
 pub data Opening (A : Type 0) : Type 0 where
   Ended : Line A → Opening A
-  Filtered : Option ℕ → ℕ → Opening A
+  Filtered : Option ℕ → Filtering A → Opening A
 
 module _ {A : Type 0} where
   -- behind a whole command spaces to the line's end
   abbrev pub ending : Option ℕ → Spelled A → Grammar (Opening A)
   ending worker (Whole command show) =
       at_end >>= λ _. done (Ended (record { worker = worker; command = command; show = show }))
-  ending worker (Filter session) = done (Filtered worker session)
+  ending worker (Filter what) = done (Filtered worker what)
 
   -- the worker and the command
   unfoldable pub opening : Grammar (Opening A)

@@ -1,6 +1,7 @@
 pub mod FaultPlace
 pub mod FaultText
 pub mod FirstRefused
+pub mod Kept
 pub mod Language
 pub mod LineFaults
 pub mod LineLimits
@@ -11,4 +12,5 @@ pub mod RefusedLines
 pub mod ReplyText
 pub mod RowText
 pub mod Script
+pub mod StepText
 pub mod Words

@@ -10,6 +10,7 @@ use Rattle.cap_language.specs.declared.fault.LineFault.{LineFault}
 use Rattle.cap_language.specs.declared.fault.LineFault.TheVariants.{Limit, OutOfMemory, Syntax}
 use Rattle.cap_script.specs.Language.{Ended, Filtered, Opening, opening}
 use Rattle.cap_script.specs.Script.{filter_line}
+use Rattle.cap_script.specs.declared.command.Filtering.{Filtering}
 use Rattle.cap_script.specs.declared.line.Line.{Line}
 
 -- the fault of a filter's text, which is the rest of the line: at its token that does not fit, or at a limit
@@ -22,13 +23,13 @@ filter_read rest (Ok filter) = Ok filter
 filter_read rest (Err why) = Err (filter_fault rest why)
 
 module _ (A : Type 0) where
-  abbrev pub with_filter : Option ℕ → ℕ → Result Rule LineFault → Result (Line A) LineFault
-  with_filter worker session (Ok filter) = Ok (filter_line worker session filter)
-  with_filter worker session (Err fault) = Err fault
+  abbrev pub with_filter : Option ℕ → Filtering A → Result Rule LineFault → Result (Line A) LineFault
+  with_filter worker what (Ok filter) = Ok (filter_line worker what filter)
+  with_filter worker what (Err fault) = Err fault
 
   abbrev pub closed : Read (Opening A) → Result (Line A) LineFault
   closed (Ok (Ended whole, rest)) = Ok whole
-  closed (Ok (Filtered worker session, rest)) = with_filter worker session (filter_read rest (filter_of rest))
+  closed (Ok (Filtered worker what, rest)) = with_filter worker what (filter_read rest (filter_of rest))
   closed (Err fault) = Err fault
 
   -- the line with this text: the worker and the command, read from left to right, or the fault

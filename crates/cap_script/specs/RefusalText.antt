@@ -40,3 +40,13 @@ refusal_text (Stale base now (Some item)) =
     ++ decimal now
     ++ codes " item " ++ decimal item
 refusal_text why = refusal_name why
+
+-- ---- Refusals of steps of a transaction over several lines
+
+-- no transaction is open
+abbrev pub no_transaction_text : List ℕ
+no_transaction_text = codes "refused: E21 NoTransaction"
+
+-- a transaction is open already
+abbrev pub in_transaction_text : List ℕ
+in_transaction_text = codes "refused: E22 InTransaction"

@@ -11,6 +11,8 @@ use Rattle.cap_codec.specs.declared.read.Contents.{Contents}
 use Rattle.cap_codec.specs.declared.read.Contents.TheVariants.{Changes, Patches}
 use Rattle.cap_apply.specs.Report.{ReportState}
 use Rattle.cap_apply.specs.declared.conflict.Conflict.{Conflict}
+use Rattle.cap_applier.specs.Chosen.{in_blob, number_in_blob}
+use Rattle.cap_applier.specs.Numbering.{NumberingState}
 use Rattle.cap_database.specs.Tables.{Tables}
 use Rattle.cap_dump.specs.Dump.{dump_bytes}
 use Rattle.cap_rebase.specs.Buffer.{buffer_of}
@@ -24,9 +26,11 @@ use Rattle.cap_script.specs.ListText.{databases_text, on_word, sessions_text, ta
 use Rattle.cap_script.specs.RefusalText.{refusal_text}
 use Rattle.cap_script.specs.RowText.{snapshot_text}
 use Rattle.cap_script.specs.Words.{answer_word, kind_word}
+use Rattle.cap_script.specs.declared.line.Detail.{Detail}
+use Rattle.cap_script.specs.declared.line.Detail.TheVariants as detail
 use Rattle.cap_script.specs.declared.line.Line.{Line}
 use Rattle.cap_script.specs.declared.line.Show.{Show}
-use Rattle.cap_script.specs.declared.line.Show.TheVariants.{Buffer, Changeset, Patchset, Report}
+use Rattle.cap_script.specs.declared.line.Show.TheVariants.{Accepted, Buffer, Changeset, Patchset, Report}
 
 -- lower case hex digits, or `-` where there are no bytes
 abbrev pub hex_or_dash : List ℕ → List ℕ
@@ -40,6 +44,11 @@ applied_text version report =
     ++ (codes ", applied " ++ (decimal report.applied
     ++ (codes ", omitted " ++ (decimal (length report.omitted)
     ++ (codes ", skipped " ++ decimal (length report.skipped)))))))
+
+-- the same, and how many groups were passed over, since a filter does not accept their tables
+abbrev pub accepted_text : ℕ → NumberingState → ReportState → List ℕ
+accepted_text version numbering report =
+    applied_text version report ++ (codes ", passed " ++ decimal numbering.passed.groups)
 
 -- the change that had a conflict, the conflict's kind, and the answer to it
 abbrev pub conflict_text : Conflict → List ℕ
@@ -70,12 +79,30 @@ module _ {A : Type 0} where
       10 ∷ (codes "buffer " ++ buffer_digits contents conflicts)
   buffer_text _ conflicts = []
 
+  -- The outcome of the command, an apply to the tables that a filter accepts. Its report has the numbers in
+  -- the whole blob, its buffer is of what was applied.
+  abbrev pub accepted_detail : Detail → NumberingState → Command A → ReportState → List ℕ
+  accepted_detail detail.Counts numbering asked report = []
+  accepted_detail detail.Report numbering asked report = report_text (in_blob numbering report)
+  accepted_detail detail.Buffer numbering asked report = buffer_text asked report.conflicts
+
+  abbrev pub accepted_shown : Detail → NumberingState → Command A → ℕ → ReportState → List ℕ
+  accepted_shown detail numbering asked version report =
+      accepted_text version numbering report ++ accepted_detail detail numbering asked report
+
   -- the outcome of the command, an apply
   abbrev pub applied_shown : Show A → Command A → ℕ → ReportState → List ℕ
   applied_shown Report asked version report = applied_text version report ++ report_text report
   applied_shown Buffer asked version report =
       applied_text version report ++ buffer_text asked report.conflicts
+  applied_shown (Accepted detail numbering) asked version report =
+      accepted_shown detail numbering asked version report
   applied_shown _ asked version report = applied_text version report
+
+  -- the number of a refused operation or change; of what a filter accepts of a blob, its number in the blob
+  abbrev pub place_in : Show A → ℕ → ℕ
+  place_in (Accepted detail numbering) place = number_in_blob numbering.changes place
+  place_in show place = place
 
   -- whether a session is empty is true or false, and a flag is on or off
   abbrev pub flag_text : Command A → Bool → List ℕ
@@ -108,5 +135,5 @@ module _ {A : Type 0} where
   reply_text line (Capture capture) = capture_text line.show capture.changes
   reply_text line (Dump snapshot) = dump_text line.show snapshot.database
   reply_text line (Refused (Some place) why) =
-      codes "refused at " ++ (decimal place ++ (codes ": " ++ refusal_text why))
+      codes "refused at " ++ (decimal (place_in line.show place) ++ (codes ": " ++ refusal_text why))
   reply_text line (Refused None why) = codes "refused: " ++ refusal_text why

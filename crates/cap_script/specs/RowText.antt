@@ -8,9 +8,9 @@ use Rattle.cap_table.specs.declared.row_ref.RowRef.TheVariants.{Key, Loose}
 use Rattle.cap_database.specs.Snapshot.{SnapshotState}
 use Rattle.cap_database.specs.Read.{read, rows_of}
 use Rattle.cap_show.specs.ShowText.{value_text}
-use Rattle.cap_script.specs.RefusalText.{refusal_text}
+use Rattle.cap_script.specs.RefusalText.{no_transaction_text, refusal_text}
 use Rattle.cap_script.specs.declared.line.Show.{Show}
-use Rattle.cap_script.specs.declared.line.Show.TheVariants.{Get, Scan}
+use Rattle.cap_script.specs.declared.line.Show.TheVariants.{Get, Scan, Step}
 
 module _ {A : Type 0} where
   -- with a comma before each
@@ -44,8 +44,9 @@ module _ {A : Type 0} where
   scan_text (Ok rows) = codes "rows " ++ decimal (length rows) ++ rows_text rows
   scan_text (Err why) = codes "refused: " ++ refusal_text why
 
-  -- the text of a snapshot
+  -- The text of a snapshot. A step of a transaction reads one where no transaction is open.
   abbrev pub snapshot_text : Show A → SnapshotState A → List ℕ
   snapshot_text (Get table row) snapshot = get_text (read snapshot.database table row)
   snapshot_text (Scan table) snapshot = scan_text (rows_of snapshot.database table)
+  snapshot_text (Step step) snapshot = no_transaction_text
   snapshot_text show snapshot = codes "ok"

@@ -5,12 +5,17 @@ use Rattle.std.specs.List.{list_any}
 use Rattle.cap_filter.specs.Grammar.{Spells as SpellsFilter}
 use Rattle.cap_filter.specs.Limits.{is_within_limits}
 use Rattle.cap_filter.specs.Rule.{Rule}
-use Rattle.cap_core.specs.declared.command.Command.TheVariants.{SetFilter}
+use Rattle.cap_applier.specs.Chosen.{accepted_in, numbering_in}
+use Rattle.cap_core.specs.declared.command.Command.{Command}
+use Rattle.cap_core.specs.declared.command.Command.TheVariants.{Apply, SetFilter}
 use Rattle.cap_language.specs.Grammar.{Spells}
 use Rattle.cap_language.specs.Tokens.{begins, behind_blanks}
 use Rattle.cap_script.specs.Language.{Ended, Filtered, Opening, opening}
+use Rattle.cap_script.specs.declared.command.Filtering.{Filtering}
+use Rattle.cap_script.specs.declared.command.Filtering.TheVariants.{Application, Session}
 use Rattle.cap_script.specs.declared.line.Line.{Line}
-use Rattle.cap_script.specs.declared.line.Show.TheVariants.{Plain}
+use Rattle.cap_script.specs.declared.line.Show.{Show}
+use Rattle.cap_script.specs.declared.line.Show.TheVariants.{Accepted, Plain}
 
 -- an ignored line: `#` and a comment, or only spaces
 abbrev pub is_ignored : List ℕ → Bool
@@ -32,18 +37,30 @@ IsCut text line rest =
     (has_line_feed line ≡ false) × ((text ≡ line ++ 10 ∷ rest) ⊎ ((text ≡ line) × (rest ≡ [])))
 
 module _ {A : Type 0} where
-  -- the line that sets this filter
-  abbrev pub filter_line : Option ℕ → ℕ → Rule → Line A
-  filter_line worker session filter =
-      record { worker = worker; command = SetFilter session filter; show = Plain }
+  -- The filter of a session is set. A blob is applied to the tables that its filter accepts.
+  abbrev pub filtered_command : Filtering A → Rule → Command A
+  filtered_command (Session session) filter = SetFilter session filter
+  filtered_command (Application contents policy quiet detail) filter =
+      Apply (accepted_in filter contents) policy quiet
+
+  -- what is accepted of a blob is printed with its numbers in the whole blob
+  abbrev pub filtered_show : Filtering A → Rule → Show A
+  filtered_show (Session session) filter = Plain
+  filtered_show (Application contents policy quiet detail) filter =
+      Accepted detail (numbering_in filter contents)
+
+  -- the line with this filter
+  abbrev pub filter_line : Option ℕ → Filtering A → Rule → Line A
+  filter_line worker what filter =
+      record { worker = worker; command = filtered_command what filter; show = filtered_show what filter }
 
   -- the line that begins so: it has ended, or the rest of it spells the filter, with the limits or without
   -- them
   abbrev pub Closes : Bool → Line A → Opening A → List ℕ → Type 0
   Closes limits line (Ended whole) rest = line ≡ whole
-  Closes limits line (Filtered worker session) rest =
+  Closes limits line (Filtered worker what) rest =
       (filter : Rule) × SpellsFilter rest filter × (limits ≡ true → IsTrue (is_within_limits filter))
-      × (line ≡ filter_line worker session filter)
+      × (line ≡ filter_line worker what filter)
 
   -- the text of a line spells it, with the limits or without them
   unfoldable pub LineSpelled : Bool → Line A → List ℕ → Type 0

@@ -2,21 +2,23 @@
 ghost use Rattle.std.specs.Prelude.{◌≡◌, None, Some, List, Bool, IfOk, MatchOption};
 ghost use Rattle.cap_language.specs.Forms.{natural, separated};
 ghost use Rattle.cap_language.specs.Grammar.{Reads, read, seen_items};
-ghost use Rattle.cap_script.specs.Language.{answer, apply_quiet, applying, command, commit};
-ghost use Rattle.cap_script.specs.Language.{commit_at, contents, create, drop_database, flags_in, numbers};
-ghost use Rattle.cap_script.specs.Language.{get, key_letter, policy, report, save, scan, schema};
+ghost use Rattle.cap_script.specs.Language.{answer, application, apply_quiet, applying, command, commit};
+ghost use Rattle.cap_script.specs.Language.{commit_at, contents, create, drop_database, filter_behind, flags_in};
+ghost use Rattle.cap_script.specs.Language.{get, key_letter, numbers, policy, report, save, scan, schema};
+ghost use Rattle.cap_script.specs.Language.{show_of};
 ghost use Rattle.cap_script.specs.declared.command.Spelled.TheVariants.{Whole};
 ghost use Rattle.cap_script.specs.declared.line.Show.TheVariants.{Plain};
 
-use crate::Show;
 use crate::operation::{batch, row_ref};
 use crate::session_command::{attach, changeset, diff, dump, enable, indirect, patchset, restart};
+use crate::step::{Step, by_cascade, deleted, inserted, rollback, spelled_step, updated};
+use crate::{Detail, Show};
 use cap_apply::{Answer, Policy};
 use cap_codec::{Contents, read_blob};
 use cap_core::{Command, QuietSessions};
 use cap_language::{Cursor, LineFault, name};
 use cap_row::Schema;
-use cap_txn::Batch;
+use cap_txn::{Asked, Batch};
 use cap_value::{AllocHandle, OutOfMemory, Refusal, VALUE_BYTES_MAX};
 
 // What is spelled behind the worker.
@@ -24,8 +26,22 @@ use cap_value::{AllocHandle, OutOfMemory, Refusal, VALUE_BYTES_MAX};
 pub(crate) enum Spelled<A: AllocHandle> {
     // A command, and how its reply is printed.
     Whole(Command<A>, Show<A>),
-    // A filter of the session with this number. Its text is the rest of the line.
-    Filter(u64),
+    // A filter for this. Its text is the rest of the line.
+    Filter(Filtering<A>),
+}
+
+// What a filter is for.
+#[derive(Drop)]
+pub(crate) enum Filtering<A: AllocHandle> {
+    // The session with this number.
+    Session(u64),
+    // The application of a blob under a policy, which leaves these sessions as they are.
+    Application {
+        blob: Contents<A>,
+        policy: Policy,
+        quiet: QuietSessions<A>,
+        detail: Detail,
+    },
 }
 
 // A command whose reply is printed alone.
@@ -78,6 +94,16 @@ pub(crate) fn command<A: AllocHandle>(
         restart(cursor)
     } else if word.is("dump") {
         dump(cursor)
+    } else if word.is("insert") {
+        inserted(alloc, cursor)
+    } else if word.is("update") {
+        updated(alloc, cursor)
+    } else if word.is("delete") {
+        deleted(alloc, cursor)
+    } else if word.is("cascade") {
+        by_cascade(alloc, cursor)
+    } else if word.is("rollback") {
+        rollback(cursor)
     } else if word.is("drop") {
         let session = cursor.natural()?;
         Ok(plain(Command::DropSession { session }))
@@ -85,7 +111,8 @@ pub(crate) fn command<A: AllocHandle>(
         let session = cursor.natural()?;
         Ok(plain(Command::AttachAll { session }))
     } else if word.is("filter") {
-        Ok(Spelled::Filter(cursor.natural()?))
+        let session = cursor.natural()?;
+        Ok(Spelled::Filter(Filtering::Session(session)))
     } else if word.is("isempty") {
         let session = cursor.natural()?;
         Ok(plain(Command::IsEmpty { session }))
@@ -97,6 +124,12 @@ pub(crate) fn command<A: AllocHandle>(
         Ok(plain(Command::Databases))
     } else if word.is("tables") {
         Ok(plain(Command::Tables))
+    } else if word.is("begin") {
+        Ok(spelled_step(Step::Begin))
+    } else if word.is("savepoint") {
+        Ok(spelled_step(Step::Call(Asked::Savepoint)))
+    } else if word.is("end") {
+        Ok(spelled_step(Step::End))
     } else {
         Err(word.misfit)
     }
@@ -178,8 +211,8 @@ fn apply_quiet<A: AllocHandle>(alloc: A, cursor: &mut Cursor<'_>) -> Result<Spel
     applying(alloc, cursor, quiet)
 }
 
-// Reads a blob, a policy, which is the answers to DATA, NOTFOUND and CONFLICT, and how the outcome is
-// printed: `x'..' D N C`.
+// Reads a blob, a policy, which is the answers to DATA, NOTFOUND and CONFLICT, how the outcome is printed, and
+// whether a filter follows: `x'..' D N C`.
 #[tactic(auto, unfolding(crate::specs::Language::applying))]
 fn applying<A: AllocHandle>(
     alloc: A,
@@ -190,13 +223,44 @@ fn applying<A: AllocHandle>(
 {
     let blob = contents(alloc, cursor)?;
     let policy = policy(cursor)?;
-    let show = report(cursor)?;
+    let (detail, filtered) = report(cursor)?;
+    Ok(application(blob, policy, quiet, detail, filtered))
+}
+
+// An application to all tables, or to those that a filter accepts.
+fn application<A: AllocHandle>(
+    blob: Contents<A>,
+    policy: Policy,
+    quiet: QuietSessions<A>,
+    detail: Detail,
+    filtered: bool,
+) -> Spelled<A>
+    ensures { result ≡ application blob policy quiet (detail, filtered) }
+{
+    if filtered {
+        return Spelled::Filter(Filtering::Application {
+            blob,
+            policy,
+            quiet,
+            detail,
+        });
+    }
     let command = Command::Apply {
         blob,
         policy,
         quiet,
     };
-    Ok(Spelled::Whole(command, show))
+    Spelled::Whole(command, show_of(detail))
+}
+
+fn show_of<A: AllocHandle>(detail: Detail) -> Show<A>
+    ensures { result ≡ show_of detail }
+{
+    match detail {
+        Detail::Counts => Show::Plain,
+        Detail::Report => Show::Report,
+        Detail::Buffer => Show::Buffer,
+    }
 }
 
 // Reads sessions: `S , S ..`.
@@ -268,23 +332,39 @@ fn answer(cursor: &mut Cursor<'_>) -> Result<Answer, LineFault>
     }
 }
 
-// Reads how the outcome of an apply is printed: `report`, `buffer`, or nothing for its counts alone.
+// Reads how the outcome of an apply is printed, `report`, `buffer`, or nothing for its counts alone, and whether
+// `filter` follows.
 #[tactic(auto, unfolding(crate::specs::Language::report))]
-fn report<A: AllocHandle>(cursor: &mut Cursor<'_>) -> Result<Show<A>, LineFault>
+fn report(cursor: &mut Cursor<'_>) -> Result<(Detail, bool), LineFault>
     ensures reads { Reads result cursor.new.rest.now (read report cursor.old.rest.now) }
 {
     cursor.skip_spaces();
     if cursor.rest.is_empty() {
-        return Ok(Show::Plain);
+        return Ok((Detail::Counts, false));
     }
     let word = cursor.word()?;
     if word.is("report") {
-        Ok(Show::Report)
+        filter_behind(cursor, Detail::Report)
     } else if word.is("buffer") {
-        Ok(Show::Buffer)
+        filter_behind(cursor, Detail::Buffer)
+    } else if word.is("filter") {
+        Ok((Detail::Counts, true))
     } else {
         Err(word.misfit)
     }
+}
+
+// Reads `filter`, or nothing at the line's end.
+#[tactic(auto, unfolding(crate::specs::Language::filter_behind))]
+fn filter_behind(cursor: &mut Cursor<'_>, detail: Detail) -> Result<(Detail, bool), LineFault>
+    ensures reads { Reads result cursor.new.rest.now (read (filter_behind detail) cursor.old.rest.now) }
+{
+    cursor.skip_spaces();
+    if cursor.rest.is_empty() {
+        return Ok((detail, false));
+    }
+    cursor.keyword("filter")?;
+    Ok((detail, true))
 }
 
 // Reads a query for a row of a snapshot: `T REF`.

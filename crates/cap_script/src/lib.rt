@@ -17,6 +17,8 @@ mod report_text;
 mod rest;
 mod row_text;
 mod session_command;
+mod step;
+mod step_text;
 mod words;
 mod workload;
 
@@ -26,11 +28,13 @@ pub use laws::{
     a_line_without_fault, one_workload, spelled_commands_fit, syntax_fault_lasts,
     syntax_fault_place,
 };
-pub use line::{Line, Show};
+pub use line::{Detail, Line, Show};
 pub use lines::Lines;
 pub use list_text::columns_text;
 pub use one_line::read_line;
 pub use refusal_text::refusal_name;
-pub use reply::{print_reply, write_reply};
+pub use reply::{place_in, print_reply, write_reply};
+pub use step::Step;
+pub use step_text::print_answer;
 pub use words::{answer_word, kind_word};
 pub use workload::{Workload, parse};

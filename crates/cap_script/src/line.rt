@@ -1,13 +1,15 @@
 //! A line of a workload.
-ghost use Rattle.std.specs.Prelude.{◌≡◌, IfOk, IfErr};
+ghost use Rattle.std.specs.Prelude.{◌≡◌, IfOk, IfErr, Ok};
 ghost use Rattle.cap_filter.specs.Reading.{filter_of};
 ghost use Rattle.cap_script.specs.LineFaults.{FaultIs, MakesUnlessMemory, filter_read, line_fault};
 ghost use Rattle.cap_script.specs.LineFaults.{line_of_text};
 ghost use Rattle.cap_script.specs.LineLimits.{LineWithin};
 ghost use Rattle.cap_script.specs.RefusedLines.{NoLine};
-ghost use Rattle.cap_script.specs.Script.{SpellsLine, is_ignored};
+ghost use Rattle.cap_script.specs.Script.{SpellsLine, filter_line, is_ignored};
 
-use crate::command::{Spelled, command};
+use crate::command::{Filtering, Spelled, command};
+use crate::step::Step;
+use cap_applier::{Numbering, chosen_of};
 use cap_codec::KeyFlags;
 use cap_core::Command;
 use cap_filter::{TableFilter, read_is_spelled, spelled_is_read, unfit_place};
@@ -24,6 +26,8 @@ pub enum Show<A: AllocHandle> {
     Get(Name<A>, RowRef<A>),
     /// All rows of a table of a snapshot.
     Scan(Name<A>),
+    /// What a step of a transaction over several lines leads to.
+    Step(Step<A>),
     /// The changeset of a capture, with these key flags.
     Changeset(KeyFlags),
     /// The patchset of a capture, with these key flags.
@@ -31,6 +35,20 @@ pub enum Show<A: AllocHandle> {
     /// The outcome of an apply, with its conflicts, the omitted changes and the skipped groups.
     Report,
     /// The outcome of an apply, with the buffer over which local changes are rebased.
+    Buffer,
+    /// So much of the outcome of an apply to the tables that a filter accepts, with these numbers in the whole
+    /// blob.
+    Accepted(Detail, Numbering<A>),
+}
+
+/// How much of the outcome of an apply is printed.
+#[derive(Clone, Copy, Debug, PartialEq, Eq, Drop)]
+pub enum Detail {
+    /// Its counts.
+    Counts,
+    /// Its conflicts, the omitted changes and the skipped groups too.
+    Report,
+    /// The buffer over which local changes are rebased too.
     Buffer,
 }
 
@@ -75,14 +93,45 @@ impl<A: AllocHandle> Line<A> {
                     show,
                 })
             }
-            Spelled::Filter(session) => {
+            Spelled::Filter(what) => {
                 let filter = filter(alloc, &cursor)?;
-                Ok(Line {
-                    worker,
-                    command: Command::SetFilter { session, filter },
-                    show: Show::Plain,
-                })
+                with_filter(alloc, worker, what, filter)
             }
+        }
+    }
+}
+
+// The line with this filter.
+fn with_filter<A: AllocHandle>(
+    alloc: A,
+    worker: Option<u64>,
+    what: Filtering<A>,
+    filter: TableFilter<A>,
+) -> Result<Line<A>, LineFault>
+    ensures { MakesUnlessMemory result (Ok (filter_line worker what filter)) }
+{
+    match what {
+        Filtering::Session(session) => Ok(Line {
+            worker,
+            command: Command::SetFilter { session, filter },
+            show: Show::Plain,
+        }),
+        Filtering::Application {
+            blob,
+            policy,
+            quiet,
+            detail,
+        } => {
+            let chosen = chosen_of(alloc, &filter, &blob)?;
+            Ok(Line {
+                worker,
+                command: Command::Apply {
+                    blob: chosen.contents,
+                    policy,
+                    quiet,
+                },
+                show: Show::Accepted(detail, chosen.numbering),
+            })
         }
     }
 }

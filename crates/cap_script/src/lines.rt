@@ -1,7 +1,9 @@
 //! An iterator over the lines of a workload.
-ghost use Rattle.std.specs.Prelude.{◌≡◌, ◌==◌, ◌≤◌, ◌<◌, List, length, IfOk, IfErr, IfSome, MatchResult};
+ghost use Rattle.std.specs.Prelude.{◌≡◌, ◌==◌, ◌≤◌, ◌<◌, ◌++◌, ◌∷◌, [], List, length, nat_lt, if◌then◌else◌};
+ghost use Rattle.std.specs.Prelude.{IfOk, IfErr, IfSome, MatchResult, OnOk};
 ghost use Rattle.cap_language.specs.Tokens.{begins};
 ghost use Rattle.cap_script.specs.FirstRefused.{FaultOfFirstRefused, SpellsWithin};
+ghost use Rattle.cap_script.specs.Kept.{kept_with};
 ghost use Rattle.cap_script.specs.RefusedLines.{NoLines};
 ghost use Rattle.cap_script.specs.Script.{IsLeft, SpellsScript, TakesFirst, begins_at};
 ghost use Rattle.cap_script.specs.declared.line.Line.{Line};
@@ -9,30 +11,39 @@ ghost use Rattle.cap_script.specs.declared.line.Line.{Line};
 use crate::ScriptFault;
 use crate::line::Line;
 use crate::rest::Rest;
+use cap_filter::one_filter;
 use cap_language::after_blanks;
 use cap_value::{AllocHandle, Fault, OutOfMemory};
+use std::collections::VecDeque;
 use std::marker::Model;
+
+// The most lines that are kept, and the most bytes of a text whose lines are.
+const KEPT_LINES_MAX: usize = 1 << 16;
+
+const KEPT_TEXT_MAX: usize = 1 << 22;
 
 /// The remaining lines of a workload's text.
 ///
-/// The whole text is parsed before the first line is given, so every line is valid. Lines are not kept: each
-/// is parsed again when it is given.
+/// The whole text is parsed before the first line is given, so every line is valid. Of a text of at most 4 MiB
+/// the first 65,536 lines are kept until they are given. Each other line is parsed again when it is given.
 #[derive(Drop)]
 pub struct Lines<'t, A: AllocHandle> {
     alloc: A,
     rest: Rest<'t>,
+    // The first of the remaining lines, as they were parsed.
+    kept: VecDeque<Line<A>, A>,
 }
 
 impl<'t, A: AllocHandle> Model for Lines<'t, A> {
     ghost use Rattle.std.specs.Prelude.{ℕ, List};
-    ghost use Rattle.cap_script.specs.FirstRefused.{SpellsWithin};
+    ghost use Rattle.cap_script.specs.Kept.{SpellsKept};
 
     ghost Value = { List ℕ };
 
     ghost view = { λ l. l.rest.text.now };
 
-    // The rest spells lines within the limits.
-    ghost invariant = { λ l. ∥ SpellsWithin A l.rest.text.now ∥₁ };
+    // The rest spells lines within the limits, first those that are kept.
+    ghost invariant = { λ l. ∥ SpellsKept l.kept.items l.rest.text.now ∥₁ };
 }
 
 impl<'t, A: AllocHandle> Lines<'t, A> {
@@ -51,10 +62,15 @@ impl<'t, A: AllocHandle> Lines<'t, A> {
         ensures first { IfErr result (λ fault. FaultOfFirstRefused A 1 fault text.now) }
     {
         let mut rest = Rest::new(text);
-        while let Some(_line) = rest.read(alloc)? {}
+        let mut kept = VecDeque::new(alloc);
+        let most = kept_most(text);
+        while let Some(line) = rest.read(alloc)? {
+            keep(&mut kept, most, line)?;
+        }
         Ok(Lines {
             alloc,
             rest: Rest::new(text),
+            kept,
         })
     }
 
@@ -65,9 +81,14 @@ impl<'t, A: AllocHandle> Lines<'t, A> {
             → MatchResult result (λ found. TakesFirst found lines self.new) (λ none. IsLeft lines self.new) }
         ensures left { IfOk result (λ found. IfSome found (λ line. length self.new < length self.old)) }
     {
+        one_filter();
+        if let Some(line) = self.kept.pop_front() {
+            self.rest.pass::<A>();
+            return Ok(Some(line));
+        }
         match self.rest.read(self.alloc) {
-            Ok(found) => Ok(found),
-            Err(Fault::OutOfMemory) => Err(OutOfMemory),
+            Ok(found) => return Ok(found),
+            Err(Fault::OutOfMemory) => return Err(OutOfMemory),
             Err(Fault::Refused(_)) => unreachable!(),
         }
     }
@@ -83,6 +104,30 @@ impl<'t, A: AllocHandle> Lines<'t, A> {
         };
         begins_worker(after_blanks(text))
     }
+}
+
+// How many lines of the text are kept.
+fn kept_most(text: &str) -> usize {
+    if text.len() <= KEPT_TEXT_MAX {
+        KEPT_LINES_MAX
+    } else {
+        0
+    }
+}
+
+// Keeps the line, where fewer than the most are kept.
+fn keep<A: AllocHandle>(
+    kept: &mut VecDeque<Line<A>, A>,
+    most: usize,
+    line: Line<A>,
+) -> Result<(), Fault<ScriptFault>>
+    ensures kept { OnOk result (kept.new.items ≡ kept_with most kept.old.items line) }
+    ensures memory { IfErr result (λ fault. fault ≡ Fault.OutOfMemory) }
+{
+    if kept.len() >= most {
+        return Ok(());
+    }
+    Ok(kept.push_back(line).map_err(OutOfMemory::from)?)
 }
 
 // Whether the text begins with `@`.

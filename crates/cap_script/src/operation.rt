@@ -104,7 +104,10 @@ fn operation<A: AllocHandle>(
 
 // Reads the operation behind the word `cascade`.
 #[tactic(auto, unfolding(crate::specs::Language::cascaded))]
-fn cascaded<A: AllocHandle>(alloc: A, cursor: &mut Cursor<'_>) -> Result<Op<A>, LineFault>
+pub(crate) fn cascaded<A: AllocHandle>(
+    alloc: A,
+    cursor: &mut Cursor<'_>,
+) -> Result<Op<A>, LineFault>
     ensures reads { Reads result cursor.new.rest.now (read cascaded cursor.old.rest.now) }
 {
     let word = cursor.word()?;
@@ -133,7 +136,7 @@ fn has_room(is_full: bool) -> Result<(), LineFault>
 
 // Reads a new row of a table: `T (V,..)`.
 #[tactic(auto, unfolding(crate::specs::Language::insert))]
-fn insert<A: AllocHandle>(
+pub(crate) fn insert<A: AllocHandle>(
     alloc: A,
     cursor: &mut Cursor<'_>,
     cause: Cause,
@@ -151,7 +154,7 @@ fn insert<A: AllocHandle>(
 
 // Reads a row of a table and what is set in it: `T REF set I = V , ..`.
 #[tactic(auto, unfolding(crate::specs::Language::update))]
-fn update<A: AllocHandle>(
+pub(crate) fn update<A: AllocHandle>(
     alloc: A,
     cursor: &mut Cursor<'_>,
     cause: Cause,
@@ -170,7 +173,7 @@ fn update<A: AllocHandle>(
 
 // Reads a row of a table that is deleted: `T REF`.
 #[tactic(auto, unfolding(crate::specs::Language::delete))]
-fn delete<A: AllocHandle>(
+pub(crate) fn delete<A: AllocHandle>(
     alloc: A,
     cursor: &mut Cursor<'_>,
     cause: Cause,

@@ -3,7 +3,8 @@ ghost use Rattle.std.specs.Prelude.{◌≡◌, IfOk, OnOk, string_bytes, codes, 
 ghost use Rattle.cap_changes.specs.Patch.{patch_list_of};
 ghost use Rattle.cap_codec.specs.Changeset.{list_bytes_with};
 ghost use Rattle.cap_codec.specs.Patchset.{patch_list_bytes_with};
-ghost use Rattle.cap_script.specs.ReplyText.{applied_shown, applied_text, buffer_text};
+ghost use Rattle.cap_script.specs.ReplyText.{accepted_detail, accepted_shown, accepted_text, applied_shown};
+ghost use Rattle.cap_script.specs.ReplyText.{applied_text, buffer_text, place_in};
 ghost use Rattle.cap_dump.specs.Dump.{dump_bytes};
 ghost use Rattle.cap_script.specs.ReplyText.{capture_text, dump_text, flag_text, hex_or_dash, reply_text};
 ghost use Rattle.cap_script.specs.ReplyText.{report_text};
@@ -11,9 +12,10 @@ ghost use Rattle.cap_script.specs.ReplyText.{report_text};
 use crate::buffer_text::write_buffer;
 use crate::list_text::{databases_text, on_word, sessions_text, tables_text, true_word};
 use crate::refusal_text::RefusalText;
-use crate::report_text::write_report;
+use crate::report_text::{write_report, write_report_in_blob};
 use crate::row_text::snapshot_text;
-use crate::{Line, Show};
+use crate::{Detail, Line, Show};
+use cap_applier::Numbering;
 use cap_apply::Report;
 use cap_codec::KeyFlags;
 use cap_core::{Capture, Command, Dump, Reply};
@@ -80,8 +82,21 @@ pub fn write_reply<A: AllocHandle>(
         Reply::Refused {
             at: Some(place),
             why,
-        } => write!(out, "refused at {place}: {}", RefusalText(*why)),
+        } => {
+            let place = place_in(&line.show, *place);
+            write!(out, "refused at {place}: {}", RefusalText(*why))
+        }
         Reply::Refused { at: None, why } => write!(out, "refused: {}", RefusalText(*why)),
+    }
+}
+
+/// The number of a refused operation or change; of what a filter accepts of a blob, its number in the blob.
+pub fn place_in<A: AllocHandle>(show: &Show<A>, place: u64) -> u64
+    ensures { result ≡ place_in show.now place }
+{
+    match show {
+        Show::Accepted(_, numbering) => numbering.change(place),
+        _ => place,
     }
 }
 
@@ -111,8 +126,61 @@ fn applied_text<A: AllocHandle>(
     match &line.show {
         Show::Report => applied_with_report(alloc, version, report),
         Show::Buffer => applied_with_buffer(alloc, &line.command, version, report),
+        Show::Accepted(detail, numbering) => {
+            accepted_text(alloc, *detail, numbering, &line.command, version, report)
+        }
         _ => applied_counts(alloc, version, report),
     }
+}
+
+// The outcome of an apply to the tables that a filter accepts.
+fn accepted_text<A: AllocHandle>(
+    alloc: A,
+    detail: Detail,
+    numbering: &Numbering<A>,
+    command: &Command<A>,
+    version: u64,
+    report: &Report<A>,
+) -> Result<String<A>, OutOfMemory>
+    ensures { IfOk result (λ text. string_bytes text
+        ≡ accepted_shown detail numbering.now command.now version report.now) }
+{
+    let mut text = accepted_counts(alloc, numbering, version, report)?;
+    write_accepted(alloc, detail, numbering, command, report, &mut text)?;
+    Ok(text)
+}
+
+// Appends what is printed behind the counts.
+fn write_accepted<A: AllocHandle>(
+    alloc: A,
+    detail: Detail,
+    numbering: &Numbering<A>,
+    command: &Command<A>,
+    report: &Report<A>,
+    out: &mut String<A>,
+) -> Result<(), OutOfMemory>
+    ensures { OnOk result (string_bytes out.new ≡ string_bytes out.old
+        ++ accepted_detail detail numbering.now command.now report.now) }
+{
+    match detail {
+        Detail::Counts => Ok(()),
+        Detail::Report => write_report_in_blob(alloc, numbering, report, out),
+        Detail::Buffer => write_buffer(alloc, command, report.conflicts(), out),
+    }
+}
+
+fn accepted_counts<A: AllocHandle>(
+    alloc: A,
+    numbering: &Numbering<A>,
+    version: u64,
+    report: &Report<A>,
+) -> Result<String<A>, OutOfMemory>
+    ensures { IfOk result (λ text. string_bytes text ≡ accepted_text version numbering.now report.now) }
+{
+    let mut text = applied_counts(alloc, version, report)?;
+    let passed = numbering.passed().groups;
+    write_numbered(", passed ", passed, &mut text)?;
+    Ok(text)
 }
 
 fn applied_with_report<A: AllocHandle>(

@@ -1,9 +1,11 @@
 //! The text of the report of an apply.
 ghost use Rattle.std.specs.Prelude.{◌≡◌, ◌++◌, OnOk, string_bytes};
 ghost use Rattle.std.specs.List.{flat_map};
+ghost use Rattle.cap_applier.specs.Chosen.{in_blob};
 ghost use Rattle.cap_script.specs.ReplyText.{conflict_text, number_text, report_text};
 
 use crate::words::{answer_word, kind_word};
+use cap_applier::Numbering;
 use cap_apply::{Conflict, Report};
 use cap_value::{AllocHandle, OutOfMemory};
 
@@ -18,6 +20,24 @@ pub(crate) fn write_report<A: AllocHandle>(
     write_conflicts(alloc, report.conflicts(), out)?;
     write_numbers(alloc, "omitted", report.omitted(), out)?;
     write_numbers(alloc, "skipped", report.skipped(), out)
+}
+
+// The same of what a filter accepts of a blob, with the numbers in the blob.
+pub(crate) fn write_report_in_blob<A: AllocHandle>(
+    alloc: A,
+    numbering: &Numbering<A>,
+    report: &Report<A>,
+    out: &mut String<A>,
+) -> Result<(), OutOfMemory>
+    ensures { OnOk result (string_bytes out.new
+        ≡ string_bytes out.old ++ report_text (in_blob numbering.now report.now)) }
+{
+    let conflicts = numbering.conflicts(alloc, report.conflicts())?;
+    write_conflicts(alloc, conflicts.as_slice(), out)?;
+    let omitted = numbering.changes(alloc, report.omitted())?;
+    write_numbers(alloc, "omitted", omitted.as_slice(), out)?;
+    let skipped = numbering.groups(alloc, report.skipped())?;
+    write_numbers(alloc, "skipped", skipped.as_slice(), out)
 }
 
 fn write_conflicts<A: AllocHandle>(

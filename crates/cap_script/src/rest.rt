@@ -67,6 +67,21 @@ impl<'t> Rest<'t> {
         }
     }
 
+    // Goes past the next line, which is there.
+    pub(crate) fn pass<A: AllocHandle>(&mut self)
+        ensures others { (limits : Bool) (line : Line A) (others : List (Line A))
+            → ScriptSpelled limits (line ∷ others) self.old.text.now
+            → ScriptSpelled limits others self.new.text.now }
+        ensures left { (limits : Bool) (line : Line A) (others : List (Line A))
+            → ScriptSpelled limits (line ∷ others) self.old.text.now
+            → length self.new.text.now < length self.old.text.now }
+    {
+        if let Some((_, behind)) = self.next_text::<A>() {
+            self.text = behind;
+            self.number += 1;
+        }
+    }
+
     // Skips ignored lines. The text of the next line, and the text after it.
     pub(crate) fn next_text<A: AllocHandle>(&mut self) -> Option<(&'t str, &'t str)>
         ensures here { MatchOption result (self.new.text.now ≡ [])

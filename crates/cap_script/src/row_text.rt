@@ -26,12 +26,13 @@ pub(crate) fn snapshot_text<A: AllocHandle>(
     match show {
         Show::Get(table, row) => get_text(alloc, snapshot.get(table, row)),
         Show::Scan(table) => scan_text(alloc, snapshot.scan(table)),
+        Show::Step(_) => String::from_str(alloc, "refused: E21 NoTransaction"),
         _ => String::from_str(alloc, "ok"),
     }
 }
 
 // The text of the requested row.
-fn get_text<A: AllocHandle>(
+pub(crate) fn get_text<A: AllocHandle>(
     alloc: A,
     found: Result<Option<&Row<A>>, Refusal>,
 ) -> Result<String<A>, OutOfMemory>
@@ -50,7 +51,7 @@ fn get_text<A: AllocHandle>(
 }
 
 // The text of all rows of a table, each on a line.
-fn scan_text<A: AllocHandle>(
+pub(crate) fn scan_text<A: AllocHandle>(
     alloc: A,
     found: Result<Scan<'_, A>, Refusal>,
 ) -> Result<String<A>, OutOfMemory>

@@ -13,7 +13,7 @@ use std::alloc::Global;
 use std::marker::Brand;
 use std::sync::Wait;
 
-// Each of the twenty-one commands.
+// Each of the twenty-one commands, an application with a filter, and a step of a transaction, which no call has.
 pub(crate) const WORKLOAD: &str = "create t kv\n\
      commit insert t (1,'x')\n\
      session\n\
@@ -38,6 +38,8 @@ pub(crate) const WORKLOAD: &str = "create t kv\n\
      diff 1 old t\n\
      changeset 1\n\
      scan t\n\
+     apply x'540201006175646974001200010000000000000009030162540201007400120001000000000000000103017a' omit omit omit report filter is t\n\
+     begin\n\
      dropdatabase old\n\
      drop 1\n\
      isempty 1";
@@ -72,6 +74,10 @@ pub(crate) const REPLIES: &str = "ok version 1\n\
      changeset 5402010074001701010000000000000001030178000301790901010000000000000002030179\n\
      rows 1\n\
      (1,'y')\n\
+     ok version 7, applied 0, omitted 1, skipped 0, passed 1\n\
+     conflict 1 conflict omit\n\
+     omitted 1\n\
+     refused: E21 NoTransaction\n\
      ok\n\
      ok\n\
      refused: E18 NoSession\n";
@@ -319,7 +325,7 @@ fn starved<J: Naming + Send + Sync, A: AllocHandle>(
 fn each_call_is_answered(rt: HostRuntime) {
     let mut texts = String::new(rt.alloc());
     let called = each_call::<Brand>(&rt, Opened::new(), rt.alloc(), &mut texts);
-    assert!(rt; called == Some((27, 27)));
+    assert!(rt; called == Some((29, 29)));
     // They are the replies of the sequential server.
     assert!(rt; texts.as_str() == REPLIES);
 }

@@ -105,13 +105,13 @@ fn run_answers(
     lines: &[Line<Global>],
     commands: &[Command<Global>],
 ) -> Option<bool> {
-    if commands.len() != 27 {
+    if commands.len() != 29 {
         return None;
     }
     let (core, replies) = Core::run(alloc, commands).ok()?;
     let mut texts = String::new(alloc);
     push_replies(alloc, &mut texts, lines, replies.as_slice())?;
-    Some(core.events() == 27 && texts.as_str() == REPLIES)
+    Some(core.events() == 29 && texts.as_str() == REPLIES)
 }
 
 fn is_answered(alloc: Global) -> Option<bool> {

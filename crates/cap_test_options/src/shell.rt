@@ -41,6 +41,16 @@ const LINES: &[(&[u8], &str, &str)] = &[
         "",
     ),
     (b"scan t", "rows 1\n(1,'x')\n", ""),
+    (b"begin", "ok\n", ""),
+    (b"insert t (2,'y')", "ok\n", ""),
+    (b"savepoint", "savepoint 0\n", ""),
+    (b"insert t", "", "line 18: G1 Syntax at 8\n"),
+    (b"delete t key(1)", "ok\n", ""),
+    (b"rollback to 0", "ok\n", ""),
+    (b"get t key(1)", "row (1,'x')\n", ""),
+    (b"begin", "refused: E22 InTransaction\n", ""),
+    (b"end", "ok version 3\n", ""),
+    (b"rollback", "refused: E21 NoTransaction\n", ""),
 ];
 
 // The text of some lines, and what is written for them.

@@ -26,6 +26,19 @@ const ROWS: &[(&str, &str)] = &[
         "expected all nothing is starts ends not and or )",
     ),
     ("drop", "expected NUMBER"),
+    (
+        "apply x'' omit omit omit",
+        "expected filter report buffer END",
+    ),
+    ("apply x'' omit omit omit report", "expected filter END"),
+    (
+        "apply x'' omit omit omit buffer filter ",
+        "expected all nothing is starts ends not and or",
+    ),
+    ("cascade ", "expected insert update delete"),
+    ("delete t loose 1", "expected END"),
+    ("rollback ", "expected to END"),
+    ("rollback to", "expected NUMBER"),
     ("@", "expected NUMBER"),
 ];
 

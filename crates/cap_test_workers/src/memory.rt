@@ -1,5 +1,5 @@
 //! Each request of a run for memory refused in turn.
-use crate::rows::WORKLOADS;
+use crate::rows::{WORKLOADS, WORKLOADS_ALONE};
 use cap_locked::CallFault;
 use cap_run::{NoGate, Pace, ReplyForm, RunFault, run_core, run_workload};
 use cap_test_support::{Failure, Memory, Source};
@@ -118,6 +118,12 @@ fn each_allocation_of_a_run_may_be_refused(rt: HostRuntime) {
         );
         assert!(rt;
             spares_few(&rt, rt.alloc(), true, *text, *replies),
+            "{text}"
+        );
+    }
+    for (text, replies) in WORKLOADS_ALONE {
+        assert!(rt;
+            spares_few(&rt, rt.alloc(), false, *text, *replies),
             "{text}"
         );
     }

@@ -36,11 +36,24 @@ const APPLY: (&str, &str) = (
     "ok version 1\nok version 2\nsession 1\nok\nok version 3, applied 1, omitted 0, skipped 0\nchangeset 540201007400170001000000000000000103017800030179\n",
 );
 
+// Transactions over several lines, of which one is rolled back, one is committed, and one is refused.
+const TRANSACTIONS: (&str, &str) = (
+    "create t kv\nbegin\ninsert t (1,'x')\nrollback\nbegin\ninsert t (1,'y')\nsavepoint\nupdate t key(1) set 1 = 'z'\nrollback to 0\nget t key(1)\nend\nbegin\nget t key(1)\ndelete t key(1)\ncommit update t key(1) set 1 = 'w'\nend\nend\n",
+    "ok version 1\nok\nok\nok\nok\nok\nsavepoint 0\nok\nok\nrow (1,'y')\nok version 2\nok\nrow (1,'y')\nok\nok version 3\nrefused: E11 Stale base 2 now 3 item 1\nrefused: E21 NoTransaction\n",
+);
+
 /// Workloads with their replies, each of which is one line, for runs whose memory is refused.
 pub(crate) const WORKLOADS: &[(&str, &str)] = &[INSERT, FILTER, DUPLICATE, DIFF, WORKERS, APPLY];
 
-/// Workloads of one thread with their replies.
+/// The same for runs on one thread alone.
+pub(crate) const WORKLOADS_ALONE: &[(&str, &str)] = &[TRANSACTIONS];
+
+/// Workloads of one worker with their replies. On a worker's thread no transaction can be open.
 pub(crate) const ROWS: &[(&str, &str)] = &[
+    (
+        "create t kv\nbegin\ninsert t (1,'x')\nsavepoint\nget t key(1)\nrollback to 0\nrollback\nend\nscan t\n",
+        "ok version 1\nrefused: E21 NoTransaction\nrefused: E21 NoTransaction\nrefused: E21 NoTransaction\nno row\nrefused: E21 NoTransaction\nrefused: E21 NoTransaction\nrefused: E21 NoTransaction\nrows 0\n",
+    ),
     (
         "create t kv\nsession\nattach 1 t\nisempty 1\nchangeset 1\n",
         "ok version 1\nsession 1\nok\ntrue\nchangeset -\n",

@@ -10,14 +10,15 @@ use Rattle.cap_core.specs.declared.reply.Reply.{Reply}
 use Rattle.cap_history.specs.History.{own}
 use Rattle.cap_history.specs.Seat.{SeatState, calls}
 use Rattle.cap_locked.specs.declared.fault.CallFault.TheVariants.{OutOfMemory}
-use Rattle.cap_run.specs.Run.{AppendsFront, Ended, Known, ending, on_a_line, reply_lines}
+use Rattle.cap_interpreter.specs.Lines.{on_a_line}
+use Rattle.cap_run.specs.Run.{AppendsFront, Ended, Known, ending}
 use Rattle.cap_run.specs.declared.fault.RunFault.{RunFault}
 use Rattle.cap_run.specs.declared.fault.RunFault.TheVariants.{Call, Close, Write}
 use Rattle.cap_replies.specs.Printed.{reply_text}
 use Rattle.cap_replies.specs.Lines.{LinesLeft, SpellsRun, begins_at}
 use Rattle.cap_replies.specs.declared.run_line.ReplyForm.{ReplyForm}
 use Rattle.cap_replies.specs.declared.run_line.RunLine.{RunLine}
-use Rattle.cap_run.specs.Workload.{AreCalls, EachBlock, HasCount, ReportsEvents, calls_of, seat_of}
+use Rattle.cap_run.specs.Workload.{AreCalls, EachBlock, HasCount, ReportsEvents, calls_of, reply_lines, seat_of}
 
 -- a worker after its lines of a block: its seat, the texts of their replies, and the fault of the line after
 -- those

@@ -5,12 +5,12 @@ use Rattle.cap_replies.specs.declared.run_line.RunLine.{RunLine}
 use Rattle.cap_run.proofs.RunLemmas.{IsAt}
 use Rattle.cap_run.proofs.run.write_replies.Given as goal
 
-abbrev pub invariant-loop-line : goal.invariant-loop-line
-invariant-loop-line g l = record {
+abbrev pub invariant-loop-made : goal.invariant-loop-made
+invariant-loop-made g l = record {
   run : (spelled : List (RunLine g.row.A.Denot)) → SpellsRun spelled l.initial.lines
-      → IsAt spelled l.lines l.core (string_bytes l.pending) (g.W.RunOutput.contents l.initial.writer) (g.W.RunOutput.contents l.writer);
+      → IsAt spelled l.lines l.interpreter (string_bytes l.pending) (g.W.RunOutput.contents l.initial.writer) (g.W.RunOutput.contents l.writer);
   went : AllWent g.W.RunOutput.went l.initial.writer l.writer;
 }
 
-abbrev pub decreases-loop-line : goal.decreases-loop-line
-decreases-loop-line g l = length l.lines.text
+abbrev pub decreases-loop-made : goal.decreases-loop-made
+decreases-loop-made g l = length l.lines.text

@@ -4,4 +4,4 @@ use Rattle.cap_run.specs.Shell.{Ignored}
 use Rattle.cap_run.proofs.shell.answer_text.Goals as goal
 
 pub returns-in-Ok-None-clause-answered : goal.returns-in-Ok-None-clause-answered
-returns-in-Ok-None-clause-answered g c = λ h so. (Ignored, (c.utf8.text, search rules), so, c.nothing.ensures.reply, c.nothing.ensures.fault)
+returns-in-Ok-None-clause-answered g c = λ course so. (Ignored, (c.utf8.text, search rules), so, c.nothing.ensures.reply, c.nothing.ensures.fault)

@@ -5,7 +5,8 @@ use Rattle.cap_locked.specs.declared.fault.CallFault.TheVariants as call
 use Rattle.cap_run.specs.BlobList.{HasLines}
 use Rattle.cap_run.specs.Code.Unread.{CutsLine}
 use Rattle.cap_run.specs.RunFault.{is_read}
-use Rattle.cap_run.specs.Shell.{after_lines, outputs}
+use Rattle.cap_interpreter.specs.Lines.{after_lines, begin_course}
+use Rattle.cap_run.specs.Shell.{lines_run, outputs}
 use Rattle.cap_run.proofs.InputLemmas.{reads_before, reads_passed}
 use Rattle.cap_run.proofs.OutputLemmas.{went_on}
 use Rattle.cap_run.proofs.ShellLemmas.{at_end, at_fault, at_first, at_line, at_next, at_unread, both_later, failed_reported, first_alone, line_there}
@@ -15,7 +16,7 @@ use Rattle.cap_run.proofs.shell.run_shell.Goals as goal
 pub loop-found-init : goal.loop-found-init
 loop-found-init g c =
     let input = g.R.Source.remaining c.args.reader.now in record {
-      run = at_first input (prepend_known c.new-unread.result input) c.new-core.result (outputs (g.W.RunOutput.contents c.args.replies.now) (g.E.RunOutput.contents c.args.faults.now)) c.new-core.ensures
+      run = at_first input (prepend_known c.new-unread.result input) c.new-interpreter.result (outputs (g.W.RunOutput.contents c.args.replies.now) (g.E.RunOutput.contents c.args.faults.now)) c.new-interpreter.ensures
           (λ others has. lines_nil input others (subst (λ (u : List ℕ). HasLines (prepend_known u input) others) c.new-unread.ensures has));
       went = (0, refl);
       reported = (0, refl);
@@ -45,7 +46,7 @@ returns-in-Err-OutOfMemory-clause-written g c =
     let left = prepend_known c.loop-found.unread (remaining c.loop-found.reader) in
     let old = outputs (g.W.RunOutput.contents c.args.replies.now) (g.E.RunOutput.contents c.args.faults.now) in
     let here = outputs (g.W.RunOutput.contents c.loop-found.replies) (g.E.RunOutput.contents c.loop-found.faults) in
-    at_fault input left (remaining c.next_line.new.reader) c.loop-found.core c.loop-found.number old here (g.W.RunOutput.contents c.end.new.replies) call.OutOfMemory c.end.result so tt (lines_one left memory.1)
+    at_fault input left (remaining c.next_line.new.reader) c.loop-found.interpreter c.loop-found.number old here (g.W.RunOutput.contents c.end.new.replies) call.OutOfMemory c.end.result so tt (lines_one left memory.1)
     c.end.ensures.ended c.end.ensures.written
 
 -- ---- a read failed
@@ -65,7 +66,7 @@ returns-in-Err-Failed-clause-written g c =
     let left = prepend_known c.loop-found.unread (remaining c.loop-found.reader) in
     let old = outputs (g.W.RunOutput.contents c.args.replies.now) (g.E.RunOutput.contents c.args.faults.now) in
     let here = outputs (g.W.RunOutput.contents c.loop-found.replies) (g.E.RunOutput.contents c.loop-found.faults) in
-    at_unread input left (remaining c.next_line.new.reader) c.loop-found.core c.loop-found.number old here so unread.1
+    at_unread input left (remaining c.next_line.new.reader) c.loop-found.interpreter c.loop-found.number old here so unread.1
 
 -- ---- the end of the input
 
@@ -81,7 +82,7 @@ returns-in_default-clause-written g c =
     let left = prepend_known c.loop-found.unread (remaining c.loop-found.reader) in
     let old = outputs (g.W.RunOutput.contents c.args.replies.now) (g.E.RunOutput.contents c.args.faults.now) in
     let here = outputs (g.W.RunOutput.contents c.loop-found.replies) (g.E.RunOutput.contents c.loop-found.faults) in
-    at_end input left c.loop-found.core c.loop-found.number old here so ended
+    at_end input left c.loop-found.interpreter c.loop-found.number old here so ended
 
 -- ---- a line at which the shell ends
 
@@ -105,7 +106,7 @@ returns-in-Err-clause-written g c =
     let here = outputs (g.W.RunOutput.contents c.loop-found.replies) (g.E.RunOutput.contents c.loop-found.faults) in
     let rest = prepend_known c.next_line.new.unread (remaining c.next_line.new.reader) in
     let cut = rw c.in-Some.is at c.in-Ok.ensures.line in
-    at_fault input left (remaining c.next_line.new.reader) c.loop-found.core c.loop-found.number old here (g.W.RunOutput.contents c.end-in-Err.new.replies) c.in-Err.fault c.end-in-Err.result so c.in-Err.ensures.ended
+    at_fault input left (remaining c.next_line.new.reader) c.loop-found.interpreter c.loop-found.number old here (g.W.RunOutput.contents c.end-in-Err.new.replies) c.in-Err.fault c.end-in-Err.result so c.in-Err.ensures.ended
     (line_there c.in-Some.line.items left rest cut) c.end-in-Err.ensures.ended c.end-in-Err.ensures.written
 
 -- ---- a write failed
@@ -132,10 +133,10 @@ returns-in-Err-write_printed-clause-written g c =
     let rest = prepend_known c.next_line.new.unread (remaining c.next_line.new.reader) in
     let cut = rw c.in-Some.is at c.in-Ok.ensures.line in
     let text = subst (λ (l : List ℕ). CutsLine l left rest) (sym c.as_slice.ensures.value) cut in
-    let answered = c.in-Ok-answer_line.ensures.answered (after_lines [] so.lines) so.leaves in
+    let answered = c.in-Ok-answer_line.ensures.answered (after_lines begin_course (lines_run so.lines)) so.stands in
     let after = outputs (g.W.RunOutput.contents c.write_printed.new.replies) (g.E.RunOutput.contents c.write_printed.new.faults) in
     let err = c.in-Err-write_printed.ensures.err in
-    rw err.0 (at_line input left rest (remaining c.next_line.new.reader) c.loop-found.core c.answer_line.new.core c.loop-found.number (c.loop-found.number + 1) old here after c.as_slice.result.now
+    rw err.0 (at_line input left rest (remaining c.next_line.new.reader) c.loop-found.interpreter c.answer_line.new.interpreter c.loop-found.number (c.loop-found.number + 1) old here after c.as_slice.result.now
     (string_bytes c.in-Ok-answer_line.printed.reply) (string_bytes c.in-Ok-answer_line.printed.fault) so text refl answered (err.1, err.2))
 
 -- ---- the next line
@@ -151,11 +152,11 @@ loop-found-preserved g c =
     let rest = prepend_known c.next_line.new.unread (remaining c.next_line.new.reader) in
     let cut = rw c.in-Some.is at c.in-Ok.ensures.line in
     let text = subst (λ (l : List ℕ). CutsLine l left rest) (sym c.as_slice.ensures.value) cut in
-    let answered = c.in-Ok-answer_line.ensures.answered (after_lines [] so.lines) so.leaves in
+    let answered = c.in-Ok-answer_line.ensures.answered (after_lines begin_course (lines_run so.lines)) so.stands in
     let after = outputs (g.W.RunOutput.contents c.write_printed.new.replies) (g.E.RunOutput.contents c.write_printed.new.faults) in
     let wrote = c.in_default-write_printed.ensures in
     let fewer = rw c.in-Some.is at c.in-Ok.ensures.fewer in record {
-      run = at_next input left rest c.loop-found.core c.answer_line.new.core c.loop-found.number (c.loop-found.number + 1) old here after c.as_slice.result.now
+      run = at_next input left rest c.loop-found.interpreter c.answer_line.new.interpreter c.loop-found.number (c.loop-found.number + 1) old here after c.as_slice.result.now
           (string_bytes c.in-Ok-answer_line.printed.reply) (string_bytes c.in-Ok-answer_line.printed.fault) so text refl answered wrote.ok;
       went = went_on g.W.RunOutput.went g.W.RunOutput.failed c.args.replies.now c.loop-found.replies c.write_printed.new.replies c.loop-found.invariant.went wrote.write_reported.0;
       reported = went_on g.E.RunOutput.went g.E.RunOutput.failed c.args.faults.now c.loop-found.faults c.write_printed.new.faults c.loop-found.invariant.reported wrote.write_reported.1;

@@ -8,7 +8,7 @@ use Rattle.cap_run.proofs.shell.run_shell.Given as goal
 
 abbrev pub invariant-loop-found : goal.invariant-loop-found
 invariant-loop-found g l = record {
-  run : IsAt (g.R.Source.remaining l.initial.reader) (prepend_known l.unread (g.R.Source.remaining l.reader)) l.core l.number
+  run : IsAt (g.R.Source.remaining l.initial.reader) (prepend_known l.unread (g.R.Source.remaining l.reader)) l.interpreter l.number
       (outputs (g.W.RunOutput.contents l.initial.replies) (g.E.RunOutput.contents l.initial.faults)) (outputs (g.W.RunOutput.contents l.replies) (g.E.RunOutput.contents l.faults));
   went : AllWent g.W.RunOutput.went l.initial.replies l.replies;
   reported : AllWent g.E.RunOutput.went l.initial.faults l.faults;

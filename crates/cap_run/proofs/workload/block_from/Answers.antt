@@ -1,4 +1,4 @@
-use Rattle.std.proofs.Common.{◌<◌, IfSome, Option, arith, length, subst}
+use Rattle.std.proofs.Common.{◌<◌, IfSome, Option, [], arith, length, refl, rules, subst}
 use Rattle.cap_replies.specs.Lines.{TakesFirst}
 use Rattle.cap_replies.specs.declared.run_line.RunLine.{RunLine}
 use Rattle.cap_run.proofs.NextLemmas.{block_goes_on, block_more, block_whole}
@@ -31,3 +31,16 @@ returns-in_default-clause-left g c =
 pub returns-clause-block : goal.returns-clause-block
 returns-clause-block g c = λ rest spelled.
     block_whole c.args.first rest c.loop-lines.block.items c.begins_at.result c.loop-lines.lines c.begins_at.new.self (c.loop-lines.invariant.block rest spelled) c.begins_at.ensures.next c.loop-lines-test.false
+
+pub loop-lines-init : goal.loop-lines-init
+loop-lines-init g c = record {
+  left = omega arith;
+  block = λ rest spelled. record {
+    taken = [];
+    left = rest;
+    block_is = search rules;
+    parts = refl;
+    each = tt;
+    spelled = spelled;
+  };
+}

@@ -1,12 +1,27 @@
-use Rattle.std.proofs.Common.{◌≡◌, List, ℕ, IsErrAnd, false, inr, string_bytes, subst, sym}
+use Rattle.std.proofs.Common.{◌≡◌, ◌⊎◌, List, ℕ, IsErrAnd, false, inr, string_bytes, subst, sym}
 use Rattle.std.proofs.lemmas.Result.{err_from_is_err_and}
-use Rattle.cap_run.specs.RunFault.{IsNoWorkload, IsOfText, is_script}
+use Rattle.cap_run.specs.declared.fault.RunFault.TheVariants.{NotUtf8}
+use Rattle.cap_run.specs.RunFault.{IsNoWorkload, IsOfText, IsUnread, is_script}
 use Rattle.cap_script.specs.FirstRefused.{SpellsWithin}
 use Rattle.cap_replies.specs.Lines.{LinesLeft, SpellsRun}
 use Rattle.cap_run.proofs.HistoryLemmas.{begins_nothing}
-use Rattle.cap_run.proofs.InputLemmas.{each_text, fault_of_text, known_text, no_script_fault, unread_no_script, unread_of_text, unspelled_early, unspelled_no_workload, reads_passed, reads_unspelled, input_spelled, unread_early}
+use Rattle.cap_run.proofs.InputLemmas.{each_text, fault_of_text, known_text, no_script_fault, no_text_fault, text_known, unread_no_script, unread_of_text, unspelled_early, unspelled_no_workload, reads_passed, reads_unspelled, input_spelled, unread_early}
 use Rattle.cap_run.proofs.OutputLemmas.{none_reported}
 use Rattle.cap_run.proofs.workload.run_workload.Goals as goal
+
+-- which input is no text
+pub returns-clause-not_utf8 : goal.returns-clause-not_utf8
+returns-clause-not_utf8 g c =
+    text_known (λ given. IsErrAnd c.serve_lines.result (λ fault. (fault ≡ NotUtf8) ⊎ IsUnread fault)) (g.R.Source.remaining c.args.reader.now)
+    (string_bytes c.in_ok-text.text) c.as_str.result.now c.as_str.ensures.value c.in_ok-text.ensures.whole c.as_str.utf8
+
+pub returns-in_err-lines-clause-not_utf8 : goal.returns-in_err-lines-clause-not_utf8
+returns-in_err-lines-clause-not_utf8 g c =
+    text_known (λ given. IsErrAnd c.from_residual-in_err-lines.result (λ fault. (fault ≡ NotUtf8) ⊎ IsUnread fault)) (g.R.Source.remaining c.args.reader.now)
+    (string_bytes c.in_ok-text.text) c.as_str.result.now c.as_str.ensures.value c.in_ok-text.ensures.whole c.as_str.utf8
+
+pub returns-clause-only_not_utf8 : goal.returns-clause-only_not_utf8
+returns-clause-only_not_utf8 g c = no_text_fault (g.R.Source.remaining c.args.reader.now) c.serve_lines.result c.serve_lines.ensures.status
 
 pub returns-clause-written : goal.returns-clause-written
 returns-clause-written g c =

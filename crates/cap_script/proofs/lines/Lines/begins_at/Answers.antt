@@ -1,4 +1,4 @@
-use Rattle.std.proofs.Common.{◌∙◌, ℕ, true, false, List, ap, eqb, subst, sym}
+use Rattle.std.proofs.Common.{◌∙◌, ◌++◌, ℕ, true, false, List, ap, eqb, subst, sym}
 use Rattle.std.proofs.Math.Logic.{∥∥₁_map}
 use Rattle.cap_script.specs.Script.{SpellsScript, begins_at}
 use Rattle.cap_language.specs.Tokens.{begins}
@@ -20,7 +20,9 @@ returns-in_default-clause-next g c = λ lines spelled.
 
 -- without the ignored lines the text spells the same lines
 pub invariant_of-self : goal.invariant_of-self
-invariant_of-self g c = ∥∥₁_map c.self.invariant (λ (lines, spelled, within). (lines, c.in_default.ensures.passed false lines spelled, c.in_default.ensures.passed true lines within))
+invariant_of-self g c = ∥∥₁_map c.self.invariant (λ (others, spelled, within).
+    (others, c.in_default.ensures.passed false (c.self.inside.kept.items ++ others) spelled, c.in_default.ensures.passed true (c.self.inside.kept.items ++ others) within))
 
 pub invariant_of-self-2 : goal.invariant_of-self-2
-invariant_of-self-2 g c = ∥∥₁_map c.self.invariant (λ (lines, spelled, within). (lines, c.in-Some.ensures.passed false lines spelled, c.in-Some.ensures.passed true lines within))
+invariant_of-self-2 g c = ∥∥₁_map c.self.invariant (λ (others, spelled, within).
+    (others, c.in-Some.ensures.passed false (c.self.inside.kept.items ++ others) spelled, c.in-Some.ensures.passed true (c.self.inside.kept.items ++ others) within))

@@ -1,8 +1,0 @@
-use Rattle.std.proofs.Common.{◌≡◌, ◌++◌, drop}
-use Rattle.cap_connection.specs.Chosen.{each_number}
-use Rattle.cap_connection.proofs.chosen.put_numbers.Given as goal
-
--- what was put, and the numbers of the changes that are left
-abbrev pub invariant-loop-change : goal.invariant-loop-change
-invariant-loop-change g l =
-    l.numbers.items ++ each_number l.number (drop l._change-index l.changes) ≡ l.fn.numbers.items ++ each_number l.first l.changes

@@ -1,0 +1,31 @@
+-- What a line makes of a server, of the open transaction and of the output, for private contracts. No rule is
+-- defined here.
+use Rattle.std.specs.Prelude.{◌≡◌, ◌++◌, ℕ, List, Option, Result, Ok, Err}
+use Rattle.cap_txn.specs.Transaction.{TxnState}
+use Rattle.cap_core.specs.Answer.{State}
+use Rattle.cap_locked.specs.declared.fault.CallFault.{CallFault}
+use Rattle.cap_locked.specs.declared.fault.CallFault.TheVariants.{OutOfMemory, Overtaken, HistoryFull}
+use Rattle.cap_replies.specs.declared.run_line.RunLine.{RunLine}
+use Rattle.cap_interpreter.specs.Interpreter.{InterpreterState}
+use Rattle.cap_interpreter.specs.Lines.{Course, IsAt, IsFull, after_line, on_a_line, text_of}
+
+-- S2 exactly where the history is full; no call is overtaken
+abbrev pub FaultIs : CallFault → Type 0 → Type 0
+FaultIs OutOfMemory full = full → ⊥
+FaultIs (Overtaken front) full = ⊥
+FaultIs HistoryFull full = full
+
+module _ {A : Type 0} where
+  abbrev pub holding : State A → Option (TxnState A) → InterpreterState A
+  holding core txn = record { core = core; txn = txn }
+
+  -- The line led from there to this server and this transaction, and its reply was appended; or it has a
+  -- fault, and the server and the output are as before.
+  abbrev pub Ran : RunLine A → InterpreterState A → State A → Result (Option (TxnState A)) CallFault → List ℕ
+      → List ℕ → Type 0
+  Ran line old core (Ok txn) before printed =
+      (IsFull old line → ⊥) × ((course : Course A) → IsAt course old →
+      IsAt (after_line course line) (holding core txn)
+      × (printed ≡ before ++ on_a_line (text_of course line)))
+  Ran line old core (Err fault) before printed =
+      (core ≡ old.core) × (printed ≡ before) × FaultIs fault (IsFull old line)

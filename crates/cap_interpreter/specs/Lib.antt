@@ -1,0 +1,4 @@
+pub mod Calls
+pub mod Code
+pub mod Interpreter
+pub mod Lines
