@@ -114,9 +114,14 @@ fn leading_action<A: AllocHandle>(
 fn every_column<A: AllocHandle>(alloc: A, row: &Row<A>) -> Result<Assignments<A>, OutOfMemory>
     ensures { IfOk result (λ columns. columns ≡ enumerate_from 0 row.now) }
 {
-    let mut columns = Vec::with_capacity(alloc, row.width())?;
-    for (column, value) in row.fields().iter().enumerate() {
-        columns.push((column, value.copy()?))?;
+    let width = row.width();
+    let mut columns = Vec::with_capacity(alloc, width)?;
+    let mut rest = row.fields();
+    for column in 0..width {
+        let Some(value) = rest.next_value() else {
+            return Ok(Assignments::new(columns));
+        };
+        columns.push((column, value.own(alloc)?))?;
     }
     Ok(Assignments::new(columns))
 }

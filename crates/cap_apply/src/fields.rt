@@ -1,12 +1,14 @@
 //! Rows, keys and assignments from the fields of a change.
-ghost use Rattle.std.specs.Prelude.{◌≡◌, [], ◌∷◌, ◌++◌, IfOk, IsTrue, OnOk, if◌then◌else◌};
+ghost use Rattle.std.specs.Prelude.{◌≡◌, [], ◌∷◌, ◌++◌, map, take, drop, IfOk, IsTrue, OnOk, if◌then◌else◌};
 ghost use Rattle.std.specs.Option.{unwrap_or};
 ghost use Rattle.cap_value.specs.declared.value.Value.TheVariants.{Null};
+ghost use Rattle.cap_field.specs.FieldReading.{value_of};
 ghost use Rattle.cap_row.specs.Key.{is_key};
 ghost use Rattle.cap_changes.specs.Patch.{update_record};
 ghost use Rattle.cap_apply.specs.Row.{has_old_values, has_old_value, key_values, new_row, set_fields};
 
-use cap_row::{Key, KeyValues, Row, RowValues};
+use cap_field::ValueRef;
+use cap_row::{Key, KeyValues, Row, RowBuilder, RowFields};
 use cap_value::{AllocHandle, OutOfMemory, Value};
 use smallvec::SmallVec;
 
@@ -51,22 +53,25 @@ pub(crate) fn new_row<A: AllocHandle>(
 ) -> Result<Row<A>, OutOfMemory>
     ensures { IfOk result (λ row. row ≡ new_row width fields.now) }
 {
-    let mut values = SmallVec::with_capacity(alloc, width)?;
+    let mut builder = RowBuilder::new(alloc);
     for field in fields {
-        values.push(value_or_null(field)?)?;
+        push_or_null(&mut builder, field)?;
     }
     for _further in 0..width.saturating_sub(fields.len()) {
-        values.push(Value::Null)?;
+        builder.push_null()?;
     }
-    Row::of_values(alloc, values)
+    builder.finish()
 }
 
-fn value_or_null<A: AllocHandle>(field: &Option<Value<A>>) -> Result<Value<A>, OutOfMemory>
-    ensures { IfOk result (λ value. value ≡ unwrap_or field.now Null) }
+fn push_or_null<A: AllocHandle>(
+    builder: &mut RowBuilder<A>,
+    field: &Option<Value<A>>,
+) -> Result<(), OutOfMemory>
+    ensures { OnOk result (builder.new ≡ builder.old ++ unwrap_or field.now Null ∷ []) }
 {
     match field {
-        Some(value) => value.copy(),
-        None => Ok(Value::Null),
+        Some(value) => builder.push(value),
+        None => builder.push_null(),
     }
 }
 
@@ -80,94 +85,77 @@ pub(crate) fn updated<A: AllocHandle>(
 ) -> Result<Row<A>, OutOfMemory>
     ensures { IfOk result (λ made. made ≡ set_fields (update_record flags.now key.now new.now) row.now) }
 {
-    let mut values = SmallVec::with_capacity(alloc, row.width())?;
-    set_fields(&mut values, flags, key, new, row.fields())?;
-    Row::of_values(alloc, values)
+    let mut builder = RowBuilder::new(alloc);
+    set_fields(&mut builder, flags, key, new, row.fields())?;
+    builder.finish()
 }
 
 // Appends the values of the row, with the fields set.
 fn set_fields<A: AllocHandle>(
-    values: &mut RowValues<A>,
+    builder: &mut RowBuilder<A>,
     flags: &[bool],
     key: &[Option<Value<A>>],
     new: &[Option<Value<A>>],
-    row: &[Value<A>],
+    row: RowFields<'_, A>,
 ) -> Result<(), OutOfMemory>
-    ensures { OnOk result (values.new.items
-        ≡ values.old.items ++ set_fields (update_record flags.now key.now new.now) row.now) }
+    ensures { OnOk result (builder.new
+        ≡ builder.old ++ set_fields (update_record flags.now key.now new.now) row.entry) }
 {
     let Some((flag, flags)) = flags.split_first() else {
-        return copies(values, row);
+        return builder.push_rest(row);
     };
     let Some((kept, key)) = key.split_first() else {
-        return copies(values, row);
+        return builder.push_rest(row);
     };
     let Some((set, new)) = new.split_first() else {
-        return copies(values, row);
+        return builder.push_rest(row);
     };
-    let Some((value, row)) = row.split_first() else {
-        return Ok(());
-    };
-    push_field(values, *flag, kept, set, value)?;
-    set_fields(values, flags, key, new, row)
+    let mut rest = row;
+    push_field(builder, *flag, kept, set, &mut rest)?;
+    set_fields(builder, flags, key, new, rest)
 }
 
-// Appends the value of a column after an update, by its key flag, the fields and the value before.
+// Appends the next value of the row after an update, by its key flag and the fields.
 fn push_field<A: AllocHandle>(
-    values: &mut RowValues<A>,
+    builder: &mut RowBuilder<A>,
     flag: bool,
     kept: &Option<Value<A>>,
     set: &Option<Value<A>>,
-    value: &Value<A>,
+    rest: &mut RowFields<'_, A>,
 ) -> Result<(), OutOfMemory>
-    ensures { OnOk result (values.new.items ≡ values.old.items
-        ++ unwrap_or (if flag then kept.now else set.now) value.now ∷ []) }
+    ensures field { OnOk result (builder.new ≡ builder.old
+        ++ map (unwrap_or (if flag then kept.now else set.now)) (take 1 rest.old)) }
+    ensures passed { rest.new ≡ drop 1 rest.old }
 {
     let field = if flag { kept } else { set };
-    values.push(value_or(field, value)?)?;
-    Ok(())
-}
-
-fn copies<A: AllocHandle>(values: &mut RowValues<A>, row: &[Value<A>]) -> Result<(), OutOfMemory>
-    ensures { OnOk result (values.new.items ≡ values.old.items ++ row.now) }
-{
-    for value in row {
-        values.push(value.copy()?)?;
-    }
-    Ok(())
-}
-
-fn value_or<A: AllocHandle>(
-    field: &Option<Value<A>>,
-    value: &Value<A>,
-) -> Result<Value<A>, OutOfMemory>
-    ensures { IfOk result (λ value_now. value_now ≡ unwrap_or field.now value.now) }
-{
-    match field {
-        Some(set) => set.copy(),
-        None => value.copy(),
-    }
+    builder.push_next_or(field.as_ref(), rest)
 }
 
 // Whether the row has each old value of the change outside the key.
 pub(crate) fn has_old_values<A: AllocHandle>(
     flags: &[bool],
     old: &[Option<Value<A>>],
-    row: &[Value<A>],
+    row: RowFields<'_, A>,
 ) -> bool
-    ensures { result ≡ has_old_values flags.now old.now row.now }
+    ensures { result ≡ has_old_values flags.now old.now row.entry }
 {
-    flags
-        .iter()
-        .zip(old.iter().zip(row))
-        .all(|(key, (old, value))| has_old_value(*key, old, value))
+    let mut rest = row;
+    for (key, old) in flags.iter().zip(old) {
+        let Some(value) = rest.next_value() else {
+            return true;
+        };
+        if !has_old_value(*key, old, value) {
+            return false;
+        }
+    }
+    true
 }
 
-fn has_old_value<A: AllocHandle>(key: bool, old: &Option<Value<A>>, value: &Value<A>) -> bool
-    ensures { result ≡ has_old_value key old.now value.now }
+fn has_old_value<A: AllocHandle>(key: bool, old: &Option<Value<A>>, value: ValueRef<'_>) -> bool
+    ensures { result ≡ has_old_value key old.now (value_of value.entry) }
 {
     match old {
-        Some(old) => key || old == value,
+        Some(old) => key || ValueRef::of(old).same::<A>(value),
         None => true,
     }
 }

@@ -9,13 +9,13 @@ use Rattle.cap_changes.specs.declared.field_requirement.FieldRequirement.TheVari
 use Rattle.cap_changes.specs.declared.record_kind.RecordKind.TheVariants.{Full, Keyed}
 use Rattle.cap_changes.specs.declared.row_change.RowChange.{RowChange}
 use Rattle.cap_changes.specs.declared.row_change.RowChange.TheVariants.{Insert, Update, Delete}
-use Rattle.cap_codec.specs.declared.fault.BlobFault.{BlobFault}
+use Rattle.cap_field.specs.declared.fault.BlobFault.{BlobFault}
 use Rattle.cap_codec.specs.BlobReading.{change_at}
 use Rattle.cap_codec.specs.Field.{record_bytes}
 use Rattle.cap_codec.specs.HeaderReading.{is_set}
-use Rattle.cap_codec.specs.Reading.{◌>>=◌, byte_at}
+use Rattle.cap_field.specs.Reading.{◌>>=◌, byte_at}
 use Rattle.cap_codec.specs.RecordReading.{record_at}
-use Rattle.cap_codec.proofs.Binds.{bind_ok, ok_is}
+use Rattle.cap_field.proofs.Binds.{bind_ok, ok_is}
 use Rattle.cap_codec.proofs.FitLemmas.{record_meets}
 use Rattle.cap_blob.specs.Passing.{behind, appended, value_in, BeginsOld, old_in, records_at, merged_at, without_key}
 use Rattle.cap_blob.proofs.PassLemmas.{read_of, fault_of, appended_of, appended_same}

@@ -3,17 +3,17 @@ use Rattle.std.proofs.Common.{◌≡◌, ℕ, ◌==◌, Bool, true, false, List,
 use Rattle.std.specs.Prelude.{None}
 use Rattle.std.proofs.lemmas.Bool.{eqb-true}
 use Rattle.cap_changes.specs.Group.{TableChanges}
-use Rattle.cap_codec.specs.declared.fault.BlobFault.{BlobFault}
-use Rattle.cap_codec.specs.declared.fault.FaultKind.TheVariants.{BadHeader}
+use Rattle.cap_field.specs.declared.fault.BlobFault.{BlobFault}
+use Rattle.cap_field.specs.declared.fault.FaultKind.TheVariants.{BadHeader}
 use Rattle.cap_codec.specs.declared.key_flags.KeyFlags.{KeyFlags}
 use Rattle.cap_codec.specs.declared.read.Contents.{Contents}
 use Rattle.cap_codec.specs.declared.read.Contents.TheVariants.{Changes, Patches}
 use Rattle.cap_codec.specs.BlobReading.{group_at, groups_at, blob_at, patch_group_at}
 use Rattle.cap_codec.specs.FirstByte.{first_fault}
-use Rattle.cap_codec.specs.Reading.{◌>>=◌, fault}
+use Rattle.cap_field.specs.Reading.{◌>>=◌, fault}
 use Rattle.cap_codec.specs.Spelling.{Spells}
-use Rattle.cap_codec.proofs.Binds.{ok_is, err_is}
-use Rattle.cap_codec.proofs.Spelled.{AreLow}
+use Rattle.cap_field.proofs.Binds.{ok_is, err_is}
+use Rattle.cap_field.proofs.Spelled.{AreLow}
 use Rattle.cap_codec.proofs.SpelledBlob.{blob_spelled}
 use Rattle.cap_blob.specs.Converted.{changes_in, changes_at, written, target_at}
 use Rattle.cap_blob.specs.Target.{converted_list, listed}

@@ -6,13 +6,13 @@ use Rattle.cap_changes.specs.Group.{TableChanges}
 use Rattle.cap_changes.specs.Invert.{inverse_of}
 use Rattle.cap_changes.specs.Patch.{patch_of}
 use Rattle.cap_changes.specs.declared.row_change.RowChange.{RowChange}
-use Rattle.cap_codec.specs.declared.fault.BlobFault.{BlobFault}
+use Rattle.cap_field.specs.declared.fault.BlobFault.{BlobFault}
 use Rattle.cap_codec.specs.declared.key_flags.KeyFlags.{KeyFlags}
 use Rattle.cap_codec.specs.BlobReading.{is_operation, wrong_kind, change_at, changes_at, group_at, groups_at, with_changes}
 use Rattle.cap_codec.specs.Changeset.{change_bytes, header_bytes}
 use Rattle.cap_codec.specs.HeaderReading.{Header, header_at}
 use Rattle.cap_codec.specs.Patchset.{patch_bytes}
-use Rattle.cap_codec.specs.Reading.{◌>>=◌, place}
+use Rattle.cap_field.specs.Reading.{◌>>=◌, place}
 use Rattle.cap_codec.proofs.Left.{behind_of, behind-is}
 use Rattle.cap_codec.proofs.Loops.{ChangesFrom, change_goes_on, change_fails, reading_stops, reading_ends}
 use Rattle.cap_blob.specs.Target.{kind_byte, converted, converted_group, converted_list, listed}

@@ -14,19 +14,21 @@ use Rattle.cap_changes.specs.declared.field_requirement.FieldRequirement.{FieldR
 use Rattle.cap_changes.specs.declared.field_requirement.FieldRequirement.TheVariants as required
 use Rattle.cap_changes.specs.declared.record_kind.RecordKind.{RecordKind}
 use Rattle.cap_changes.specs.declared.record_kind.RecordKind.TheVariants.{Full, Keyed}
-use Rattle.cap_codec.specs.declared.fault.BlobFault.{BlobFault}
-use Rattle.cap_codec.specs.declared.fault.FaultKind.TheVariants.{BadText}
+use Rattle.cap_field.specs.declared.fault.BlobFault.{BlobFault}
+use Rattle.cap_field.specs.declared.fault.FaultKind.TheVariants.{BadText}
 use Rattle.cap_codec.specs.Field.{field_bytes, defined_bytes, record_bytes, key_bytes}
-use Rattle.cap_codec.specs.FieldReading.{allows, number_at, sized_at, text_at, content_at, typed_at, field_at}
+use Rattle.cap_field.specs.FieldReading.{number_at, sized_at, text_at}
+use Rattle.cap_codec.specs.FieldReading.{allows, content_at, typed_at, field_at}
 use Rattle.cap_codec.specs.HeaderReading.{is_set}
-use Rattle.cap_codec.specs.Reading.{◌>>=◌, fault, place, bytes_at, varint_at}
+use Rattle.cap_field.specs.Reading.{◌>>=◌, fault, place, bytes_at, varint_at}
 use Rattle.cap_codec.specs.RecordReading.{record_at}
-use Rattle.cap_codec.proofs.Binds.{bind_ok, guard_ok, check_ok, chosen, ok_is}
+use Rattle.cap_field.proofs.Binds.{bind_ok, guard_ok, check_ok, chosen, ok_is}
 use Rattle.cap_codec.proofs.ChangeAgain.{all_asked, of_full}
 use Rattle.cap_codec.proofs.FieldAgain.{asked_bytes}
 use Rattle.cap_codec.proofs.Left.{behind_of, behind-is}
 use Rattle.cap_codec.proofs.FitLemmas.{field_meets, record_meets}
-use Rattle.cap_codec.proofs.Spelled.{AreLow, low_behind, field_spelled, record_spelled}
+use Rattle.cap_field.proofs.Spelled.{AreLow, low_behind}
+use Rattle.cap_codec.proofs.Spelled.{field_spelled, record_spelled}
 use Rattle.cap_blob.specs.Passing.{behind, appended, value_in, BeginsOld, old_in, merged_at, without_key}
 use Rattle.cap_blob.proofs.PassLemmas.{front_is, ok_of, read_of, fault_of, appended_same}
 

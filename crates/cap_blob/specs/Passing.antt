@@ -8,10 +8,10 @@ use Rattle.cap_changes.specs.Patch.{update_record}
 use Rattle.cap_changes.specs.Requirements.{requirements, new_requirements}
 use Rattle.cap_changes.specs.declared.record_kind.RecordKind.TheVariants.{Keyed}
 use Rattle.cap_codec.specs.BlobReading.{is_operation}
-use Rattle.cap_codec.specs.declared.fault.BlobFault.{BlobFault}
+use Rattle.cap_field.specs.declared.fault.BlobFault.{BlobFault}
 use Rattle.cap_codec.specs.Field.{record_bytes}
 use Rattle.cap_codec.specs.KindByte.{changeset_kind}
-use Rattle.cap_codec.specs.Reading.{◌>>=◌}
+use Rattle.cap_field.specs.Reading.{◌>>=◌}
 use Rattle.cap_codec.specs.RecordReading.{record_at}
 
 -- these bytes begin with a group of a changeset

@@ -7,8 +7,8 @@ use Rattle.cap_changes.specs.declared.row_change.RowChange.{RowChange}
 use Rattle.cap_codec.specs.Changeset.{change_bytes, group_bytes, list_bytes_with}
 use Rattle.cap_codec.specs.KindByte.{changeset_kind, patchset_kind}
 use Rattle.cap_codec.specs.Patchset.{patch_bytes, patch_group_bytes, patch_list_bytes_with}
-use Rattle.cap_codec.specs.Reading.{◌>>=◌}
-use Rattle.cap_codec.specs.declared.fault.BlobFault.{BlobFault}
+use Rattle.cap_field.specs.Reading.{◌>>=◌}
+use Rattle.cap_field.specs.declared.fault.BlobFault.{BlobFault}
 use Rattle.cap_codec.specs.declared.key_flags.KeyFlags.{KeyFlags}
 use Rattle.cap_blob.specs.declared.target.Target.{Target}
 use Rattle.cap_blob.specs.declared.target.Target.TheVariants.{Inverse, Patchset}

@@ -2,8 +2,9 @@
 
 ghost use Rattle.std.specs.Prelude.{◌≡◌, ◌≤◌, ◌-◌, Ok, IfOk, IsOk, length, take};
 ghost use Rattle.cap_changes.specs.declared.field_requirement.FieldRequirement.TheVariants.{Any};
-ghost use Rattle.cap_codec.specs.Reading.{Reads};
-ghost use Rattle.cap_codec.specs.FieldReading.{sized_at, content_at, field_at};
+ghost use Rattle.cap_field.specs.Reading.{Reads};
+ghost use Rattle.cap_field.specs.FieldReading.{sized_at};
+ghost use Rattle.cap_codec.specs.FieldReading.{content_at, field_at};
 ghost use Rattle.cap_blob.specs.Passing.{behind};
 
 use cap_changes::FieldRequirement;

@@ -10,7 +10,7 @@ ghost use Rattle.cap_changes.specs.Requirements.{requirements, new_requirement};
 ghost use Rattle.cap_codec.specs.Field.{record_bytes, key_bytes};
 ghost use Rattle.cap_codec.specs.FieldReading.{field_at};
 ghost use Rattle.cap_codec.specs.HeaderReading.{is_set};
-ghost use Rattle.cap_codec.specs.Reading.{Reads};
+ghost use Rattle.cap_field.specs.Reading.{Reads};
 ghost use Rattle.cap_codec.specs.RecordReading.{record_at};
 ghost use Rattle.cap_blob.specs.Passing.{behind, appended, value_in, BeginsOld, old_in, merged_at};
 ghost use Rattle.cap_blob.specs.Passing.{without_key};

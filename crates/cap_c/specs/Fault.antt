@@ -1,8 +1,8 @@
 -- The fault of a blob, and that of a text that is not one command, as C sees them.
 use Rattle.std.specs.Prelude.{ℕ}
-use Rattle.cap_codec.specs.declared.fault.BlobFault.{BlobFault}
-use Rattle.cap_codec.specs.declared.fault.FaultKind.{FaultKind}
-use Rattle.cap_codec.specs.declared.fault.FaultKind.TheVariants as kinds
+use Rattle.cap_field.specs.declared.fault.BlobFault.{BlobFault}
+use Rattle.cap_field.specs.declared.fault.FaultKind.{FaultKind}
+use Rattle.cap_field.specs.declared.fault.FaultKind.TheVariants as kinds
 use Rattle.cap_script.specs.declared.fault.ScriptFault.TheVariants.{Syntax, Limit, BadBlob}
 use Rattle.cap_connection.specs.declared.fault.TextFault.{TextFault}
 use Rattle.cap_connection.specs.declared.fault.TextFault.TheVariants.{NotOne, InLine}

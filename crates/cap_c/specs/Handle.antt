@@ -1,6 +1,6 @@
 -- What a call leaves behind a handle.
 use Rattle.std.specs.Prelude.{◌≡◌, ℕ, Option, Some, None, Result, Ok}
-use Rattle.cap_codec.specs.declared.fault.BlobFault.{BlobFault}
+use Rattle.cap_field.specs.declared.fault.BlobFault.{BlobFault}
 use Rattle.cap_c.specs.Outputs.{Checks}
 use Rattle.cap_c.specs.declared.fault.PlacedFault.{PlacedFault}
 use Rattle.cap_c.specs.declared.status.TheConstants.{NOMEM, OK}

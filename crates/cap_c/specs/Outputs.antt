@@ -5,7 +5,7 @@ use Rattle.cap_value.specs.declared.value.Value.{Value}
 use Rattle.cap_value.specs.declared.value.Value.TheVariants.{Null, Int, Text, Blob}
 use Rattle.cap_blob.specs.declared.refusal.ChangesetRefusal.{ChangesetRefusal}
 use Rattle.cap_blob.specs.declared.refusal.ChangesetRefusal.TheVariants.{Malformed, Patchset}
-use Rattle.cap_codec.specs.declared.fault.BlobFault.{BlobFault}
+use Rattle.cap_field.specs.declared.fault.BlobFault.{BlobFault}
 use Rattle.cap_group.specs.declared.refusal.BlobRefusal.{BlobRefusal}
 use Rattle.cap_group.specs.declared.refusal.BlobRefusal.TheVariants as not_added
 use Rattle.cap_group.specs.declared.refusal.ConcatRefusal.{ConcatRefusal}

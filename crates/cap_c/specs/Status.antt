@@ -2,7 +2,7 @@
 use Rattle.std.specs.Prelude.{◌≡◌, ℕ, List, length, nat_lt, Result, Ok, Err, if◌then◌else◌}
 use Rattle.cap_blob.specs.declared.refusal.ChangesetRefusal.{ChangesetRefusal}
 use Rattle.cap_blob.specs.declared.refusal.ChangesetRefusal.TheVariants as refused
-use Rattle.cap_codec.specs.declared.fault.BlobFault.{BlobFault}
+use Rattle.cap_field.specs.declared.fault.BlobFault.{BlobFault}
 use Rattle.cap_group.specs.declared.refusal.BlobRefusal.{BlobRefusal}
 use Rattle.cap_group.specs.declared.refusal.BlobRefusal.TheVariants as not_added
 use Rattle.cap_group.specs.declared.refusal.ConcatRefusal.{ConcatRefusal}

@@ -1,8 +1,11 @@
 //! A change and a field of it, as C sees them.
 ghost use Rattle.std.specs.Prelude.{◌≡◌};
-ghost use Rattle.std.specs.Option.{option_copied};
+ghost use Rattle.std.specs.Option.{option_copied, option_map};
+ghost use Rattle.std.specs.Global.{Global};
+ghost use Rattle.cap_field.specs.FieldReading.{value_of};
 ghost use Rattle.cap_c.specs.Outputs.{value_bytes, value_output};
 
+use cap_field::ValueRef;
 use cap_value::Value;
 use std::alloc::Global;
 
@@ -26,8 +29,8 @@ pub struct FieldValue {
     pub len: usize,
 }
 
-pub(crate) fn value_output(value: Option<&Value<Global>>) -> FieldValue
-    ensures { result ≡ value_output (option_copied value.entry) }
+pub(crate) fn value_output(value: Option<ValueRef<'_>>) -> FieldValue
+    ensures { result ≡ value_output {A = Global} (option_map value_of value.entry) }
 {
     match value {
         None => FieldValue {
@@ -35,22 +38,22 @@ pub(crate) fn value_output(value: Option<&Value<Global>>) -> FieldValue
             number: 0,
             len: 0,
         },
-        Some(Value::Int(number)) => FieldValue {
+        Some(ValueRef::Int(number)) => FieldValue {
             kind: 1,
-            number: *number,
+            number,
             len: 0,
         },
-        Some(Value::Text(text)) => FieldValue {
+        Some(ValueRef::Text(text)) => FieldValue {
             kind: 3,
             number: 0,
-            len: text.as_str().len(),
+            len: text.len(),
         },
-        Some(Value::Blob(blob)) => FieldValue {
+        Some(ValueRef::Blob(bytes)) => FieldValue {
             kind: 4,
             number: 0,
-            len: blob.as_slice().len(),
+            len: bytes.len(),
         },
-        Some(Value::Null) => FieldValue {
+        Some(ValueRef::Null) => FieldValue {
             kind: 5,
             number: 0,
             len: 0,
@@ -58,12 +61,22 @@ pub(crate) fn value_output(value: Option<&Value<Global>>) -> FieldValue
     }
 }
 
-pub(crate) fn value_bytes<'a>(value: Option<&'a Value<Global>>) -> &'a [u8]
-    ensures { result.now ≡ value_bytes (option_copied value.entry) }
+pub(crate) fn value_bytes<'a>(value: Option<ValueRef<'a>>) -> &'a [u8]
+    ensures { result.now ≡ value_bytes {A = Global} (option_map value_of value.entry) }
 {
     match value {
-        Some(Value::Text(text)) => text.as_str().as_bytes(),
-        Some(Value::Blob(blob)) => blob.as_slice(),
+        Some(ValueRef::Text(text)) => text.as_bytes(),
+        Some(ValueRef::Blob(bytes)) => bytes,
         _ => b"",
+    }
+}
+
+/// The reference to the value of a field, where it is defined.
+pub(crate) fn field_ref<'a>(field: Option<&'a Value<Global>>) -> Option<ValueRef<'a>>
+    ensures { option_map value_of result ≡ option_copied field.entry }
+{
+    match field {
+        Some(value) => Some(ValueRef::of(value)),
+        None => None,
     }
 }

@@ -1,7 +1,7 @@
 //! The calls on a decoder that gets a blob in pieces.
 ghost use Rattle.std.specs.Prelude.{◌≡◌, [], IsSome, IsSomeAnd, None, Result};
 ghost use Rattle.cap_value.specs.declared.memory.Fault.{Fault as Stop};
-ghost use Rattle.cap_codec.specs.declared.fault.BlobFault.{BlobFault as Wrong};
+ghost use Rattle.cap_field.specs.declared.fault.BlobFault.{BlobFault as Wrong};
 ghost use Rattle.cap_connection.specs.Decoder.{Feeds};
 ghost use Rattle.cap_connection.specs.Iter.{iter_at};
 ghost use Rattle.cap_c.specs.Handle.{Between, Opens, OpensOn};

@@ -3,3 +3,4 @@ pub mod ChangeLemmas
 pub mod ColumnLemmas
 pub mod InvertLemmas
 pub mod PatchLemmas
+pub mod RecordLemmas

@@ -1,12 +1,15 @@
 //! The change between two rows of one key.
 ghost use Rattle.std.specs.Prelude.{◌≡◌, ◌||◌, IsTrue, IfOk, IfSome, if◌then◌else◌};
 ghost use Rattle.std.specs.Option.{option_copied, ForSome};
+ghost use Rattle.cap_value.specs.Value.{IsValue};
+ghost use Rattle.cap_field.specs.FieldReading.{value_of};
 ghost use Rattle.cap_changes.specs.Change as touched;
 ghost use Rattle.cap_changes.specs.Column.{by_column};
 ghost use Rattle.cap_changes.specs.Fits.{change_fits};
 
 use crate::{FieldRecord, RowChange};
-use cap_row::{Row, Schema};
+use cap_field::ValueRef;
+use cap_row::{Row, RowFields, Schema};
 use cap_value::{AllocHandle, OutOfMemory, Value};
 
 /// The change of one touched key, `None` where its row is unchanged: `image` is its first image, `now` its
@@ -50,12 +53,16 @@ pub fn change_between<A: AllocHandle>(
     }
 }
 
-fn full_record<A: AllocHandle>(alloc: A, row: &[Value<A>]) -> Result<FieldRecord<A>, OutOfMemory>
-    ensures { IfOk result (λ full. full ≡ touched.full_record row.now) }
+fn full_record<A: AllocHandle>(
+    alloc: A,
+    row: RowFields<'_, A>,
+) -> Result<FieldRecord<A>, OutOfMemory>
+    ensures { IfOk result (λ full. full ≡ touched.full_record row.entry) }
 {
-    let mut fields = Vec::with_capacity(alloc, row.len())?;
-    for value in row {
-        fields.push(Some(value.copy()?))?;
+    let mut fields = Vec::with_capacity(alloc, row.width())?;
+    let mut rest = row;
+    while let Some(value) = rest.next_value() {
+        fields.push(Some(value.own(alloc)?))?;
     }
     Ok(FieldRecord::new(fields))
 }
@@ -63,34 +70,46 @@ fn full_record<A: AllocHandle>(alloc: A, row: &[Value<A>]) -> Result<FieldRecord
 fn update_records<A: AllocHandle>(
     alloc: A,
     flags: &[bool],
-    image: &[Value<A>],
-    now: &[Value<A>],
+    image: RowFields<'_, A>,
+    now: RowFields<'_, A>,
 ) -> Result<(FieldRecord<A>, FieldRecord<A>), OutOfMemory>
-    ensures old { IfOk result (λ made. made.0 ≡ by_column touched.old_field flags.now image.now now.now) }
-    ensures new { IfOk result (λ made. made.1 ≡ by_column touched.new_field flags.now image.now now.now) }
+    ensures old { IfOk result (λ made. made.0
+        ≡ by_column touched.old_field flags.now image.entry now.entry) }
+    ensures new { IfOk result (λ made. made.1
+        ≡ by_column touched.new_field flags.now image.entry now.entry) }
 {
     let mut old = Vec::with_capacity(alloc, flags.len())?;
     let mut new = Vec::with_capacity(alloc, flags.len())?;
-    for (key, (image, now)) in flags.iter().zip(image.iter().zip(now)) {
-        let modified = is_modified(*key, image, now);
-        old.push(copy_if(*key || modified, image)?)?;
-        new.push(copy_if(modified, now)?)?;
+    let mut image = image;
+    let mut now = now;
+    for key in flags {
+        let (Some(was), Some(is)) = (image.next_value(), now.next_value()) else {
+            return Ok((FieldRecord::new(old), FieldRecord::new(new)));
+        };
+        let modified = is_modified::<A>(*key, was, is);
+        old.push(own_if(alloc, *key || modified, was)?)?;
+        new.push(own_if(alloc, modified, is)?)?;
     }
     Ok((FieldRecord::new(old), FieldRecord::new(new)))
 }
 
-/// Whether a column is modified: it is not in the key, and its values differ.
-pub fn is_modified<A: AllocHandle>(key: bool, image: &Value<A>, now: &Value<A>) -> bool
-    ensures { result ≡ touched.is_modified key image.now now.now }
+// Whether a column is modified: it is not in the key, and its values differ.
+fn is_modified<A: AllocHandle>(key: bool, image: ValueRef<'_>, now: ValueRef<'_>) -> bool
+    ensures { result ≡ touched.is_modified {A = A} key (value_of image.entry) (value_of now.entry) }
 {
-    !key && image != now
+    !key && !image.same::<A>(now)
 }
 
-fn copy_if<A: AllocHandle>(wanted: bool, value: &Value<A>) -> Result<Option<Value<A>>, OutOfMemory>
-    ensures { IfOk result (λ field. field ≡ (if wanted then Some value.now else None)) }
+fn own_if<A: AllocHandle>(
+    alloc: A,
+    wanted: bool,
+    value: ValueRef<'_>,
+) -> Result<Option<Value<A>>, OutOfMemory>
+    requires { IsValue {A = A} (value_of value) }
+    ensures { IfOk result (λ field. field ≡ (if wanted then Some (value_of value.entry) else None)) }
 {
     if wanted {
-        Ok(Some(value.copy()?))
+        Ok(Some(value.own(alloc)?))
     } else {
         Ok(None)
     }

@@ -14,7 +14,7 @@ mod patches;
 mod record_kind;
 mod row_change;
 
-pub use between::{change_between, is_modified};
+pub use between::change_between;
 pub use entry::Entry;
 pub use field_record::FieldRecord;
 pub use field_requirement::{FieldRequirement, requirement_beside};

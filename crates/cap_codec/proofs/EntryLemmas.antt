@@ -12,16 +12,16 @@ use Rattle.cap_changes.specs.declared.record_kind.RecordKind.{RecordKind}
 use Rattle.cap_changes.specs.declared.record_kind.RecordKind.TheVariants as record_kinds
 use Rattle.cap_changes.specs.Requirements.{requirements, new_requirements, satisfy}
 use Rattle.cap_codec.specs.declared.change.EntryStart.{EntryStart}
-use Rattle.cap_codec.specs.declared.fault.BlobFault.{BlobFault}
+use Rattle.cap_field.specs.declared.fault.BlobFault.{BlobFault}
 use Rattle.cap_codec.specs.declared.operation.Operation.{Operation}
 use Rattle.cap_codec.specs.declared.operation.Operation.TheVariants.{Insert, Update, Delete}
 use Rattle.cap_codec.specs.HeaderReading.{is_set}
 use Rattle.cap_codec.specs.Operation.{operation_byte}
-use Rattle.cap_codec.specs.Reading.{◌>>=◌, byte_at}
+use Rattle.cap_field.specs.Reading.{◌>>=◌, byte_at}
 use Rattle.cap_codec.specs.RecordReading.{record_at}
 use Rattle.cap_codec.specs.EntryReading.{change_kind, patch_kind, start_at, patch_with}
 use Rattle.cap_codec.specs.BlobReading.{change_at, patch_at}
-use Rattle.cap_codec.proofs.Binds.{bind_ok, ok_is}
+use Rattle.cap_field.proofs.Binds.{bind_ok, ok_is}
 use Rattle.cap_codec.proofs.FitLemmas.{record_meets, old_is_wide}
 
 module _ {A : Type 0} where

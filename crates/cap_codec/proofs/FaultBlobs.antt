@@ -1,5 +1,5 @@
 -- Where the reading of changes, groups and a blob stops at a fault.
-use Rattle.std.proofs.Common.{◌≡◌, ℕ, zero, suc, ◌<◌, ◌≤◌, ◌⊎◌, inl, inr, Bool, true, false, ◌==◌, ◌||◌, List, [], ◌∷◌, ◌++◌, length, map, IfSome, Result, Ok, Err, refl, sym, ap, subst, ◌∙◌, append_assoc, append-nil, arith, length-append, eq-eqb}
+use Rattle.std.proofs.Common.{◌≡◌, ℕ, zero, suc, ◌≤◌, inl, inr, Bool, true, false, ◌==◌, ◌||◌, List, [], ◌∷◌, ◌++◌, length, IfSome, Result, Ok, Err, refl, sym, ap, subst, ◌∙◌, append_assoc, append-nil, arith, length-append, eq-eqb}
 use Rattle.std.specs.List.{AllByRecursion}
 use Rattle.std.proofs.lemmas.Bool.{and_from, cases_Bool, eqb-true}
 use Rattle.std.proofs.lemmas.List.Elements.{All-from_recursion}
@@ -16,28 +16,28 @@ use Rattle.cap_changes.specs.declared.patch.Patch.TheVariants as patched
 use Rattle.cap_changes.specs.declared.record_kind.RecordKind.{RecordKind}
 use Rattle.cap_changes.specs.declared.record_kind.RecordKind.TheVariants as record_kinds
 use Rattle.cap_changes.specs.Requirements.{requirements, new_requirements, satisfy}
-use Rattle.cap_codec.specs.declared.fault.BlobFault.{BlobFault}
-use Rattle.cap_codec.specs.declared.fault.FaultKind.TheVariants.{Truncated, BadHeader, BadOp, Mixed}
+use Rattle.cap_field.specs.declared.fault.BlobFault.{BlobFault}
+use Rattle.cap_field.specs.declared.fault.FaultKind.TheVariants.{BadHeader}
 use Rattle.cap_codec.specs.declared.read.Contents.{Contents}
 use Rattle.cap_codec.specs.declared.read.Contents.TheVariants.{Changes, Patches}
 use Rattle.cap_codec.specs.BlobReading.{is_operation, is_kind, wrong_kind, with_changes, entries_at, change_at, patch_at, changes_at, group_at, patch_group_at, groups_at, blob_at}
 use Rattle.cap_codec.specs.FaultPlace.{IsFaultyPart, IsFaultAt}
-use Rattle.cap_codec.specs.Field.{record_bytes, key_bytes}
+use Rattle.cap_codec.specs.Field.{record_bytes}
 use Rattle.cap_codec.specs.HeaderReading.{Header, is_set, header_at}
 use Rattle.cap_codec.specs.Pieces.{is_cut, lasting}
-use Rattle.cap_codec.specs.Reading.{◌>>=◌, place, byte_at}
+use Rattle.cap_field.specs.Reading.{◌>>=◌, place}
 use Rattle.cap_codec.specs.RecordReading.{record_at}
 use Rattle.cap_codec.specs.Spelling.{SpellsEach, SpellsGroup, SpellsChange, SpellsPatch, SpellsChanges, SpellsPatches, Spells}
-use Rattle.cap_codec.specs.Varint.{varint_bytes}
-use Rattle.cap_codec.specs.Writable.{IsTable, AreValues}
-use Rattle.cap_codec.proofs.Binds.{bind_ok, chosen, ok_is, err_is}
+use Rattle.cap_field.specs.Varint.{varint_bytes}
+use Rattle.cap_codec.specs.Writable.{AreValues}
+use Rattle.cap_field.proofs.Binds.{bind_ok, chosen, ok_is, err_is}
 use Rattle.cap_codec.proofs.FitLemmas.{record_meets}
 use Rattle.cap_codec.proofs.ChangeAgain.{NoChange, asked_record, all_asked, of_full, of_keyed, keys_asked, new_asked, keyed_again, change_again, patch_again}
 use Rattle.cap_codec.proofs.ChangeAgain as again
 use Rattle.cap_codec.proofs.BlobAgain.{header_again, group_again, patch_group_again, blob_again}
 use Rattle.cap_codec.proofs.BlobAgain as blob_read
 use Rattle.cap_codec.proofs.Looking.{fault_of_lasting}
-use Rattle.cap_codec.proofs.Spelled.{AreLow, low_behind}
+use Rattle.cap_field.proofs.Spelled.{AreLow, low_behind}
 use Rattle.cap_codec.proofs.SpelledBlob.{Begins, BeginsGroup, keyed_spelled, change_spelled, patch_spelled, header_spelled, group_spelled, patch_group_spelled, low_bytes}
 use Rattle.cap_codec.proofs.FaultFields.{Fails, fails_then, fails_on, bind_err, not_cut, Stops, later, IsRecordOf, usual_record, record_stops}
 use Rattle.cap_codec.proofs.FaultHeaders.{at_first, IsHeaderOf, header_stops}

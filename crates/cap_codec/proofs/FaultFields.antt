@@ -1,6 +1,6 @@
 -- Where the reading of a field or a record stops at a fault: what is before it, the part with the fault, and what
 -- may stand there instead.
-use Rattle.std.proofs.Common.{◌≡◌, ℕ, zero, suc, ◌+◌, ◌-◌, ◌*◌, ◌^◌, ◌<◌, ◌≤◌, ◌⊎◌, inl, inr, Bool, true, false, cond, not, nat_lt, ◌==◌, ◌&&◌, ◌||◌, List, [], ◌∷◌, ◌++◌, length, Option, Some, None, IfSome, Result, Ok, Err, refl, sym, ap, subst, ◌∙◌, append_assoc, append-nil, length-append, arith}
+use Rattle.std.proofs.Common.{◌≡◌, ℕ, ◌+◌, ◌-◌, ◌*◌, ◌≤◌, ◌⊎◌, inl, inr, true, false, cond, not, nat_lt, ◌==◌, ◌&&◌, ◌||◌, List, [], ◌∷◌, ◌++◌, length, Option, Some, None, IfSome, Result, Ok, Err, refl, sym, ap, subst, ◌∙◌, append_assoc, append-nil, arith}
 use Rattle.std.specs.List.{AllByRecursion}
 use Rattle.std.specs.Str.{is_utf8}
 use Rattle.std.proofs.lemmas.Bool.{and_parts, and_from, or_parts, cases_Bool, ltb-true, ltb-false, eqb-true, eqb-false, not-false}
@@ -12,21 +12,24 @@ use Rattle.cap_changes.specs.FieldRecord.{RecordFields}
 use Rattle.cap_changes.specs.Requirements.{satisfies, satisfy}
 use Rattle.cap_changes.specs.declared.field_requirement.FieldRequirement.{FieldRequirement}
 use Rattle.cap_changes.specs.declared.field_requirement.FieldRequirement.TheVariants as required
-use Rattle.cap_codec.specs.declared.fault.BlobFault.{BlobFault}
-use Rattle.cap_codec.specs.declared.fault.FaultKind.{FaultKind}
-use Rattle.cap_codec.specs.declared.fault.FaultKind.TheVariants.{Truncated, BadVarint, BadField, Real, BadText, BadRecord}
+use Rattle.cap_field.specs.declared.fault.BlobFault.{BlobFault}
+use Rattle.cap_field.specs.declared.fault.FaultKind.TheVariants.{Truncated, BadVarint, BadField, Real, BadText, BadRecord}
 use Rattle.cap_codec.specs.FaultPlace.{IsFaultyPart}
-use Rattle.cap_codec.specs.Field.{sized_bytes, field_bytes}
-use Rattle.cap_codec.specs.FieldReading.{allows, number_at, sized_at, text_at, content_at, typed_at, field_at}
+use Rattle.cap_field.specs.Field.{sized_bytes}
+use Rattle.cap_codec.specs.Field.{field_bytes}
+use Rattle.cap_field.specs.FieldReading.{number_at, sized_at, text_at}
+use Rattle.cap_codec.specs.FieldReading.{allows, content_at, typed_at, field_at}
 use Rattle.cap_codec.specs.Pieces.{is_cut}
-use Rattle.cap_codec.specs.Reading.{◌>>=◌, fault, place, byte_at, bytes_at, varint_from, varint_at}
+use Rattle.cap_field.specs.Reading.{◌>>=◌, fault, place, byte_at, bytes_at, varint_from, varint_at}
 use Rattle.cap_codec.specs.RecordReading.{record_at}
-use Rattle.cap_codec.specs.Varint.{varint_bytes}
-use Rattle.cap_codec.proofs.Binds.{bind_ok, guard_ok, check_ok, chosen, ok_is, err_is}
+use Rattle.cap_field.specs.Varint.{varint_bytes}
+use Rattle.cap_field.proofs.Binds.{chosen, err_is}
 use Rattle.cap_codec.proofs.FitLemmas.{field_meets}
-use Rattle.cap_codec.proofs.FieldAgain.{asked_bytes, varint_again, sized_again, field_again}
+use Rattle.cap_field.proofs.FieldAgain.{varint_again, sized_again}
+use Rattle.cap_codec.proofs.FieldAgain.{asked_bytes, field_again}
 use Rattle.cap_codec.proofs.ChangeAgain.{asked_record}
-use Rattle.cap_codec.proofs.Spelled.{AreLow, low_at, low_behind, varint_spelled, sized_spelled, field_spelled}
+use Rattle.cap_field.proofs.Spelled.{AreLow, low_at, low_behind, varint_spelled, sized_spelled}
+use Rattle.cap_codec.proofs.Spelled.{field_spelled}
 
 abbrev pub Fails : {X : Type 0} → Result X BlobFault → Type 0
 Fails read = (f : BlobFault) × (read ≡ Err f)

@@ -1,24 +1,24 @@
 -- Where the reading of a header stops at a fault.
-use Rattle.std.proofs.Common.{◌≡◌, ℕ, zero, suc, ◌+◌, ◌^◌, ◌<◌, ◌≤◌, ◌⊎◌, inl, inr, Bool, true, false, cond, nat_lt, nat_le, ◌==◌, ◌&&◌, ◌||◌, List, [], ◌∷◌, ◌++◌, length, take, drop, map, replicate, position, slice_index, Option, Some, None, Result, Ok, Err, IsTrue, IsUtf8, refl, sym, ap, subst, ◌∙◌, append_assoc, append-nil, arith, length-append, length-take, take-append-drop, take_at, drop_at, drop-drop, le-ltb, lt-ltb}
+use Rattle.std.proofs.Common.{◌≡◌, ℕ, zero, suc, ◌+◌, ◌<◌, ◌≤◌, ◌⊎◌, inl, inr, Bool, true, false, cond, nat_lt, nat_le, ◌==◌, ◌&&◌, ◌||◌, List, [], ◌∷◌, ◌++◌, length, take, drop, map, replicate, position, slice_index, Option, Some, None, Result, Ok, Err, IsTrue, IsUtf8, refl, sym, ap, subst, ◌∙◌, append_assoc, append-nil, arith, length-append, length-take, take-append-drop, take_at, le-ltb, lt-ltb}
 use Rattle.std.specs.List.{list_any, position_or_len}
 use Rattle.std.specs.Str.{is_utf8}
-use Rattle.std.proofs.lemmas.Bool.{and_parts, and_from, or_parts, cases_Bool, cases_lt, lt-leb, ltb-true, ltb-false, leb-false, eqb-true, eqb-false}
+use Rattle.std.proofs.lemmas.Bool.{or_parts, cases_Bool, cases_lt, lt-leb, ltb-true, leb-false, eqb-true}
 use Rattle.std.proofs.lemmas.List.{length-map, length-replicate, length-take-le}
 use Rattle.std.proofs.lemmas.Str.{IsUtf8-from_ascii}
 use Rattle.cap_value.specs.Bytes.{is_name}
-use Rattle.cap_codec.specs.declared.fault.BlobFault.{BlobFault}
-use Rattle.cap_codec.specs.declared.fault.FaultKind.TheVariants.{Truncated, BadHeader, BadName}
+use Rattle.cap_field.specs.declared.fault.BlobFault.{BlobFault}
+use Rattle.cap_field.specs.declared.fault.FaultKind.TheVariants.{BadHeader, BadName}
 use Rattle.cap_codec.specs.FaultPlace.{IsFaultyPart}
 use Rattle.cap_codec.specs.HeaderReading.{Header, is_zero, is_set, count_at, flags_at, named_at, name_at, header_at}
 use Rattle.cap_codec.specs.Pieces.{is_cut}
-use Rattle.cap_codec.specs.Reading.{◌>>=◌, fault, place, bytes_at, varint_at}
-use Rattle.cap_codec.specs.Varint.{varint_bytes}
+use Rattle.cap_field.specs.Reading.{◌>>=◌, fault, place, bytes_at, varint_at}
+use Rattle.cap_field.specs.Varint.{varint_bytes}
 use Rattle.cap_codec.specs.Writable.{IsTable}
-use Rattle.cap_codec.proofs.Binds.{chosen, err_is}
+use Rattle.cap_field.proofs.Binds.{chosen, err_is}
 use Rattle.cap_codec.proofs.HeaderLemmas.{no_zero_before, key_is_set, is_schema_of}
-use Rattle.cap_codec.proofs.FieldAgain.{varint_again, bytes_again}
+use Rattle.cap_field.proofs.FieldAgain.{varint_again, bytes_again}
 use Rattle.cap_codec.proofs.BlobAgain.{first_zero, count_again}
-use Rattle.cap_codec.proofs.Spelled.{AreLow, low_behind, varint_spelled, bytes_spelled}
+use Rattle.cap_field.proofs.Spelled.{AreLow, low_behind, varint_spelled, bytes_spelled}
 use Rattle.cap_codec.proofs.SpelledBlob.{count_spelled, flags_spelled, zero_at}
 use Rattle.cap_codec.proofs.FaultFields.{Fails, fails_then, fails_on, bind_err, not_cut, Stops, later, varint_stops}
 

@@ -1,127 +1,15 @@
--- What was written for a number, a value and a field is read again, whatever follows it.
-use Rattle.std.proofs.Common.{◌≡◌, ℕ, ℤ, pos, negsuc, ◌+◌, ◌*◌, ◌-◌, ◌/◌, ◌%◌, ◌^◌, ◌<◌, ◌≤◌, true, false, nat_lt, ◌==◌, ◌&&◌, List, [], ◌∷◌, ◌++◌, length, Option, Some, None, IfSome, Result, Ok, refl, ap, ◌∙◌, inl, inr, append_assoc, arith, w64, to_z-of_z, length-append, take_at, drop_at, le-ltb, lt-ltb, eq-eqb, ne_eqb, FitsSigned, IsUtf8}
-use Rattle.std.specs.Int.{from_be_bytes, cast_signed, cast_unsigned}
-use Rattle.std.proofs.lemmas.Bool.{cases_lt}
-use Rattle.std.proofs.lemmas.Nat.{from_be_bytes-to_be_bytes_8}
-use Rattle.std.proofs.lemmas.Str.{is_utf8-from_IsUtf8}
-use Rattle.byteorder.specs.Numbers.{length-bytes_high_first}
+-- What was written for a field is read again, whatever follows it.
+use Rattle.std.proofs.Common.{◌≡◌, ℕ, ◌+◌, ◌-◌, true, List, [], ◌++◌, Option, Some, None, IfSome, Ok, refl}
 use Rattle.cap_value.specs.declared.value.Value.{Value}
 use Rattle.cap_value.specs.declared.value.Value.TheVariants.{Null, Int, Text, Blob}
 use Rattle.cap_value.specs.Value.{IsValue}
 use Rattle.cap_changes.specs.Requirements.{satisfies}
 use Rattle.cap_changes.specs.declared.field_requirement.FieldRequirement.{FieldRequirement}
 use Rattle.cap_changes.specs.declared.field_requirement.FieldRequirement.TheVariants as required
-use Rattle.cap_codec.specs.declared.fault.BlobFault.{BlobFault}
-use Rattle.cap_codec.specs.Reading.{◌>>=◌, place, byte_at, bytes_at, varint_from, varint_at}
-use Rattle.cap_codec.specs.Varint.{varint_bytes}
-use Rattle.cap_codec.specs.Field.{number_bytes, sized_bytes, field_bytes}
-use Rattle.cap_codec.specs.FieldReading.{allows, number_at, sized_at, text_at, content_at, typed_at, field_at}
-
--- ---- numbers
-
--- a group of seven bits that is not the last
-goes_on : (total at read high m : ℕ) (rest : List ℕ) → read < 4 → ((read == 0) && ((128 + m % 128) == 128)) ≡ false → high * 128 + m % 128 ≡ m
-    → varint_from total at read high ((128 + m % 128) ∷ rest) ≡ varint_from total at (read + 1) m rest
-goes_on total at read high m rest early shortest whole =
-    let more : nat_lt (128 + m % 128) 128 ≡ false = le-ltb _ _ (omega arith) in
-    let not_last : (read == 4) ≡ false = ne_eqb read 4 (λ e. omega arith) in
-    let made : high * 128 + (128 + m % 128 - 128) ≡ m = omega arith in
-    rw (more, not_last, shortest, made) refl
-
--- the last group
-ends : (total at read high n : ℕ) (rest : List ℕ) → high * 128 + n % 128 ≡ n → varint_from total at read high (n % 128 ∷ rest) ≡ Ok (n, rest)
-ends total at read high n rest whole = rw (lt-ltb (n % 128) 128 (omega arith), whole) refl
-
--- a first group that is not zero
-first_group : (m : ℕ) → 0 < m → m < 128 → ((0 == 0) && ((128 + m % 128) == 128)) ≡ false
-first_group m some small = ne_eqb (128 + m % 128) 128 (λ e. omega arith)
-
-of_1 : (total at n : ℕ) (rest : List ℕ) → n < 128 → varint_from total at 0 0 (varint_bytes n ++ rest) ≡ Ok (n, rest)
-unfolding varint_bytes
-of_1 total at n rest lt =
-    rw (eq-eqb (n / 268435456) 0 (omega arith), eq-eqb (n / 2097152) 0 (omega arith), eq-eqb (n / 16384) 0 (omega arith), eq-eqb (n / 128) 0 (omega arith))
-    (ends total at 0 0 n rest (omega arith))
-
-of_2 : (total at n : ℕ) (rest : List ℕ) → 128 ≤ n → n < 16384 → varint_from total at 0 0 (varint_bytes n ++ rest) ≡ Ok (n, rest)
-unfolding varint_bytes
-of_2 total at n rest le lt =
-    rw (eq-eqb (n / 268435456) 0 (omega arith), eq-eqb (n / 2097152) 0 (omega arith), eq-eqb (n / 16384) 0 (omega arith), ne_eqb (n / 128) 0 (λ e. omega arith))
-    (goes_on total at 0 0 (n / 128) (n % 128 ∷ rest) (omega arith) (first_group (n / 128) (omega arith) (omega arith)) (omega arith)
-    ∙ ends total at 1 (n / 128) n rest (omega arith))
-
-of_3 : (total at n : ℕ) (rest : List ℕ) → 16384 ≤ n → n < 2097152 → varint_from total at 0 0 (varint_bytes n ++ rest) ≡ Ok (n, rest)
-unfolding varint_bytes
-of_3 total at n rest le lt =
-    rw (eq-eqb (n / 268435456) 0 (omega arith), eq-eqb (n / 2097152) 0 (omega arith), ne_eqb (n / 16384) 0 (λ e. omega arith), ne_eqb (n / 128) 0 (λ e. omega arith))
-    (goes_on total at 0 0 (n / 16384) ((128 + n / 128 % 128) ∷ n % 128 ∷ rest) (omega arith) (first_group (n / 16384) (omega arith) (omega arith)) (omega arith)
-    ∙ goes_on total at 1 (n / 16384) (n / 128) (n % 128 ∷ rest) (omega arith) refl (omega arith)
-    ∙ ends total at 2 (n / 128) n rest (omega arith))
-
-of_4 : (total at n : ℕ) (rest : List ℕ) → 2097152 ≤ n → n < 268435456 → varint_from total at 0 0 (varint_bytes n ++ rest) ≡ Ok (n, rest)
-unfolding varint_bytes
-of_4 total at n rest le lt =
-    rw (eq-eqb (n / 268435456) 0 (omega arith), ne_eqb (n / 2097152) 0 (λ e. omega arith), ne_eqb (n / 16384) 0 (λ e. omega arith), ne_eqb (n / 128) 0 (λ e. omega arith))
-    (goes_on total at 0 0 (n / 2097152) ((128 + n / 16384 % 128) ∷ (128 + n / 128 % 128) ∷ n % 128 ∷ rest) (omega arith) (first_group (n / 2097152) (omega arith) (omega arith)) (omega arith)
-    ∙ goes_on total at 1 (n / 2097152) (n / 16384) ((128 + n / 128 % 128) ∷ n % 128 ∷ rest) (omega arith) refl (omega arith)
-    ∙ goes_on total at 2 (n / 16384) (n / 128) (n % 128 ∷ rest) (omega arith) refl (omega arith)
-    ∙ ends total at 3 (n / 128) n rest (omega arith))
-
-of_5 : (total at n : ℕ) (rest : List ℕ) → 268435456 ≤ n → n < 2 ^ 35 → varint_from total at 0 0 (varint_bytes n ++ rest) ≡ Ok (n, rest)
-unfolding varint_bytes
-of_5 total at n rest le lt =
-    rw (ne_eqb (n / 268435456) 0 (λ e. omega arith), ne_eqb (n / 2097152) 0 (λ e. omega arith), ne_eqb (n / 16384) 0 (λ e. omega arith), ne_eqb (n / 128) 0 (λ e. omega arith))
-    (goes_on total at 0 0 (n / 268435456) ((128 + n / 2097152 % 128) ∷ (128 + n / 16384 % 128) ∷ (128 + n / 128 % 128) ∷ n % 128 ∷ rest) (omega arith) (first_group (n / 268435456) (omega arith) (omega arith)) (omega arith)
-    ∙ goes_on total at 1 (n / 268435456) (n / 2097152) ((128 + n / 16384 % 128) ∷ (128 + n / 128 % 128) ∷ n % 128 ∷ rest) (omega arith) refl (omega arith)
-    ∙ goes_on total at 2 (n / 2097152) (n / 16384) ((128 + n / 128 % 128) ∷ n % 128 ∷ rest) (omega arith) refl (omega arith)
-    ∙ goes_on total at 3 (n / 16384) (n / 128) (n % 128 ∷ rest) (omega arith) refl (omega arith)
-    ∙ ends total at 4 (n / 128) n rest (omega arith))
-
-pub varint_again : (total n : ℕ) (rest : List ℕ) → n < 2 ^ 35 → varint_at total (varint_bytes n ++ rest) ≡ Ok (n, rest)
-unfolding varint_at
-varint_again total n rest lt =
-    let at = place total (varint_bytes n ++ rest) in
-    elim (cases_lt n 128) [
-      | inl a ↦ of_1 total at n rest a
-      | inr a ↦ elim (cases_lt n 16384) [
-        | inl b ↦ of_2 total at n rest a b
-        | inr b ↦ elim (cases_lt n 2097152) [
-          | inl c ↦ of_3 total at n rest b c
-          | inr c ↦ elim (cases_lt n 268435456) [ inl d ↦ of_4 total at n rest c d | inr d ↦ of_5 total at n rest d lt ]
-        ]
-      ]
-    ]
-
-pub bytes_again : (total count : ℕ) (bytes rest : List ℕ) → length bytes ≡ count → bytes_at total count (bytes ++ rest) ≡ Ok (bytes, rest)
-bytes_again total count bytes rest len =
-    let long : nat_lt (length (bytes ++ rest)) count ≡ false = le-ltb _ _ (omega (arith, length-append bytes rest)) in
-    rw (long, take_at bytes rest count len, drop_at bytes rest count len) refl
-
-below_64 : (n : ℤ) → FitsSigned w64 n → cast_unsigned w64 n < 2 ^ 64
-below_64 (pos n) fits = omega (arith, fits.sfits)
-below_64 (negsuc n) fits = omega (arith, fits.sfits)
-
-number_is : (n : ℤ) → FitsSigned w64 n → cast_signed w64 (from_be_bytes w64 (number_bytes n)) ≡ n
-number_is n fits = ap (cast_signed w64) (from_be_bytes-to_be_bytes_8 (cast_unsigned w64 n) (below_64 n fits)) ∙ to_z-of_z fits
-
-number_again : (total : ℕ) (n : ℤ) (rest : List ℕ) → FitsSigned w64 n → number_at total (number_bytes n ++ rest) ≡ Ok (n, rest)
-number_again total n rest fits =
-    ap (λ (read : Result (List ℕ × List ℕ) BlobFault). read >>= (λ x. Ok (cast_signed w64 (from_be_bytes w64 x.0), x.1))) (bytes_again total 8 (number_bytes n) rest (length-bytes_high_first 8 (cast_unsigned w64 n)))
-    ∙ ap (λ (k : ℤ). Ok (k, rest)) (number_is n fits)
-
--- ---- texts and blobs
-
-pub sized_again : (total at : ℕ) (bytes rest : List ℕ) → length bytes ≤ 1000000000 → sized_at total at (sized_bytes bytes ++ rest) ≡ Ok (bytes, rest)
-unfolding sized_at
-sized_again total at bytes rest fits =
-    let small : nat_lt 1000000000 (length bytes) ≡ false = le-ltb _ _ fits in
-    ap (sized_at total at) (append_assoc (varint_bytes (length bytes)) bytes rest)
-    ∙ rw (varint_again total (length bytes) (bytes ++ rest) (omega arith), small) (bytes_again total (length bytes) bytes rest refl)
-
-text_again : (total at : ℕ) (text rest : List ℕ) → IsUtf8 text → length text ≤ 1000000000 → text_at total at (sized_bytes text ++ rest) ≡ Ok (text, rest)
-unfolding text_at
-text_again total at text rest utf8 fits = rw (sized_again total at text rest fits, is_utf8-from_IsUtf8 text utf8) refl
-
--- ---- fields
+use Rattle.cap_field.specs.Reading.{◌>>=◌, place, byte_at}
+use Rattle.cap_codec.specs.Field.{field_bytes}
+use Rattle.cap_codec.specs.FieldReading.{allows, content_at, typed_at, field_at}
+use Rattle.cap_field.proofs.FieldAgain.{sized_again, number_again, text_again}
 
 module _ {A : Type 0} where
   abbrev type_byte : Option (Value A) → ℕ

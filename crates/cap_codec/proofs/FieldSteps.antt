@@ -9,7 +9,7 @@ use Rattle.cap_changes.specs.FieldRecord.{RecordFields}
 use Rattle.cap_changes.specs.declared.row_change.RowChange.TheVariants.{Insert, Update, Delete}
 use Rattle.cap_changes.specs.declared.patch.Patch.TheVariants as patched
 use Rattle.cap_changes.specs.declared.field_requirement.FieldRequirement.{FieldRequirement}
-use Rattle.cap_codec.specs.declared.fault.BlobFault.{BlobFault}
+use Rattle.cap_field.specs.declared.fault.BlobFault.{BlobFault}
 use Rattle.cap_codec.specs.declared.kind.Kind.{Kind}
 use Rattle.cap_codec.specs.declared.kind.Kind.TheVariants as kinds
 use Rattle.cap_changes.specs.declared.record_kind.RecordKind.{RecordKind}
@@ -20,7 +20,7 @@ use Rattle.cap_codec.specs.BlobReading.{change_at, patch_at}
 use Rattle.cap_changes.specs.Requirements.{requirement_of, requirements, new_requirement, new_requirements}
 use Rattle.cap_codec.specs.FieldReading.{field_at}
 use Rattle.cap_codec.specs.HeaderReading.{is_set}
-use Rattle.cap_codec.specs.Reading.{◌>>=◌}
+use Rattle.cap_field.specs.Reading.{◌>>=◌}
 use Rattle.cap_codec.specs.RecordReading.{record_at}
 use Rattle.cap_codec.proofs.Loops.{requirements-cons}
 

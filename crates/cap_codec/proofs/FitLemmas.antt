@@ -10,11 +10,12 @@ use Rattle.cap_changes.specs.FieldRecord.{RecordFields}
 use Rattle.cap_changes.specs.declared.field_requirement.FieldRequirement.{FieldRequirement}
 use Rattle.cap_changes.specs.declared.field_requirement.FieldRequirement.TheVariants as required
 use Rattle.cap_changes.specs.declared.record_kind.RecordKind.TheVariants as record_kinds
-use Rattle.cap_codec.specs.Reading.{◌>>=◌, place, byte_at}
-use Rattle.cap_codec.specs.FieldReading.{allows, number_at, text_at, sized_at, content_at, typed_at, field_at}
+use Rattle.cap_field.specs.Reading.{◌>>=◌, place, byte_at}
+use Rattle.cap_field.specs.FieldReading.{number_at, text_at, sized_at}
+use Rattle.cap_codec.specs.FieldReading.{allows, content_at, typed_at, field_at}
 use Rattle.cap_changes.specs.Requirements.{requirement_of, requirements, satisfies, satisfy}
 use Rattle.cap_codec.specs.RecordReading.{record_at}
-use Rattle.cap_codec.proofs.Binds.{bind_ok, guard_ok, chosen, ok_is}
+use Rattle.cap_field.proofs.Binds.{bind_ok, guard_ok, chosen, ok_is}
 
 pub five : (kind : ℕ) → (kind == 2) ≡ false → nat_lt 5 kind ≡ false → (kind == 0) ≡ false → (kind == 1) ≡ false → (kind == 3) ≡ false → (kind == 4) ≡ false → (kind == 5) ≡ true
 five kind e2 below e0 e1 e3 e4 =

@@ -7,9 +7,9 @@ use Rattle.std.proofs.lemmas.Bool.{cond-true, ltb-true, and_from, le-leb, not_fr
 use Rattle.std.proofs.lemmas.List.{length-map, take-take, length-take-le}
 use Rattle.cap_value.specs.Bytes.{is_name}
 use Rattle.cap_row.specs.Schema.{has_key, is_schema, schema_of}
-use Rattle.cap_codec.specs.FieldReading.{text_of}
+use Rattle.cap_field.specs.FieldReading.{text_of}
 use Rattle.cap_codec.specs.HeaderReading.{is_zero, is_set}
-use Rattle.cap_codec.proofs.Binds.{chosen}
+use Rattle.cap_field.proofs.Binds.{chosen}
 
 one_more : (n : ℕ) → 1 + n ≡ suc n
 one_more n = omega arith

@@ -2,11 +2,11 @@
 use Rattle.std.proofs.Common.{◌≡◌, ℕ, ◌-◌, ◌<◌, ◌≤◌, ◌==◌, Bool, true, false, List, [], ◌∷◌, ◌++◌, length, take, drop, get_or, Result, Ok, Err, refl, sym, ap, subst, ◌∙◌, append_assoc, arith}
 use Rattle.std.proofs.lemmas.List.{append-nil, take_all}
 use Rattle.cap_changes.specs.Entries.{TableEntries}
-use Rattle.cap_codec.specs.declared.fault.BlobFault.{BlobFault}
+use Rattle.cap_field.specs.declared.fault.BlobFault.{BlobFault}
 use Rattle.cap_value.specs.declared.memory.Fault.{Fault}
 use Rattle.cap_value.specs.declared.memory.Fault.TheVariants.{Refused, OutOfMemory}
 use Rattle.cap_value.specs.Memory.{RefusesUnlessMemory}
-use Rattle.cap_codec.specs.Reading.{◌>>=◌, place}
+use Rattle.cap_field.specs.Reading.{◌>>=◌, place}
 use Rattle.cap_codec.specs.BlobReading.{is_operation, wrong_kind, changes_at, groups_at, with_changes}
 use Rattle.cap_codec.proofs.Loops.{ChangesFrom, change_goes_on, change_fails, reading_stops, reading_ends, GroupsFrom, group_goes_on, group_fails, other_kind_fails, groups_run_out}
 

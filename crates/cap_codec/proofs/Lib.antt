@@ -1,4 +1,3 @@
-pub mod Binds
 pub mod Loops
 pub mod Left
 pub mod FitLemmas
@@ -19,4 +18,4 @@ pub mod Looking
 pub mod LookingSteps
 pub mod StreamLemmas
 pub mod WritableLemmas
-pub mod BeginLemmas
+pub mod TouchedLemmas

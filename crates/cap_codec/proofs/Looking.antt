@@ -1,7 +1,7 @@
 -- Looking at the front of a blob: each part and each field that is whole leads on, whatever follows.
 use Rattle.std.proofs.Common.{◌≡◌, ℕ, zero, suc, ◌+◌, ◌≤◌, Bool, true, false, cond, ◌==◌, List, [], ◌∷◌, ◌++◌, length, drop, Option, Some, None, Result, Ok, Err, refl, sym, ap, subst, ◌∙◌, inl, inr, ◌⊎◌, arith, append_assoc, append-nil, length-append, drop_at, eq-eqb, eqb-true}
 use Rattle.std.proofs.lemmas.Bool.{cases_Bool}
-use Rattle.cap_codec.specs.declared.fault.BlobFault.{BlobFault}
+use Rattle.cap_field.specs.declared.fault.BlobFault.{BlobFault}
 use Rattle.cap_codec.specs.declared.read.Contents.TheVariants.{Changes, Patches}
 use Rattle.cap_codec.specs.declared.kind.Kind.{Kind}
 use Rattle.cap_codec.specs.declared.kind.Kind.TheVariants as kinds
@@ -9,9 +9,9 @@ use Rattle.cap_codec.specs.declared.change_cursor.ChangeCursor.{ChangeCursor}
 use Rattle.cap_codec.specs.ChangeLeft.{tail_at, past_at, IsEntered}
 use Rattle.cap_codec.specs.HeaderReading.{Header, header_at}
 use Rattle.cap_codec.specs.Pieces.{is_cut, lasting, outcome, columns_at, kind_byte, GoesOn, GoesOnAs, Leads}
-use Rattle.cap_codec.specs.Reading.{◌>>=◌, place}
+use Rattle.cap_field.specs.Reading.{◌>>=◌, place}
 use Rattle.cap_codec.specs.BlobReading.{is_operation, wrong_kind, change_at, patch_at, changes_at, group_at, patch_group_at, groups_at, blob_at}
-use Rattle.cap_codec.proofs.Binds.{bind_ok, chosen, ok_is, err_is}
+use Rattle.cap_field.proofs.Binds.{bind_ok, chosen, ok_is, err_is}
 use Rattle.cap_codec.proofs.Steady.{IsBehind, Stays, stays_then, no_longer, same_place, change_stays, patch_stays, header_stays}
 
 -- a step that failed, of two

@@ -6,8 +6,8 @@ use Rattle.cap_value.specs.declared.memory.Fault.{Fault}
 use Rattle.cap_value.specs.declared.memory.Fault.TheVariants.{Refused, OutOfMemory}
 use Rattle.cap_value.specs.declared.value.Value.{Value}
 use Rattle.cap_changes.specs.declared.field_requirement.FieldRequirement.{FieldRequirement}
-use Rattle.cap_codec.specs.declared.fault.BlobFault.{BlobFault}
-use Rattle.cap_codec.specs.declared.fault.FaultKind.TheVariants.{Truncated}
+use Rattle.cap_field.specs.declared.fault.BlobFault.{BlobFault}
+use Rattle.cap_field.specs.declared.fault.FaultKind.TheVariants.{Truncated}
 use Rattle.cap_codec.specs.declared.kind.Kind.{Kind}
 use Rattle.cap_codec.specs.declared.kind.Kind.TheVariants as kinds
 use Rattle.cap_codec.specs.declared.scan.ScanPosition.{ScanPosition}
@@ -18,7 +18,7 @@ use Rattle.cap_value.specs.Memory.{RefusesUnlessMemory}
 use Rattle.cap_codec.specs.Operation.{operation_byte}
 use Rattle.cap_codec.specs.declared.operation.Operation.{Operation}
 use Rattle.cap_codec.specs.declared.operation.Operation.TheVariants.{Insert, Update, Delete}
-use Rattle.cap_codec.specs.Reading.{fault, place}
+use Rattle.cap_field.specs.Reading.{fault, place}
 use Rattle.cap_codec.specs.FieldReading.{field_at}
 use Rattle.cap_codec.specs.BlobReading.{is_operation, is_kind, wrong_kind, change_at, patch_at, blob_at}
 use Rattle.cap_codec.proofs.FieldSteps.{field_passes, field_stops, fields_end}

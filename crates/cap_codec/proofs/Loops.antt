@@ -5,10 +5,10 @@ use Rattle.std.proofs.lemmas.List.{append-nil, drop_all}
 use Rattle.cap_value.specs.declared.value.Value.{Value}
 use Rattle.cap_changes.specs.FieldRecord.{RecordFields}
 use Rattle.cap_changes.specs.declared.field_requirement.FieldRequirement.{FieldRequirement}
-use Rattle.cap_codec.specs.declared.fault.BlobFault.{BlobFault}
+use Rattle.cap_field.specs.declared.fault.BlobFault.{BlobFault}
 use Rattle.cap_changes.specs.declared.record_kind.RecordKind.{RecordKind}
 use Rattle.cap_changes.specs.Requirements.{requirement_of, requirements, new_requirement, new_requirements}
-use Rattle.cap_codec.specs.Reading.{◌>>=◌, place}
+use Rattle.cap_field.specs.Reading.{◌>>=◌, place}
 use Rattle.cap_codec.specs.BlobReading.{is_operation, wrong_kind, changes_at, groups_at}
 use Rattle.cap_codec.specs.FieldReading.{field_at}
 use Rattle.cap_codec.specs.RecordReading.{record_at}

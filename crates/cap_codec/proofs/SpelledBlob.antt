@@ -18,7 +18,7 @@ use Rattle.cap_changes.specs.declared.row_change.RowChange.TheVariants as change
 use Rattle.cap_changes.specs.declared.patch.Patch.{Patch}
 use Rattle.cap_changes.specs.declared.patch.Patch.TheVariants as patched
 use Rattle.cap_changes.specs.declared.field_requirement.FieldRequirement.{FieldRequirement}
-use Rattle.cap_codec.specs.declared.fault.BlobFault.{BlobFault}
+use Rattle.cap_field.specs.declared.fault.BlobFault.{BlobFault}
 use Rattle.cap_codec.specs.declared.read.Contents.{Contents}
 use Rattle.cap_codec.specs.declared.read.Contents.TheVariants.{Changes, Patches}
 use Rattle.cap_changes.specs.declared.record_kind.RecordKind.TheVariants as record_kinds
@@ -26,17 +26,18 @@ use Rattle.cap_changes.specs.Requirements.{requirements, new_requirements, satis
 use Rattle.cap_codec.specs.Field.{record_bytes, key_bytes}
 use Rattle.cap_codec.specs.HeaderReading.{Header, is_zero, is_set, count_at, flags_at, named_at, name_at, header_at}
 use Rattle.cap_codec.specs.Pieces.{lasting}
-use Rattle.cap_codec.specs.Reading.{◌>>=◌, bytes_at, varint_at}
+use Rattle.cap_field.specs.Reading.{◌>>=◌, bytes_at, varint_at}
 use Rattle.cap_codec.specs.RecordReading.{record_at}
-use Rattle.cap_codec.specs.Varint.{varint_bytes}
+use Rattle.cap_field.specs.Varint.{varint_bytes}
 use Rattle.cap_codec.specs.BlobReading.{is_operation, change_at, patch_at, changes_at, group_at, patch_group_at, groups_at, blob_at}
 use Rattle.cap_codec.specs.Spelling.{SpellsEach, SpellsGroup, SpellsChange, SpellsPatch, SpellsChanges, SpellsPatches, Spells}
 use Rattle.cap_codec.specs.Writable.{IsTable, AreValues}
-use Rattle.cap_codec.proofs.Binds.{bind_ok, guard_ok, check_ok, chosen, ok_is}
+use Rattle.cap_field.proofs.Binds.{bind_ok, guard_ok, check_ok, chosen, ok_is}
 use Rattle.cap_codec.proofs.FitLemmas.{record_meets}
 use Rattle.cap_codec.proofs.ChangeAgain.{asked_record, all_asked, of_full, of_keyed, keys_asked, new_asked}
 use Rattle.cap_codec.proofs.HeaderLemmas.{key_is_set, is_schema_of, name_before}
-use Rattle.cap_codec.proofs.Spelled.{AreLow, low_behind, varint_spelled, bytes_spelled, record_spelled}
+use Rattle.cap_field.proofs.Spelled.{AreLow, low_behind, varint_spelled, bytes_spelled}
+use Rattle.cap_codec.proofs.Spelled.{record_spelled}
 use Rattle.cap_codec.proofs.BlobAgain.{blob_again}
 
 module _ {A : Type 0} where

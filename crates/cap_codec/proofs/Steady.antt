@@ -6,14 +6,15 @@ use Rattle.std.proofs.lemmas.Bool.{cases_Bool, cases_lt, lt-leb}
 use Rattle.std.proofs.lemmas.List.{take-append-le, drop-append-le}
 use Rattle.cap_changes.specs.declared.field_requirement.FieldRequirement.{FieldRequirement}
 use Rattle.cap_changes.specs.declared.field_requirement.FieldRequirement.TheVariants as required
-use Rattle.cap_codec.specs.declared.fault.BlobFault.{BlobFault}
-use Rattle.cap_codec.specs.declared.fault.FaultKind.TheVariants.{BadName}
+use Rattle.cap_field.specs.declared.fault.BlobFault.{BlobFault}
+use Rattle.cap_field.specs.declared.fault.FaultKind.TheVariants.{BadName}
 use Rattle.cap_changes.specs.declared.record_kind.RecordKind.TheVariants as record_kinds
 use Rattle.cap_changes.specs.Requirements.{requirements, new_requirements}
-use Rattle.cap_codec.specs.FieldReading.{allows, number_at, sized_at, text_at, content_at, typed_at, field_at}
+use Rattle.cap_field.specs.FieldReading.{number_at, sized_at, text_at}
+use Rattle.cap_codec.specs.FieldReading.{allows, content_at, typed_at, field_at}
 use Rattle.cap_codec.specs.HeaderReading.{is_zero, is_set, count_at, flags_at, named_at, name_at, header_at}
 use Rattle.cap_codec.specs.Pieces.{is_cut}
-use Rattle.cap_codec.specs.Reading.{◌>>=◌, fault, place, byte_at, bytes_at, varint_from, varint_at}
+use Rattle.cap_field.specs.Reading.{◌>>=◌, fault, place, byte_at, bytes_at, varint_from, varint_at}
 use Rattle.cap_codec.specs.RecordReading.{record_at}
 use Rattle.cap_codec.specs.BlobReading.{change_at, patch_at}
 

@@ -4,12 +4,12 @@ use Rattle.std.specs.Prelude.{slice_get, Option, Some, None, Result, Ok, nat_lt,
 use Rattle.cap_value.specs.declared.value.Value.{Value}
 use Rattle.cap_changes.specs.FieldRecord.{RecordFields}
 use Rattle.cap_changes.specs.declared.field_requirement.FieldRequirement.{FieldRequirement}
-use Rattle.cap_codec.specs.declared.fault.BlobFault.{BlobFault}
+use Rattle.cap_field.specs.declared.fault.BlobFault.{BlobFault}
 use Rattle.cap_codec.specs.declared.kind.Kind.{Kind}
 use Rattle.cap_codec.specs.declared.kind.Kind.TheVariants as kinds
 use Rattle.cap_codec.specs.declared.change_cursor.ChangeCursor.{ChangeCursor}
 use Rattle.cap_changes.specs.Requirements.{requirement_of, requirements, new_requirement, new_requirements}
-use Rattle.cap_codec.specs.Reading.{◌>>=◌}
+use Rattle.cap_field.specs.Reading.{◌>>=◌}
 use Rattle.cap_codec.specs.RecordReading.{record_at}
 use Rattle.cap_codec.specs.BlobReading.{change_at, patch_at}
 

@@ -8,7 +8,7 @@ use Rattle.cap_changes.specs.Entries.{TableEntries}
 use Rattle.cap_changes.specs.Group.{TableChanges}
 use Rattle.cap_codec.specs.declared.key_flags.KeyFlags.{KeyFlags}
 use Rattle.cap_codec.specs.declared.key_flags.KeyFlags.TheVariants.{Ones, Places}
-use Rattle.cap_codec.specs.Varint.{varint_bytes}
+use Rattle.cap_field.specs.Varint.{varint_bytes}
 use Rattle.cap_codec.specs.Field.{record_bytes}
 use Rattle.cap_codec.specs.KindByte.{changeset_kind}
 

@@ -6,11 +6,11 @@ use Rattle.cap_changes.specs.declared.record_kind.RecordKind.{RecordKind}
 use Rattle.cap_changes.specs.declared.record_kind.RecordKind.TheVariants as record_kinds
 use Rattle.cap_changes.specs.Requirements.{requirements}
 use Rattle.cap_codec.specs.declared.change.EntryStart.{EntryStart}
-use Rattle.cap_codec.specs.declared.fault.BlobFault.{BlobFault}
+use Rattle.cap_field.specs.declared.fault.BlobFault.{BlobFault}
 use Rattle.cap_codec.specs.declared.operation.Operation.{Operation}
 use Rattle.cap_codec.specs.declared.operation.Operation.TheVariants.{Insert, Update, Delete}
 use Rattle.cap_codec.specs.HeaderReading.{is_set}
-use Rattle.cap_codec.specs.Reading.{◌>>=◌, byte_at}
+use Rattle.cap_field.specs.Reading.{◌>>=◌, byte_at}
 use Rattle.cap_codec.specs.RecordReading.{record_at}
 
 -- the kind of the first record of a change of a changeset

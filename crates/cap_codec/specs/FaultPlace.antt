@@ -2,17 +2,17 @@
 use Rattle.std.specs.Prelude.{◌≡◌, ◌⊎◌, ℕ, ◌<◌, ◌≤◌, false, true, List, [], ◌∷◌, ◌++◌, length}
 use Rattle.std.specs.List.{list_any, AllByRecursion}
 use Rattle.std.specs.Str.{is_utf8}
-use Rattle.cap_codec.specs.declared.fault.BlobFault.{BlobFault}
-use Rattle.cap_codec.specs.declared.fault.FaultKind.{FaultKind}
-use Rattle.cap_codec.specs.declared.fault.FaultKind.TheVariants.{Truncated, BadHeader, BadVarint, BadName}
-use Rattle.cap_codec.specs.declared.fault.FaultKind.TheVariants.{BadOp, BadField, Real, BadText, BadRecord}
-use Rattle.cap_codec.specs.declared.fault.FaultKind.TheVariants.{Mixed}
+use Rattle.cap_field.specs.declared.fault.BlobFault.{BlobFault}
+use Rattle.cap_field.specs.declared.fault.FaultKind.{FaultKind}
+use Rattle.cap_field.specs.declared.fault.FaultKind.TheVariants.{Truncated, BadHeader, BadVarint, BadName}
+use Rattle.cap_field.specs.declared.fault.FaultKind.TheVariants.{BadOp, BadField, Real, BadText, BadRecord}
+use Rattle.cap_field.specs.declared.fault.FaultKind.TheVariants.{Mixed}
 use Rattle.cap_codec.specs.declared.read.Contents.{Contents}
 use Rattle.cap_codec.specs.BlobReading.{is_operation, is_kind}
-use Rattle.cap_codec.specs.Field.{sized_bytes}
+use Rattle.cap_field.specs.Field.{sized_bytes}
 use Rattle.cap_codec.specs.HeaderReading.{is_zero, is_set}
 use Rattle.cap_codec.specs.Spelling.{Spells}
-use Rattle.cap_codec.specs.Varint.{varint_bytes}
+use Rattle.cap_field.specs.Varint.{varint_bytes}
 
 -- The part with a fault of this kind:
 -- `BadHeader`: the first byte of the blob, which begins no group; a column count; or key flags of no column.

@@ -1,17 +1,16 @@
 -- Reading the fields of a record.
-use Rattle.std.specs.Prelude.{ℕ, ℤ, ◌≤◌, Bool, true, not, List, length, Option, Some, None, Result, Ok}
+use Rattle.std.specs.Prelude.{ℕ, ◌≤◌, Bool, true, not, List, length, Option, Some, None, Result, Ok}
 use Rattle.std.specs.Prelude.{nat_lt, ◌==◌, ◌&&◌, if◌then◌else◌}
-use Rattle.std.specs.Int.{w64, from_be_bytes, cast_signed}
-use Rattle.std.specs.Str.{is_utf8}
 use Rattle.cap_value.specs.declared.value.Value.{Value}
 use Rattle.cap_value.specs.declared.value.Value.TheVariants.{Null, Int, Text, Blob}
 use Rattle.cap_changes.specs.declared.field_requirement.FieldRequirement.{FieldRequirement}
 use Rattle.cap_changes.specs.declared.field_requirement.FieldRequirement.TheVariants as required
-use Rattle.cap_codec.specs.declared.fault.BlobFault.{BlobFault}
-use Rattle.cap_codec.specs.declared.fault.FaultKind.TheVariants.{BadField, Real, BadText, BadRecord}
+use Rattle.cap_field.specs.declared.fault.BlobFault.{BlobFault}
+use Rattle.cap_field.specs.declared.fault.FaultKind.TheVariants.{BadField, Real, BadRecord}
 use Rattle.cap_codec.specs.declared.field_ref.FieldRef.{FieldRef}
 use Rattle.cap_codec.specs.declared.field_ref.FieldRef.TheVariants as field_refs
-use Rattle.cap_codec.specs.Reading.{◌>>=◌, fault, place, byte_at, bytes_at, varint_at}
+use Rattle.cap_field.specs.Reading.{◌>>=◌, fault, place, byte_at}
+use Rattle.cap_field.specs.FieldReading.{number_at, sized_at, text_at}
 
 -- the type bytes that satisfy a requirement: 0 is not defined, and 5 is NULL
 abbrev pub allows : FieldRequirement → ℕ → Bool
@@ -20,27 +19,6 @@ allows required.Defined kind = not (kind == 0)
 allows required.Any kind = true
 allows required.Undefined kind = kind == 0
 allows required.Omitted kind = kind == 0
-
--- bytes that are UTF-8
-abbrev pub text_of : List ℕ → Option (List ℕ)
-text_of bytes = if is_utf8 bytes then Some bytes else None
-
--- eight bytes of two's complement, the highest first
-abbrev pub number_at : ℕ → List ℕ → Result (ℤ × List ℕ) BlobFault
-number_at total bytes = do
-  n ← bytes_at total 8 bytes
-  Ok (cast_signed w64 (from_be_bytes w64 n.0), n.1)
-
--- a length, and that many bytes; `at` is the offset of the field's type byte
-unfoldable pub sized_at : ℕ → ℕ → List ℕ → Result (List ℕ × List ℕ) BlobFault
-sized_at total at bytes = do
-  count ← varint_at total bytes
-  if nat_lt 1000000000 count.0 then fault BadField at else bytes_at total count.0 count.1
-
-unfoldable pub text_at : ℕ → ℕ → List ℕ → Result (List ℕ × List ℕ) BlobFault
-text_at total at bytes = do
-  text ← sized_at total at bytes
-  if is_utf8 text.0 then Ok text else fault BadText at
 
 -- within the limit of texts and blobs
 abbrev pub IsWithin : FieldRef → Type 0

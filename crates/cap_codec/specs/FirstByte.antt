@@ -1,7 +1,7 @@
 -- The first byte of a blob.
 use Rattle.std.specs.Prelude.{ℕ, List, [], ◌∷◌, Option, Some, None, if◌then◌else◌}
-use Rattle.cap_codec.specs.declared.fault.BlobFault.{BlobFault}
-use Rattle.cap_codec.specs.declared.fault.FaultKind.TheVariants.{BadHeader}
+use Rattle.cap_field.specs.declared.fault.BlobFault.{BlobFault}
+use Rattle.cap_field.specs.declared.fault.FaultKind.TheVariants.{BadHeader}
 use Rattle.cap_codec.specs.BlobReading.{is_kind}
 
 -- the fault of a first byte that begins no group, which is reported before memory is asked for

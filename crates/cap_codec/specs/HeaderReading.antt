@@ -3,10 +3,10 @@ use Rattle.std.specs.Prelude.{ℕ, ◌+◌, Bool, not, List, length, take, drop,
 use Rattle.std.specs.Prelude.{Result, Ok, nat_lt, nat_le, ◌==◌, ◌||◌, ◌&&◌, if◌then◌else◌}
 use Rattle.std.specs.List.{list_any}
 use Rattle.std.specs.Str.{is_utf8}
-use Rattle.cap_codec.specs.declared.fault.BlobFault.{BlobFault}
-use Rattle.cap_codec.specs.declared.fault.FaultKind.TheVariants.{Truncated, BadHeader, BadName}
+use Rattle.cap_field.specs.declared.fault.BlobFault.{BlobFault}
+use Rattle.cap_field.specs.declared.fault.FaultKind.TheVariants.{Truncated, BadHeader, BadName}
 use Rattle.cap_codec.specs.declared.header.HeaderRef.{HeaderRef}
-use Rattle.cap_codec.specs.Reading.{◌>>=◌, fault, place, bytes_at, varint_at}
+use Rattle.cap_field.specs.Reading.{◌>>=◌, fault, place, bytes_at, varint_at}
 
 -- a table's name, and a key flag for each column
 pub record Header : Type 0 where

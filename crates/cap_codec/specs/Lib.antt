@@ -1,9 +1,7 @@
-pub mod Varint
 pub mod Field
 pub mod KindByte
 pub mod Changeset
 pub mod Patchset
-pub mod Reading
 pub mod FieldReading
 pub mod HeaderReading
 pub mod RecordReading
@@ -14,7 +12,6 @@ pub mod EntryReading
 pub mod ChangeLeft
 pub mod Writable
 pub mod Spelling
-pub mod FaultName
 pub mod FaultPlace
 pub mod Pieces
 pub mod StreamCalls

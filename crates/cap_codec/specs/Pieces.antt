@@ -3,16 +3,16 @@ use Rattle.std.specs.Prelude.{◌≡◌, ℕ, ◌<◌, ◌≤◌, Bool, true, fa
 use Rattle.std.specs.Prelude.{None, Result, Ok, Err, IfSome, if◌then◌else◌}
 use Rattle.cap_value.specs.declared.memory.Fault.{Fault}
 use Rattle.cap_value.specs.declared.memory.Fault.TheVariants.{Refused, OutOfMemory}
-use Rattle.cap_codec.specs.declared.fault.BlobFault.{BlobFault}
-use Rattle.cap_codec.specs.declared.fault.FaultKind.{FaultKind}
-use Rattle.cap_codec.specs.declared.fault.FaultKind.TheVariants.{Truncated}
+use Rattle.cap_field.specs.declared.fault.BlobFault.{BlobFault}
+use Rattle.cap_field.specs.declared.fault.FaultKind.{FaultKind}
+use Rattle.cap_field.specs.declared.fault.FaultKind.TheVariants.{Truncated}
 use Rattle.cap_codec.specs.declared.kind.Kind.{Kind}
 use Rattle.cap_codec.specs.declared.kind.Kind.TheVariants as kinds
 use Rattle.cap_codec.specs.declared.scan.ScanPosition.{ScanPosition}
 use Rattle.cap_codec.specs.declared.scan.Advance.{Advance}
 use Rattle.cap_codec.specs.declared.scan.Advance.TheVariants.{On, Cut}
 use Rattle.cap_codec.specs.declared.change_cursor.ChangeCursor.{ChangeCursor}
-use Rattle.cap_codec.specs.Reading.{◌>>=◌}
+use Rattle.cap_field.specs.Reading.{◌>>=◌}
 use Rattle.cap_codec.specs.HeaderReading.{header_at}
 use Rattle.cap_codec.specs.KindByte.{changeset_kind, patchset_kind}
 use Rattle.cap_codec.specs.BlobReading.{change_at, patch_at, changes_at, group_at, patch_group_at, groups_at}

@@ -10,7 +10,7 @@ use Rattle.cap_changes.specs.declared.patch.Patch.{Patch}
 use Rattle.cap_changes.specs.declared.patch.Patch.TheVariants as patched
 use Rattle.cap_codec.specs.declared.read.Contents.{Contents}
 use Rattle.cap_codec.specs.declared.read.Contents.TheVariants.{Changes, Patches}
-use Rattle.cap_codec.specs.Varint.{varint_bytes}
+use Rattle.cap_field.specs.Varint.{varint_bytes}
 use Rattle.cap_codec.specs.Field.{record_bytes, key_bytes}
 use Rattle.cap_codec.specs.HeaderReading.{is_set}
 use Rattle.cap_codec.specs.KindByte.{changeset_kind, patchset_kind}

@@ -6,7 +6,7 @@ use Rattle.cap_value.specs.declared.memory.Fault.TheVariants.{Refused, OutOfMemo
 use Rattle.cap_codec.specs.BlobReading.{blob_at}
 use Rattle.cap_codec.specs.Pieces.{lasting}
 use Rattle.cap_codec.specs.StreamCalls.{AllWent, LastFailed, GaveAtMost, ReadsGave}
-use Rattle.cap_codec.specs.declared.fault.BlobFault.{BlobFault}
+use Rattle.cap_field.specs.declared.fault.BlobFault.{BlobFault}
 use Rattle.cap_codec.specs.declared.read.Contents.{Contents}
 use Rattle.cap_codec.specs.declared.stream.ReadFault.{ReadFault}
 use Rattle.cap_codec.specs.declared.stream.ReadFault.TheVariants as read

@@ -1,18 +1,17 @@
 //! Decoding of the changes of a group.
 
 ghost use Rattle.std.specs.Prelude.{◌≡◌, ◌≤◌, ℕ, Bool, List, Result, length, IfOk, IsTrue};
-ghost use Rattle.cap_codec.specs.declared.fault.BlobFault.{BlobFault};
+ghost use Rattle.cap_field.specs.declared.fault.BlobFault.{BlobFault};
 ghost use Rattle.cap_value.specs.Memory.{ShowsUnlessMemory};
 ghost use Rattle.cap_codec.specs.EntryReading as reading;
 ghost use Rattle.cap_codec.specs.EntryReading.{start_at};
 ghost use Rattle.cap_codec.specs.Operation.{operation_byte};
 
-use crate::fault::BlobFault;
-use crate::field_ref::take_byte;
 use crate::operation::Operation;
 use crate::record::{take_new_record, take_record};
 use crate::write::Encode;
 use cap_changes::{FieldRecord, Patch, RecordKind, RowChange};
+use cap_field::{BlobFault, take_byte};
 use cap_value::{AllocHandle, Fault};
 
 /// An entry behind its operation byte, in a blob of `total` bytes.

@@ -3,15 +3,15 @@
 ghost use Rattle.std.specs.Prelude.{◌≡◌, ◌++◌, [], Ok, Err, IfOk, OnOk};
 ghost use Rattle.cap_value.specs.declared.memory.Fault.TheVariants.{Refused};
 ghost use Rattle.cap_value.specs.Memory.{AnswersUnlessMemory};
-ghost use Rattle.cap_codec.specs.declared.fault.BlobFault.{BlobFault as Wrong};
+ghost use Rattle.cap_field.specs.declared.fault.BlobFault.{BlobFault as Wrong};
 ghost use Rattle.cap_codec.specs.declared.read.Contents.{Contents as Spelled};
 ghost use Rattle.cap_codec.specs.BlobReading.{blob_at};
 ghost use Rattle.cap_codec.specs.Spelling.{Spells};
 ghost use Rattle.cap_codec.specs.Pieces.{lasting, KeepsFault};
 
-use crate::fault::BlobFault;
 use crate::read::{Contents, read_blob};
 use crate::scan::{ScanPosition, scan};
+use cap_field::BlobFault;
 use cap_value::{AllocHandle, Fault};
 use std::marker::Model;
 

@@ -10,10 +10,10 @@ ghost use Rattle.cap_codec.specs.HeaderReading.{is_set};
 ghost use Rattle.cap_codec.specs.BlobReading.{changes_at, entries_at, with_changes};
 
 use crate::change::{Decode, EntryBytes};
-use crate::fault::BlobFault;
 use crate::header::take_header;
 use crate::operation::Operation;
 use cap_changes::TableGroup;
+use cap_field::BlobFault;
 use cap_row::Schema;
 use cap_value::{AllocHandle, Fault, Name, OutOfMemory};
 

@@ -5,7 +5,7 @@ ghost use Rattle.cap_value.specs.Bytes.{AreBytes};
 ghost use Rattle.cap_codec.specs.declared.key_flags.KeyFlags.{KeyFlags};
 ghost use Rattle.cap_codec.specs.declared.read.Contents.{Contents};
 ghost use Rattle.cap_codec.specs.BlobReading.{blob_at};
-ghost use Rattle.cap_codec.specs.declared.fault.BlobFault.{BlobFault};
+ghost use Rattle.cap_field.specs.declared.fault.BlobFault.{BlobFault};
 ghost use Rattle.cap_codec.specs.FaultPlace.{IsFaultAt};
 ghost use Rattle.cap_codec.specs.Pieces.{lasting};
 ghost use Rattle.cap_codec.specs.Spelling.{Spells};

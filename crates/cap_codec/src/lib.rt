@@ -4,7 +4,6 @@
 mod change;
 mod change_cursor;
 mod decoder;
-mod fault;
 mod field;
 mod field_ref;
 mod group;
@@ -19,14 +18,12 @@ mod scan;
 mod source_and_sink;
 mod stream;
 mod touched;
-mod varint;
 mod writable;
 mod write;
 
+pub use cap_field::{BlobFault, FaultKind, place_of, push_value, take_byte, take_varint};
 pub use decoder::Decoder;
-pub use fault::{BlobFault, FaultKind};
-pub use field::push_value;
-pub use field_ref::{FieldRef, place_of, take_byte, take_field, take_varint};
+pub use field_ref::{FieldRef, take_field};
 pub use group::{own_name, own_schema};
 pub use header::{HeaderRef, take_header};
 pub use key_flags::KeyFlags;

@@ -10,11 +10,10 @@ ghost use Rattle.cap_codec.specs.KindByte.{changeset_kind, patchset_kind};
 ghost use Rattle.cap_codec.specs.Spelling.{Spells};
 
 use crate::change::Decode;
-use crate::fault::{BlobFault, FaultKind};
-use crate::field_ref::place_of;
 use crate::group::take_group;
 use crate::write::{CHANGESET_KIND, PATCHSET_KIND};
 use cap_changes::{ChangeList, GroupList, PatchList};
+use cap_field::{BlobFault, FaultKind, place_of};
 use cap_value::{AllocHandle, Fault};
 
 /// The contents of a blob.

@@ -7,9 +7,9 @@ ghost use Rattle.cap_codec.specs.FieldReading.{value_of, IsWithin};
 ghost use Rattle.cap_changes.specs.Requirements.{requirements, new_requirements};
 ghost use Rattle.cap_codec.specs.RecordReading.{record_at};
 
-use crate::fault::BlobFault;
 use crate::field_ref::{FieldRef, take_field};
 use cap_changes::{FieldRecord, RecordKind, requirement_beside};
+use cap_field::BlobFault;
 use cap_value::{AllocHandle, Blob, Fault, OutOfMemory, Text, Value};
 
 fn text_value<A: AllocHandle>(alloc: A, text: &str) -> Result<Value<A>, Fault<BlobFault>>

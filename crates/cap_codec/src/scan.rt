@@ -8,14 +8,14 @@ ghost use Rattle.cap_codec.specs.Pieces.{columns_at, kind_byte, may_mend, IsPlac
 ghost use Rattle.cap_codec.specs.Pieces.{Passes, Steps, GoesTo, Begins, Scans};
 
 use crate::change_cursor::ChangeCursor;
-use crate::fault::{BlobFault, FaultKind};
-use crate::field_ref::{place_of, take_field};
+use crate::field_ref::take_field;
 use crate::group::own_schema;
 use crate::header::take_header;
 use crate::kind::Kind;
 use crate::operation::Operation;
 use crate::read::wrong_kind;
 use crate::write::{CHANGESET_KIND, PATCHSET_KIND};
+use cap_field::{BlobFault, FaultKind, place_of};
 use cap_row::Schema;
 use cap_value::{AllocHandle, Fault};
 

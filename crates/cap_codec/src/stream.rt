@@ -9,11 +9,11 @@ ghost use Rattle.cap_codec.specs.Patchset.{patch_list_bytes};
 ghost use Rattle.cap_codec.specs.Stream.{IsBlobOf, EndsReads, EndsWrites, WritesFront, WritesSome};
 
 use crate::decoder::Decoder;
-use crate::fault::BlobFault;
 use crate::read::Contents;
 use crate::source_and_sink::{Sink, Source};
 use crate::write::{write_changes, write_patches};
 use cap_changes::{ChangeList, PatchList};
+use cap_field::BlobFault;
 use cap_value::{AllocHandle, Fault};
 use std::io;
 use std::io::ErrorKind;

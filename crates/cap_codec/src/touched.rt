@@ -1,23 +1,23 @@
 //! The change of one touched key as bytes, encoded from its rows without building a record.
 
 ghost use mathlib.Core.List.{IsPrefix};
-ghost use Rattle.std.specs.Prelude.{◌≡◌, ◌++◌, [], IsTrue, None, OnErr, OnOk, Some, if◌then◌else◌};
+ghost use Rattle.std.specs.Prelude.{◌≡◌, ◌++◌, [], ◌∷◌, IsTrue, OnErr, OnOk, not, ◌&&◌, ◌||◌, if◌then◌else◌};
 ghost use Rattle.std.specs.List.{cons_option, flat_map};
 ghost use Rattle.std.specs.Option.{option_copied};
+ghost use Rattle.cap_value.specs.Bytes.{bytes_eq};
 ghost use Rattle.cap_changes.specs.Change as touched;
 ghost use Rattle.cap_changes.specs.Column.{by_column};
 ghost use Rattle.cap_codec.specs.Changeset.{change_bytes, header_bytes};
-ghost use Rattle.cap_codec.specs.Field.{record_bytes, field_bytes};
+ghost use Rattle.cap_codec.specs.Field.{record_bytes};
 ghost use Rattle.cap_codec.specs.KindByte.{changeset_kind};
 ghost use Rattle.cap_codec.specs.Touched.{is_changed};
 
 use crate::KeyFlags;
-use crate::field::{UNDEFINED, push_value};
 use crate::operation::Operation;
 use crate::write::{CHANGESET_KIND, push_header, push_operation};
-use cap_changes::is_modified;
-use cap_row::{Row, Schema};
-use cap_value::{AllocHandle, Name, OutOfMemory, Value};
+use cap_field::UNDEFINED;
+use cap_row::{Row, RowFields, Schema};
+use cap_value::{AllocHandle, Name, OutOfMemory};
 
 /// Whether the row of a touched key has changed: inserted, deleted, or with other values. `image` is its
 /// first image, `now` its row now.
@@ -97,11 +97,11 @@ fn push_change<A: AllocHandle>(
         (None, None) => Ok(()),
         (None, Some(now)) => {
             push_operation(out, Operation::Insert, indirect)?;
-            push_row(out, now.fields())
+            push_row(out, now)
         }
         (Some(image), None) => {
             push_operation(out, Operation::Delete, indirect)?;
-            push_row(out, image.fields())
+            push_row(out, image)
         }
         (Some(image), Some(now)) => {
             push_operation(out, Operation::Update, indirect)?;
@@ -112,31 +112,33 @@ fn push_change<A: AllocHandle>(
 }
 
 // Appends a record in which every field is defined.
-fn push_row<A: AllocHandle>(out: &mut Vec<u8, A>, row: &[Value<A>]) -> Result<(), OutOfMemory>
+fn push_row<A: AllocHandle>(out: &mut Vec<u8, A>, row: &Row<A>) -> Result<(), OutOfMemory>
     ensures bytes { OnOk result
         (out.new.items ≡ out.old.items ++ record_bytes (touched.full_record row.now)) }
     ensures begins { OnErr result (IsPrefix out.old.items out.new.items) }
 {
-    for value in row {
-        push_value(out, value)?;
-    }
-    Ok(())
+    row.write_to(out)
 }
 
 // Appends the old record of an update: the key fields and the modified fields, as they were.
 fn push_old<A: AllocHandle>(
     out: &mut Vec<u8, A>,
     flags: &[bool],
-    image: &[Value<A>],
-    now: &[Value<A>],
+    image: RowFields<'_, A>,
+    now: RowFields<'_, A>,
 ) -> Result<(), OutOfMemory>
     ensures bytes { OnOk result (out.new.items ≡ out.old.items
-        ++ record_bytes (by_column touched.old_field flags.now image.now now.now)) }
+        ++ record_bytes (by_column touched.old_field flags.now image.entry now.entry)) }
     ensures begins { OnErr result (IsPrefix out.old.items out.new.items) }
 {
-    for (key, (image, now)) in flags.iter().zip(image.iter().zip(now)) {
-        let modified = is_modified(*key, image, now);
-        push_if(out, *key || modified, image)?;
+    let mut image = image;
+    let mut now = now;
+    for key in flags {
+        let (Some(was), Some(is)) = (image.next_field(), now.next_field()) else {
+            return Ok(());
+        };
+        let kept = is_kept(*key, was, is);
+        push_if(out, kept, was)?;
     }
     Ok(())
 }
@@ -145,34 +147,55 @@ fn push_old<A: AllocHandle>(
 fn push_new<A: AllocHandle>(
     out: &mut Vec<u8, A>,
     flags: &[bool],
-    image: &[Value<A>],
-    now: &[Value<A>],
+    image: RowFields<'_, A>,
+    now: RowFields<'_, A>,
 ) -> Result<(), OutOfMemory>
     ensures bytes { OnOk result (out.new.items ≡ out.old.items
-        ++ record_bytes (by_column touched.new_field flags.now image.now now.now)) }
+        ++ record_bytes (by_column touched.new_field flags.now image.entry now.entry)) }
     ensures begins { OnErr result (IsPrefix out.old.items out.new.items) }
 {
-    for (key, (image, now)) in flags.iter().zip(image.iter().zip(now)) {
-        let modified = is_modified(*key, image, now);
-        push_if(out, modified, now)?;
+    let mut image = image;
+    let mut now = now;
+    for key in flags {
+        let (Some(was), Some(is)) = (image.next_field(), now.next_field()) else {
+            return Ok(());
+        };
+        let modified = is_modified(*key, was, is);
+        push_if(out, modified, is)?;
     }
     Ok(())
 }
 
-// Appends a field with this value, or an undefined one.
+// Whether a column is modified, by the bytes of its fields: it is not in the key, and they differ.
+#[inline(always)]
+fn is_modified(key: bool, was: &[u8], is: &[u8]) -> bool
+    ensures { result ≡ (not key && not (bytes_eq was.now is.now)) }
+{
+    !key && was != is
+}
+
+// Whether the old record has the field.
+#[inline(always)]
+fn is_kept(key: bool, was: &[u8], is: &[u8]) -> bool
+    ensures { result ≡ (key || (not key && not (bytes_eq was.now is.now))) }
+{
+    key || is_modified(key, was, is)
+}
+
+// Appends a field, or an undefined one.
+#[inline(always)]
 fn push_if<A: AllocHandle>(
     out: &mut Vec<u8, A>,
     defined: bool,
-    value: &Value<A>,
+    field: &[u8],
 ) -> Result<(), OutOfMemory>
-    ensures bytes { OnOk result (out.new.items ≡ out.old.items
-        ++ field_bytes (if defined then Some value.now else None)) }
+    ensures bytes { OnOk result (out.new.items ≡ out.old.items ++ (if defined then field.now else 0 ∷ [])) }
     ensures begins { OnErr result (IsPrefix out.old.items out.new.items) }
 {
     if defined {
-        push_value(out, value)
+        out.extend_from_slice(field)?;
     } else {
         out.push(UNDEFINED)?;
-        Ok(())
     }
+    Ok(())
 }

@@ -12,8 +12,8 @@ ghost use Rattle.cap_codec.specs.Patchset.{patch_list_bytes, patch_list_bytes_wi
 use crate::field::{push_key, push_record};
 use crate::key_flags::KeyFlags;
 use crate::operation::Operation;
-use crate::varint::push_varint;
 use cap_changes::{ChangeList, Entry, GroupList, Patch, PatchList, RowChange, TableGroup};
+use cap_field::push_varint;
 use cap_row::Schema;
 use cap_value::{AllocHandle, Name, OutOfMemory};
 

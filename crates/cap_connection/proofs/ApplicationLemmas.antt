@@ -20,7 +20,7 @@ use Rattle.cap_database.specs.Tables.{Tables}
 use Rattle.cap_database.specs.declared.op.Op.{Op}
 use Rattle.cap_txn.specs.Standing.{Leaves}
 use Rattle.cap_txn.specs.Transaction.{TxnState, batch_of}
-use Rattle.cap_codec.specs.declared.fault.BlobFault.{BlobFault}
+use Rattle.cap_field.specs.declared.fault.BlobFault.{BlobFault}
 use Rattle.cap_apply.specs.declared.policy.Answer.{Answer}
 use Rattle.cap_applier.specs.Applier.{ApplierState, answered, met}
 use Rattle.cap_applier.specs.Looked.{KeepsTo, SameRows}

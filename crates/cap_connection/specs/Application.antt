@@ -17,7 +17,7 @@ use Rattle.cap_txn.specs.Batch.{BatchState}
 use Rattle.cap_txn.specs.Standing.{Leaves}
 use Rattle.cap_txn.specs.Transaction.{TxnState, batch_of}
 use Rattle.cap_codec.specs.BlobReading.{blob_at}
-use Rattle.cap_codec.specs.declared.fault.BlobFault.{BlobFault}
+use Rattle.cap_field.specs.declared.fault.BlobFault.{BlobFault}
 use Rattle.cap_codec.specs.declared.key_flags.KeyFlags.{KeyFlags}
 use Rattle.cap_codec.specs.declared.read.Contents.{Contents}
 use Rattle.cap_apply.specs.declared.conflict.ConflictKind.{ConflictKind}

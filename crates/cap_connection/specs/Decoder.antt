@@ -6,7 +6,7 @@ use Rattle.cap_value.specs.declared.memory.Fault.{Fault}
 use Rattle.cap_value.specs.declared.memory.Fault.TheVariants.{Refused}
 use Rattle.cap_codec.specs.BlobReading.{blob_at}
 use Rattle.cap_codec.specs.Pieces.{KeepsFault, lasting}
-use Rattle.cap_codec.specs.declared.fault.BlobFault.{BlobFault}
+use Rattle.cap_field.specs.declared.fault.BlobFault.{BlobFault}
 
 -- The next piece is taken, or a fault is answered that no further bytes can mend: that of the bytes so far,
 -- as of the whole blob.

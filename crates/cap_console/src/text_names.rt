@@ -116,7 +116,7 @@ fn push_record(
         if let Some(value) = field {
             text.push_str(before)?;
             push_name(text, column, names)?;
-            write!(text, "={}", ValueText(value))?;
+            write!(text, "={}", ValueText::of(value))?;
             before = ",";
         }
     }

@@ -9,7 +9,8 @@ ghost use Rattle.cap_core.specs.Capture.{session_changes};
 use crate::capture;
 use cap_changes::ChangeList;
 use cap_database::Database;
-use cap_row::{Key, Row, Schema};
+use cap_field::ValueRef;
+use cap_row::{Key, Row, RowFields, Schema};
 use cap_session::{Records, Session};
 use cap_table::Table;
 use cap_value::{AllocHandle, OutOfMemory, Value};
@@ -76,16 +77,20 @@ fn keyed_stands<A: AllocHandle>(schema: &Schema<A>, key: &Key<A>, row: &Row<A>) 
 }
 
 // Whether these are the values of the key columns.
-fn has_key_fields<A: AllocHandle>(flags: &[bool], row: &[Value<A>], key: &[Value<A>]) -> bool
-    ensures { result ≡ fields_eq (key_fields flags.now row.now) key.now }
+fn has_key_fields<A: AllocHandle>(flags: &[bool], row: RowFields<'_, A>, key: &[Value<A>]) -> bool
+    ensures { result ≡ fields_eq (key_fields flags.now row.entry) key.now }
 {
+    let mut fields = row;
     let mut rest = key;
-    for (flag, value) in flags.iter().zip(row) {
+    for flag in flags {
+        let Some(value) = fields.next_value() else {
+            return rest.is_empty();
+        };
         if *flag {
             let Some((first, others)) = rest.split_first() else {
                 return false;
             };
-            if value != first {
+            if !value.same::<A>(ValueRef::of(first)) {
                 return false;
             }
             rest = others;

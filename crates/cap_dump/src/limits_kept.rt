@@ -3,10 +3,11 @@ ghost use Rattle.std.specs.Prelude.{◌≡◌, All};
 ghost use Rattle.cap_value.specs.Value.{IsValue};
 ghost use Rattle.cap_dump.specs.Limits.{HasLimits, HaveValues};
 
+use cap_row::RowFields;
 use cap_table::Table;
-use cap_value::{AllocHandle, Name, Value};
+use cap_value::{AllocHandle, Name};
 
-/// A law: the name, the columns and the values of a table keep the limits. At run time it visits each value.
+/// A law: the name, the columns and the values of a table keep the limits. At run time it visits each row.
 pub fn table_has_limits<A: AllocHandle>(name: &Name<A>, table: &Table<A>)
     ensures { HasLimits (name.now, table.now) }
 {
@@ -23,10 +24,8 @@ fn rows_have_values<A: AllocHandle>(table: &Table<A>)
     }
 }
 
-fn are_values<A: AllocHandle>(fields: &[Value<A>])
-    ensures { All IsValue fields.now }
+fn are_values<A: AllocHandle>(fields: RowFields<'_, A>)
+    ensures { All IsValue fields.entry }
 {
-    for value in fields {
-        value.keeps_limits();
-    }
+    let _bytes = fields.as_bytes();
 }

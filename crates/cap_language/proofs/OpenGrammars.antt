@@ -8,7 +8,7 @@ use Rattle.hex.specs.Hex.{decode_of, decode_pairs}
 use Rattle.cap_value.specs.Bytes.{bytes_eq}
 use Rattle.cap_filter.specs.Printed.{quote}
 use Rattle.cap_filter.specs.Tokens.{is_word, is_word_byte}
-use Rattle.cap_codec.specs.declared.fault.BlobFault.{BlobFault}
+use Rattle.cap_field.specs.declared.fault.BlobFault.{BlobFault}
 use Rattle.cap_language.specs.Forms.{Words, behind, either, one_of, separated, sign, skip, within}
 use Rattle.cap_language.specs.Grammar.{Grammar, Read, Wanted, and_then, at_most, by_end, by_sign, done, each, exceeds, follows, misfit, no_blob, on_end, on_sign, read, read_at, spaced, taken, takes, token_then, unfit, wanted_in, with_item}
 use Rattle.cap_language.specs.Scanning.{Scanned, token_at}

@@ -2,7 +2,7 @@
 use Rattle.std.proofs.Common.{◌≡◌, ◌⊎◌, inl, inr, ℕ, zero, suc, ◌+◌, ◌≤◌, Bool, true, false, cond, eqb, List, [], ◌∷◌, ◌++◌, length, length-append, Option, Some, None, Ok, Err, refl, sym, ap, ◌∙◌, subst, arith, append_assoc, le_refl}
 use Rattle.std.proofs.lemmas.List.{append_cancel_right}
 use Rattle.cap_value.specs.declared.refusal.Refusal.{Refusal}
-use Rattle.cap_codec.specs.declared.fault.BlobFault.{BlobFault}
+use Rattle.cap_field.specs.declared.fault.BlobFault.{BlobFault}
 use Rattle.cap_language.specs.Grammar.{Grammar, done, unfit, exceeds, no_blob, spaced, takes, on_sign, on_end, follows, each, Read, Wanted, and_then, at_most, behind_or, by_end, by_sign, misfit, read, read_at, taken, token_then, wanted_in, with_item}
 use Rattle.cap_language.specs.Places.{BeginAlike}
 use Rattle.cap_language.specs.Scanning.{Scanned, token_at}

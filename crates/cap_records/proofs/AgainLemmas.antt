@@ -13,8 +13,9 @@ use Rattle.cap_changes.specs.FieldRecord.{RecordFields}
 use Rattle.cap_changes.specs.Requirements.{satisfies}
 use Rattle.cap_changes.specs.declared.field_requirement.FieldRequirement.{FieldRequirement}
 use Rattle.cap_changes.specs.declared.field_requirement.FieldRequirement.TheVariants as required
-use Rattle.cap_codec.specs.Reading.{◌>>=◌}
-use Rattle.cap_codec.specs.Field.{field_bytes, record_bytes, value_bytes}
+use Rattle.cap_field.specs.Reading.{◌>>=◌}
+use Rattle.cap_field.specs.Field.{value_bytes}
+use Rattle.cap_codec.specs.Field.{field_bytes, record_bytes}
 use Rattle.cap_codec.specs.FieldReading.{field_at}
 use Rattle.cap_codec.proofs.FieldAgain.{field_again}
 use Rattle.cap_records.specs.Record.{defined, fields_at, has_byte, key_in, record_in, row_in, values_bytes}
@@ -67,9 +68,9 @@ pub row_again : (row : Fields Global) → AllByRecursion IsValue row → row_in 
 row_again row fits = values_read required.Defined row refl (row_whole row fits)
 
 -- a record that was made of a row
-pub row_made : {V E : Type 0} (items : V → List ℕ) (result : Result V E) (row : Fields Global) → IfOk result (λ v. items v ≡ values_bytes row) → OnOk result (All IsValue row) → IfOk result (λ v. row_in (items v) ≡ Ok row)
-row_made items (Ok v) row bytes fits = ap row_in bytes ∙ row_again row (recursion_from_All IsValue row fits)
-row_made items (Err e) row bytes fits = tt
+-- bytes that are those of a row are read as the row again
+pub row_encoded : (bytes : List ℕ) (row : Fields Global) → bytes ≡ values_bytes row → AllByRecursion IsValue row → row_in bytes ≡ Ok row
+row_encoded bytes row spelled fits = ap row_in spelled ∙ row_again row fits
 
 defined_bytes : (fields : RecordFields Global) → AreMet required.Defined fields → values_bytes (defined fields) ≡ record_bytes fields
 defined_bytes [] met = refl

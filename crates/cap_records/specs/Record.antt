@@ -11,9 +11,9 @@ use Rattle.cap_database.specs.Assigned.{Assigned}
 use Rattle.cap_changes.specs.FieldRecord.{RecordFields}
 use Rattle.cap_changes.specs.declared.field_requirement.FieldRequirement.{FieldRequirement}
 use Rattle.cap_changes.specs.declared.field_requirement.FieldRequirement.TheVariants as required
-use Rattle.cap_codec.specs.declared.fault.BlobFault.{BlobFault}
-use Rattle.cap_codec.specs.Reading.{◌>>=◌}
-use Rattle.cap_codec.specs.Field.{value_bytes}
+use Rattle.cap_field.specs.declared.fault.BlobFault.{BlobFault}
+use Rattle.cap_field.specs.Reading.{◌>>=◌}
+use Rattle.cap_field.specs.Field.{value_bytes}
 use Rattle.cap_codec.specs.FieldReading.{field_at}
 
 -- a field with this requirement has a byte at least

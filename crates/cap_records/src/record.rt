@@ -53,7 +53,7 @@ pub fn record_of_row(alloc: Global, row: &Row<Global>) -> Result<Vec<u8, Global>
     // It is read as the row again.
     ensures again { IfOk result (λ bytes. row_in bytes.items ≡ Ok row.now) }
 {
-    values_record(alloc, row.fields())
+    Ok(Vec::from_slice(alloc, row.fields().as_bytes())?)
 }
 
 /// The record of a key.

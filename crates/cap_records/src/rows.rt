@@ -1,12 +1,14 @@
 //! A cursor over rows that were read.
 ghost use Rattle.std.specs.Prelude.{◌≡◌, IfOk};
 ghost use Rattle.std.specs.Option.{option_copied, option_map};
+ghost use Rattle.cap_field.specs.FieldReading as read;
 ghost use Rattle.cap_records.specs.Rows.{Steps, begin, columns_of, id_of_row, record_at, row_at, value_of};
 
 use crate::record::record_of_row;
 use crate::with_ids::IdRows;
+use cap_field::ValueRef;
 use cap_row::Row;
-use cap_value::{OutOfMemory, Value};
+use cap_value::OutOfMemory;
 use std::alloc::Global;
 use std::marker::Model;
 
@@ -81,11 +83,11 @@ impl RowCursor {
     }
 
     /// The value of a column of the row, counted from 0.
-    pub fn value(&self, column: usize) -> Option<&Value<Global>>
-        ensures { option_copied result ≡ value_of self.now column }
+    pub fn value(&self, column: usize) -> Option<ValueRef<'_>>
+        ensures { option_map read.value_of result ≡ value_of self.now column }
     {
         let row = self.row()?;
-        row.1.fields().get(column)
+        row.1.get(column)
     }
 
     /// The record of the row.

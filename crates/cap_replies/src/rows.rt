@@ -11,11 +11,11 @@ ghost use Rattle.cap_table.specs.Scan.{name_shown, row_shown};
 use crate::members::{write_kind, write_kind_at, write_number};
 use crate::report::{write_named_refusal, write_refused};
 use cap_database::Snapshot;
-use cap_row::Row;
+use cap_row::{Row, RowFields};
 use cap_script::Show;
 use cap_show::write_json_value;
 use cap_table::{RowName, Scan};
-use cap_value::{AllocHandle, OutOfMemory, Refusal, Value};
+use cap_value::{AllocHandle, OutOfMemory, Refusal};
 use json::Writer;
 
 // Writes what is asked of a snapshot.
@@ -170,11 +170,12 @@ fn write_row<A: AllocHandle>(
 fn write_values<A: AllocHandle>(
     alloc: A,
     writer: &mut Writer<A>,
-    values: &[Value<A>],
+    values: RowFields<'_, A>,
 ) -> Result<(), OutOfMemory>
-    ensures { Appends result writer.old writer.new (flat_map value values.now) }
+    ensures { Appends result writer.old writer.new (flat_map value values.entry) }
 {
-    for value in values {
+    let mut rest = values;
+    while let Some(value) = rest.next_value() {
         write_json_value(alloc, writer, value)?;
     }
     Ok(())

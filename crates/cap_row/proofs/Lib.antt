@@ -1,1 +1,3 @@
+pub mod EncodingLemmas
 pub mod RowLemmas
+pub mod KeyLemmas

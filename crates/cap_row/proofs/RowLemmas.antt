@@ -1,13 +1,18 @@
 -- Columns that an update names, one more at a time, and what they do to a row.
-use Rattle.std.proofs.Common.{◌≡◌, ◌≢◌, ◌∙◌, ℕ, suc, ◌+◌, ◌<◌, ◌≤◌, ◌⊎◌, Bool, true, false, List, [], ◌∷◌, ◌++◌, length, get_or, set, take, drop, IsTrue, map, drop-cons, nat_eq, ap, sym, refl, inl, inr, arith}
+use Rattle.std.proofs.Common.{◌≡◌, ◌∙◌, ℕ, suc, ◌+◌, ◌<◌, ◌≤◌, ◌⊎◌, Bool, true, false, List, [], ◌∷◌, ◌++◌, length, get_or, set, take, drop, map, drop-cons, nat_eq, ap, sym, refl, arith}
 use Rattle.std.specs.List.{list_any, enumerate_from}
-use Rattle.std.proofs.lemmas.Bool.Decides.{nat_tests, eqb_tells}
+use Rattle.std.proofs.lemmas.Bool.Decides.{nat_tests}
 use Rattle.std.proofs.lemmas.Grind.{common_steps}
-use Rattle.std.proofs.lemmas.List.{take-append-drop, take_more, take-map, get_or-map, length-map, length-set, ext_get_or, get_or-set_same, get_or-set_other}
-use Rattle.std.proofs.lemmas.List.FromFn.{length-enumerate_from, get_or-enumerate_from}
+use Rattle.std.proofs.lemmas.List.{take-append-drop, take_more, get_or-map, length-map}
+use Rattle.std.proofs.lemmas.List.FromFn.{length-enumerate_from}
 use Rattle.std.proofs.lemmas.List.Folds.{list_any-append}
 use Rattle.cap_value.specs.declared.value.Value.{Value}
 use Rattle.cap_row.specs.Row.{are_columns, columns_of, new_value, row_with}
+use Rattle.cap_row.specs.Fields.{Fields}
+use Rattle.cap_row.proofs.EncodingLemmas.{passed}
+use Rattle.std.specs.Option.{unwrap_or}
+use Rattle.std.proofs.lemmas.List.{drop_all}
+use Rattle.std.proofs.Common.{Option, Some, None, append_assoc, append-nil, length-drop}
 
 named_in : (c : ℕ) (xs ys : List ℕ) → list_any (nat_eq c) (xs ++ c ∷ ys) ≡ true
 named_in c [] ys = grind (arith, nat_tests)
@@ -31,44 +36,38 @@ accepted-push w c (x ∷ xs) a b n =
 named-push : (named : List Bool) (w c : ℕ) (xs : List ℕ) → w ≤ length named → c < w → ((k : ℕ) → k < w → get_or named k false ≡ list_any (nat_eq k) xs) → (k : ℕ) → k < w → get_or (set named c true) k false ≡ list_any (nat_eq k) (xs ++ c ∷ [])
 named-push named w c xs l b h k lt = let e = h k lt in grind (arith, nat_tests, common_steps, list_any-append)
 
--- a change more, at its own column and at the others
-new_value-push : {A : Type 0} (changes : List (ℕ × Value A)) (change : ℕ × Value A) (old : Value A) → list_any (nat_eq change.0) (columns_of changes) ≡ false → new_value (changes ++ change ∷ []) change.0 old ≡ change.1
-new_value-push [] change old n = grind (arith, nat_tests)
-new_value-push (c ∷ changes) change old n = let e = new_value-push changes change old in grind (arith, nat_tests, e)
-
-new_value-other : {A : Type 0} (changes : List (ℕ × Value A)) (change : ℕ × Value A) (k : ℕ) (old : Value A) → k ≢ change.0 → new_value (changes ++ change ∷ []) k old ≡ new_value changes k old
-new_value-other [] change k old n = grind (arith, nat_tests)
-new_value-other (c ∷ changes) change k old n = let e = new_value-other changes change k old n in grind (arith, nat_tests, e)
-
-length-row_with : {A : Type 0} (changes : List (ℕ × Value A)) (row : List (Value A)) → length (row_with changes row) ≡ length row
+pub length-row_with : {A : Type 0} (changes : List (ℕ × Value A)) (row : List (Value A)) → length (row_with changes row) ≡ length row
 length-row_with changes row = length-map _ _ ∙ length-enumerate_from 0 row
 
-get_or-row_with : {A : Type 0} (changes : List (ℕ × Value A)) (row : List (Value A)) (k : ℕ) (d : Value A) → k < length row → get_or (row_with changes row) k d ≡ new_value changes k (get_or row k d)
-get_or-row_with changes row k d lt =
-    rw (get_or-map (λ (field : ℕ × Value _). new_value changes field.0 field.1) (enumerate_from 0 row) k (0, d) d (rw (length-enumerate_from 0 row) lt), get_or-enumerate_from 0 row k (0, d) lt) (ap (λ (at : ℕ). new_value changes at (get_or row k d)) (omega arith))
+module _ {A : Type 0} where
+  -- the rows from a column on, with the fields set
+  abbrev pub row_from : List (ℕ × Value A) → ℕ → Fields A → Fields A
+  row_from changes column row = map (λ (field : ℕ × Value A). new_value changes field.0 field.1) (enumerate_from column row)
 
-seconds : {A : Type 0} (n : ℕ) (row : List (Value A)) → row ≡ map (λ (field : ℕ × Value A). new_value [] field.0 field.1) (enumerate_from n row)
-seconds n [] = refl
-seconds n (value ∷ row) = ap (λ l. value ∷ l) (seconds (n + 1) row)
+  -- what was put of a row, and the columns that are left
+  pub record PutSoFar (changes : List (ℕ × Value A)) (row : Fields A) (before : Fields A) (i : ℕ) (rest out : Fields A) : Type 0 where
+    pub put_so_far : out ++ row_from changes i rest ≡ before ++ row_with changes row
+    pub left : rest ≡ drop i row
 
-pub row_with-none : {A : Type 0} (row : List (Value A)) → row ≡ row_with [] row
-row_with-none row = seconds 0 row
+  pub put_begins : (changes : List (ℕ × Value A)) (row before : Fields A) → PutSoFar changes row before 0 row before
+  put_begins changes row before = record { put_so_far = refl; left = refl }
 
-row_with-push : {A : Type 0} (changes : List (ℕ × Value A)) (change : ℕ × Value A) (row : List (Value A)) → change.0 < length row → list_any (nat_eq change.0) (columns_of changes) ≡ false → set (row_with changes row) change.0 change.1 ≡ row_with (changes ++ change ∷ []) row
-row_with-push changes change row lt new =
-    ext_get_or change.1 _ _ (length-set _ _ _ ∙ length-row_with changes row ∙ sym (length-row_with (changes ++ change ∷ []) row)) (λ k l.
-    let inside : k < length row = rw (length-set, length-row_with) at l in
-    let before = get_or-row_with changes row k change.1 inside in
-    let after = get_or-row_with (changes ++ change ∷ []) row k change.1 inside in
-    let own = new_value-push changes change (get_or row k change.1) new in
-    let other = new_value-other changes change k (get_or row k change.1) in
-    elim (eqb_tells k change.0) [
-      | inl e ↦
-          let read = rw e.1 at after in
-          let given = rw e.1 at own in
-          rw (e.1, get_or-set_same (row_with changes row) change.0 change.1 change.1 (rw (length-row_with changes row) lt)) (sym (read ∙ given))
-      | inr e ↦ get_or-set_other (row_with changes row) change.0 k change.1 change.1 e.1 ∙ before ∙ sym (other e.1) ∙ sym after
-    ])
+  pub put_more : (changes : List (ℕ × Value A)) (row before rest rest' out new : Fields A) (i : ℕ) (found : Option (Value A)) → i < length row → ((old : Value A) → new_value changes i old ≡ unwrap_or found old)
+      → PutSoFar changes row before i rest out → rest' ≡ drop 1 rest → new ≡ out ++ map (unwrap_or found) (take 1 rest) → PutSoFar changes row before (i + 1) rest' new
+  put_more changes row before [] rest' out new i found lt is so one put_is =
+      let none : length (drop i row) ≡ 0 = ap length (sym so.left) in
+      absurd (omega (arith, none, lt, length-drop i row))
+  put_more changes row before (value ∷ others) rest' out new i found lt is so one put_is =
+      record {
+        put_so_far =
+            rw (put_is, one, append_assoc out (unwrap_or found value ∷ []) (row_from changes (i + 1) others))
+            (ap (λ (v : Value A). out ++ (v ∷ row_from changes (i + 1) others)) (sym (is value)) ∙ so.put_so_far);
+        left = one ∙ passed row i value (value ∷ others) others so.left refl;
+      }
+
+  pub put_ends : (changes : List (ℕ × Value A)) (row before rest out : Fields A) (i : ℕ) → length row ≤ i → PutSoFar changes row before i rest out → out ≡ before ++ row_with changes row
+  put_ends changes row before rest out i le so =
+      sym (append-nil out) ∙ ap (λ (l : Fields A). out ++ row_from changes i l) (sym (so.left ∙ drop_all i row le)) ∙ so.put_so_far
 
 module _ {A : Type 0} (w i : ℕ) (changes : List (ℕ × Value A)) (change : ℕ × Value A) (lt : i < length changes) (is : change ≡ get_or changes i change) where
   column_at : change.0 ≡ get_or (columns_of changes) i 0
@@ -88,13 +87,3 @@ module _ {A : Type 0} (w i : ℕ) (changes : List (ℕ × Value A)) (change : �
 
   pub named-more : (named : List Bool) → w ≤ length named → change.0 < w → ((k : ℕ) → k < w → get_or named k false ≡ list_any (nat_eq k) (take i (columns_of changes))) → (k : ℕ) → k < w → get_or (set named change.0 true) k false ≡ list_any (nat_eq k) (take (i + 1) (columns_of changes))
   named-more named l b h k lt = rw so_far (named-push named w change.0 _ l b h k lt)
-
-  pub in_table : IsTrue (are_columns w (columns_of changes)) → change.0 < w
-  in_table h = let r = are_columns-refused in grind (arith, r)
-
-  not_before : IsTrue (are_columns w (columns_of changes)) → list_any (nat_eq change.0) (take i (columns_of changes)) ≡ false
-  not_before h = let r = are_columns-refused in grind (arith, r)
-
-  pub row_with-more : (row : List (Value A)) → length row ≡ w → IsTrue (are_columns w (columns_of changes)) → set (row_with (take i changes) row) change.0 change.1 ≡ row_with (take (i + 1) changes) row
-  row_with-more row l h =
-      rw (take_more changes i change lt, ← is) (row_with-push (take i changes) change row (rw l (in_table h)) (rw (← take-map (λ (c : ℕ × Value A). c.0) i changes) (not_before h)))

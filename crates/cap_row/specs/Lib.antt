@@ -1,4 +1,5 @@
 pub mod Fields
+pub mod Encoding
 pub mod Key
 pub mod Row
 pub mod Schema

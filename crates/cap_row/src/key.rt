@@ -4,7 +4,7 @@ ghost use Rattle.std.specs.Option.{option_copied};
 ghost use Rattle.cap_value.specs.Value.{IsValue};
 ghost use Rattle.cap_row.specs.Key.{key_from, key_fields, key_of, fields_cmp, is_key};
 
-use crate::{Row, Schema};
+use crate::{Row, RowFields, Schema};
 use cap_value::{AllocHandle, Exact, OutOfMemory, Value};
 use smallvec::SmallVec;
 use std::cmp::Ordering;
@@ -189,15 +189,18 @@ pub fn key_of<A: AllocHandle>(
 fn key_values<A: AllocHandle>(
     alloc: A,
     flags: &[bool],
-    fields: &[Value<A>],
+    fields: RowFields<'_, A>,
 ) -> Result<KeyValues<A>, OutOfMemory>
-    requires { length flags.now ≡ length fields.now }
-    ensures { IfOk result (λ values. values.items ≡ key_fields flags.now fields.now) }
+    ensures { IfOk result (λ values. values.items ≡ key_fields flags.now fields.entry) }
 {
     let mut values = SmallVec::new(alloc);
-    for (flag, field) in flags.iter().zip(fields) {
+    let mut rest = fields;
+    for flag in flags {
+        let Some(value) = rest.next_value() else {
+            return Ok(values);
+        };
         if *flag {
-            values.push(field.copy()?)?;
+            values.push(value.own(alloc)?)?;
         }
     }
     Ok(values)

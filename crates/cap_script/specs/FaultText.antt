@@ -1,6 +1,6 @@
 -- The text of a fault, as it is printed.
 use Rattle.std.specs.Prelude.{ℕ, List, ◌++◌, codes, decimal}
-use Rattle.cap_codec.specs.FaultName.{kind_name}
+use Rattle.cap_field.specs.FaultName.{kind_name}
 use Rattle.cap_script.specs.RefusalText.{refusal_text}
 use Rattle.cap_script.specs.declared.fault.ScriptFault.{ScriptFault}
 use Rattle.cap_script.specs.declared.fault.ScriptFault.TheVariants.{Syntax, Limit, BadBlob}

@@ -15,7 +15,7 @@ use Rattle.cap_database.specs.declared.cause.Cause.TheVariants.{Direct, Cascade}
 use Rattle.cap_database.specs.declared.op.Action.TheVariants.{Insert, Update, Delete}
 use Rattle.cap_database.specs.declared.op.Op.{Op}
 use Rattle.cap_codec.specs.BlobReading.{blob_at}
-use Rattle.cap_codec.specs.declared.fault.BlobFault.{BlobFault}
+use Rattle.cap_field.specs.declared.fault.BlobFault.{BlobFault}
 use Rattle.cap_codec.specs.declared.key_flags.KeyFlags.{KeyFlags}
 use Rattle.cap_codec.specs.declared.key_flags.KeyFlags.TheVariants.{Ones, Places}
 use Rattle.cap_codec.specs.declared.read.Contents.{Contents}

@@ -2,6 +2,8 @@
 ghost use Rattle.std.specs.Prelude.{◌≡◌, ◌++◌, ◌∷◌, OnOk, IfOk, string_bytes};
 ghost use Rattle.std.specs.Option.{option_copied};
 ghost use Rattle.std.specs.Result.{result_map_both};
+ghost use Rattle.cap_field.specs.FieldReading.{value_of};
+ghost use Rattle.cap_show.specs.ShowText.{value_text};
 ghost use Rattle.cap_script.specs.RowText.{get_text, more_values, named_row_text, row_text, rows_text};
 ghost use Rattle.cap_script.specs.RowText.{scan_text, snapshot_text, values_text};
 ghost use Rattle.cap_table.specs.Scan.{row_shown};
@@ -10,10 +12,11 @@ ghost use Rattle.cap_database.specs.Read.{Lends};
 use crate::Show;
 use crate::refusal_text::RefusalText;
 use cap_database::Snapshot;
-use cap_row::Row;
+use cap_field::ValueRef;
+use cap_row::{Row, RowFields};
 use cap_show::ValueText;
 use cap_table::{RowName, Scan};
-use cap_value::{AllocHandle, OutOfMemory, Refusal, Value};
+use cap_value::{AllocHandle, OutOfMemory, Refusal};
 
 // The text of a snapshot.
 pub(crate) fn snapshot_text<A: AllocHandle>(
@@ -103,24 +106,41 @@ fn write_row<A: AllocHandle>(row: &Row<A>, out: &mut String<A>) -> Result<(), Ou
 }
 
 // Appends the values to `out`, separated by commas.
-fn write_values<A: AllocHandle>(values: &[Value<A>], out: &mut String<A>) -> Result<(), OutOfMemory>
-    ensures { OnOk result (string_bytes out.new ≡ string_bytes out.old ++ values_text values.now) }
+fn write_values<A: AllocHandle>(
+    values: RowFields<'_, A>,
+    out: &mut String<A>,
+) -> Result<(), OutOfMemory>
+    ensures { OnOk result (string_bytes out.new ≡ string_bytes out.old ++ values_text values.entry) }
 {
-    match values.split_first() {
-        Some((first, rest)) => {
-            write!(out, "{}", ValueText(first))?;
+    let mut rest = values;
+    match rest.next_value() {
+        Some(first) => {
+            write_value(first, out)?;
             write_more(rest, out)
         }
         None => Ok(()),
     }
 }
 
-// Appends the values to `out`, each after a comma.
-fn write_more<A: AllocHandle>(values: &[Value<A>], out: &mut String<A>) -> Result<(), OutOfMemory>
-    ensures { OnOk result (string_bytes out.new ≡ string_bytes out.old ++ more_values values.now) }
+fn write_value<A: AllocHandle>(value: ValueRef<'_>, out: &mut String<A>) -> Result<(), OutOfMemory>
+    ensures { OnOk result (string_bytes out.new
+        ≡ string_bytes out.old ++ value_text {A = A} (value_of value.entry)) }
 {
-    for value in values {
-        write!(out, ",{}", ValueText(value))?;
+    let text: ValueText<'_, A> = ValueText::of_ref(value);
+    write!(out, "{text}")
+}
+
+// Appends the values to `out`, each after a comma.
+fn write_more<A: AllocHandle>(
+    values: RowFields<'_, A>,
+    out: &mut String<A>,
+) -> Result<(), OutOfMemory>
+    ensures { OnOk result (string_bytes out.new ≡ string_bytes out.old ++ more_values values.entry) }
+{
+    let mut rest = values;
+    while let Some(value) = rest.next_value() {
+        out.push_str(",")?;
+        write_value(value, out)?;
     }
     Ok(())
 }

@@ -1,6 +1,7 @@
 //! Changesets and patchsets as JSON.
 ghost use Rattle.std.specs.Prelude.{◌≡◌, ◌++◌, Bool, IfOk, List, codes, ℕ, string_bytes};
 ghost use Rattle.std.specs.List.{flat_map};
+ghost use Rattle.cap_field.specs.FieldReading.{value_of};
 ghost use Rattle.cap_show.specs.Json as spec;
 ghost use Rattle.cap_show.specs.Json.{Appends};
 ghost use Rattle.json.specs.Token.{Token};
@@ -8,6 +9,7 @@ ghost use Rattle.json.specs.Token.{Token};
 use cap_changes::{
     ChangeList, Entry, FieldRecord, GroupList, Patch, PatchList, RowChange, TableGroup,
 };
+use cap_field::ValueRef;
 use cap_row::Schema;
 use cap_value::{AllocHandle, Name, OutOfMemory, Value};
 use itoa::Buffer;
@@ -307,7 +309,7 @@ fn write_fields<A: AllocHandle>(
     for (column, field) in fields.iter().enumerate() {
         if let Some(value) = field {
             writer.key(column_name(alloc, column)?.as_str())?;
-            write_json_value(alloc, writer, value)?;
+            write_json_value(alloc, writer, ValueRef::of(value))?;
         }
     }
     Ok(())
@@ -317,15 +319,15 @@ fn write_fields<A: AllocHandle>(
 pub fn write_json_value<A: AllocHandle>(
     alloc: A,
     writer: &mut Writer<A>,
-    value: &Value<A>,
+    value: ValueRef<'_>,
 ) -> Result<(), OutOfMemory>
-    ensures { Appends result writer.old writer.new (spec.value value.now) }
+    ensures { Appends result writer.old writer.new (spec.value {A = A} (value_of value.entry)) }
 {
     match value {
-        Value::Null => writer.null(),
-        Value::Int(number) => writer.i64(*number),
-        Value::Text(text) => writer.string(text.as_str()),
-        Value::Blob(blob) => write_blob(alloc, writer, blob.as_slice()),
+        ValueRef::Null => writer.null(),
+        ValueRef::Int(number) => writer.i64(number),
+        ValueRef::Text(text) => writer.string(text),
+        ValueRef::Blob(bytes) => write_blob(alloc, writer, bytes),
     }
 }
 

@@ -3,32 +3,61 @@ ghost use Rattle.hex.specs.Hex.{encode_lower};
 ghost use Rattle.std.specs.Fmt.{WritesOnOk};
 ghost use Rattle.std.specs.List.{filter_map, flat_map, join_by};
 ghost use Rattle.std.specs.Prelude.{◌≡◌, ◌<◌, ◌++◌, ◌∷◌, [], MatchOption, codes};
+ghost use Rattle.cap_field.specs.FieldReading.{value_of};
 ghost use Rattle.cap_show.specs.Code.DefinedFields.{comma_text, is_first_after, next_text};
 ghost use Rattle.cap_show.specs.ShowText as spec;
 
 use cap_changes::FieldRecord;
+use cap_field::ValueRef;
 use cap_row::Schema;
 use cap_value::{AllocHandle, Value};
 use std::fmt;
 use std::fmt::{Display, Formatter, Write};
+use std::marker::PhantomData;
 
 /// A value as text: `null`, decimal digits, a text between `'` with each `'` in it doubled, or the lower case
 /// hex digits of a blob between `x'` and `'`. The error is the writer's.
 #[derive(Drop)]
-pub struct ValueText<'a, A: AllocHandle>(pub &'a Value<A>);
+pub struct ValueText<'a, A: AllocHandle> {
+    value: ValueRef<'a>,
+    marker: PhantomData<A>,
+}
+
+impl<'a, A: AllocHandle> ValueText<'a, A> {
+    /// The text of a value.
+    pub fn of(value: &'a Value<A>) -> Self
+        ensures { value_of result.value ≡ value.now }
+    {
+        ValueText {
+            value: ValueRef::of(value),
+            marker: PhantomData,
+        }
+    }
+
+    /// The text of a value in place.
+    pub fn of_ref(value: ValueRef<'a>) -> Self
+        ensures { value_of {A = A} result.value ≡ value_of value.entry }
+    {
+        ValueText {
+            value,
+            marker: PhantomData,
+        }
+    }
+}
 
 impl<'a, A: AllocHandle> Display for ValueText<'a, A> {
     ghost use Rattle.std.specs.Prelude.{Some};
+    ghost use Rattle.cap_field.specs.FieldReading.{value_of};
     ghost use Rattle.cap_show.specs.ShowText.{value_text};
 
-    ghost output = { λ shown. Some (value_text shown.0.now) };
+    ghost output = { λ shown. Some (value_text {A = A} (value_of shown.value)) };
 
     fn fmt<W: Write>(&self, f: &mut Formatter<W>) -> fmt::Result {
-        match self.0 {
-            Value::Null => f.write_str("null"),
-            Value::Int(number) => write!(f, "{number}"),
-            Value::Text(text) => write_quoted(f, text.as_str(), '\''),
-            Value::Blob(blob) => write_blob(f, blob.as_slice()),
+        match self.value {
+            ValueRef::Null => f.write_str("null"),
+            ValueRef::Int(number) => write!(f, "{number}"),
+            ValueRef::Text(text) => write_quoted(f, text, '\''),
+            ValueRef::Blob(bytes) => write_blob(f, bytes),
         }
     }
 }
@@ -208,7 +237,7 @@ fn write_field<A: AllocHandle, W: Write>(
     ensures { WritesOnOk W.write_str_gives f.old result (spec.field_text field.now) f.new }
 {
     match field {
-        Some(value) => ValueText(value).fmt(f),
+        Some(value) => ValueText::of(value).fmt(f),
         None => f.write_str("-"),
     }
 }
@@ -275,7 +304,7 @@ fn write_value<A: AllocHandle, W: Write>(
         (comma_text is_first ++ spec.value_text value.now) f.new }
 {
     write_comma(f, is_first)?;
-    ValueText(value).fmt(f)
+    ValueText::of(value).fmt(f)
 }
 
 pub(crate) fn write_comma<W: Write>(f: &mut Formatter<W>, is_first: bool) -> fmt::Result

@@ -2,8 +2,9 @@
 use crate::texts::opened;
 use cap_codec::{BlobFault, FaultKind};
 use cap_database::Snapshot;
+use cap_field::ValueRef;
 use cap_records::{RecordFault, RowCursor, get, scan, scan_from};
-use cap_value::{Fault, Refusal, Value};
+use cap_value::{Fault, Refusal};
 use std::alloc::Global;
 
 /// The record of the key (2).
@@ -25,7 +26,7 @@ pub(crate) fn tables(alloc: Global, texts: &[&str]) -> Option<Snapshot<Global>> 
 // The integer in column 1 of the row at which the cursor stands.
 fn integer(rows: &RowCursor) -> Option<i64> {
     match rows.value(1) {
-        Some(Value::Int(number)) => Some(*number),
+        Some(ValueRef::Int(number)) => Some(number),
         _ => None,
     }
 }

@@ -4,7 +4,7 @@ use Rattle.std.specs.Prelude.{◌+◌, filter, map, reverse}
 use Rattle.std.proofs.lemmas.List.{reverse-append}
 use Rattle.cap_changes.specs.Group.{TableChanges}
 use Rattle.cap_codec.specs.Writable.{has_some}
-use Rattle.cap_codec.specs.declared.fault.BlobFault.{BlobFault}
+use Rattle.cap_field.specs.declared.fault.BlobFault.{BlobFault}
 use Rattle.cap_codec.specs.declared.read.Contents.{Contents}
 use Rattle.cap_codec.specs.declared.read.Contents.TheVariants.{Changes}
 use Rattle.cap_apply.specs.Applied.{AppliedState}

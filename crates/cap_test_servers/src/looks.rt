@@ -1,5 +1,6 @@
 //! What a transaction looked at and was answered, as plain data.
 use cap_database::Action;
+use cap_field::ValueRef;
 use cap_row::Row;
 use cap_table::{RowRef, Scan};
 use cap_txn::{Answer, Asked, Item, Look};
@@ -66,8 +67,8 @@ pub(crate) fn are_items(items: &[Item<Global>], looked: &[Looked]) -> bool {
 
 fn is_row(row: &Row<Global>, fields: Fields<'_>) -> bool {
     match (row.get(0), row.get(1)) {
-        (Some(Value::Int(number)), Some(Value::Text(text))) => {
-            (*number, text.as_str()) == fields && row.fields().len() == 2
+        (Some(ValueRef::Int(number)), Some(ValueRef::Text(text))) => {
+            (number, text) == fields && row.width() == 2
         }
         _ => false,
     }

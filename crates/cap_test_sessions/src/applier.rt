@@ -4,9 +4,10 @@ use crate::recorded::create;
 use cap_apply::{Answer, Applied, Policy, apply};
 use cap_codec::{Contents, read_blob};
 use cap_database::Database;
+use cap_field::ValueRef;
 use cap_row::Row;
 use cap_test_support::Memory;
-use cap_value::{AllocHandle, Fault, Name, Value};
+use cap_value::{AllocHandle, Fault, Name};
 use linked_list_allocator::LocalHeap;
 use std::test::Fail;
 
@@ -43,9 +44,7 @@ fn applied<A: AllocHandle>(alloc: A, database: &Database<A>, bytes: &[u8]) -> Op
 // Whether the row is (1,'q').
 fn is_the_row<A: AllocHandle>(row: &Row<A>) -> bool {
     match (row.get(0), row.get(1)) {
-        (Some(Value::Int(number)), Some(Value::Text(text))) => {
-            *number == 1 && text.as_str() == "q"
-        }
+        (Some(ValueRef::Int(number)), Some(ValueRef::Text(text))) => number == 1 && text == "q",
         _ => false,
     }
 }

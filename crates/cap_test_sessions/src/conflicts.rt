@@ -4,6 +4,7 @@ use cap_applier::{Applier, MergeRefusal, RowConflict};
 use cap_apply::{Answer, Applied, ConflictKind, Policy};
 use cap_codec::{Contents, read_blob};
 use cap_database::Database;
+use cap_field::ValueRef;
 use cap_filter::TableFilter;
 use cap_row::{Key, Row, Schema};
 use cap_table::RowRef;
@@ -79,8 +80,8 @@ fn applier(
 // Whether the row has this time and text.
 fn is_row(row: &Row<Global>, time: i64, text: &str) -> bool {
     match (row.get(1), row.get(2)) {
-        (Some(Value::Int(found)), Some(Value::Text(letters))) => {
-            *found == time && letters.as_str() == text
+        (Some(ValueRef::Int(found)), Some(ValueRef::Text(letters))) => {
+            found == time && letters == text
         }
         _ => false,
     }
@@ -111,7 +112,7 @@ fn row(alloc: Global, key: i64, time: i64, text: &str) -> Option<Row<Global>> {
 fn newest(conflict: &RowConflict<Global>) -> Answer {
     match &conflict.row {
         Some(row) => match row.get(1) {
-            Some(Value::Int(time)) if *time < 6 => Answer::Replace,
+            Some(ValueRef::Int(time)) if time < 6 => Answer::Replace,
             _ => Answer::Omit,
         },
         None => Answer::Omit,

@@ -2,18 +2,19 @@
 use crate::recorded::{attach, commit, commit_lines, create};
 use cap_compare::compare;
 use cap_database::Database;
+use cap_field::ValueRef;
 use cap_row::Row;
 use cap_script::{Show, parse};
 use cap_session::{Record, Session};
 use cap_table::RowRef;
-use cap_value::{Name, Value};
+use cap_value::Name;
 use std::alloc::Global;
 use std::test::Fail;
 
 // The number and the text that are the fields of a row.
 fn fields(row: &Row<Global>) -> Option<(i64, &str)> {
     match (row.get(0), row.get(1)) {
-        (Some(Value::Int(number)), Some(Value::Text(text))) => Some((*number, text.as_str())),
+        (Some(ValueRef::Int(number)), Some(ValueRef::Text(text))) => Some((number, text)),
         _ => None,
     }
 }

@@ -1,4 +1,5 @@
 //! Rows of a key and a text, their names, and what a table has of them.
+use cap_field::ValueRef;
 use cap_row::{Key, Row, Schema};
 use cap_table::{RowName, RowRef, Table};
 use cap_value::{AllocHandle, Fault, OutOfMemory, Refusal, Value};
@@ -52,7 +53,7 @@ pub(crate) fn schema<A: AllocHandle>(alloc: A) -> Result<Schema<A>, Fault<Refusa
 
 pub(crate) fn has_text<A: AllocHandle>(row: &Row<A>, text: &str) -> bool {
     match row.get(1) {
-        Some(Value::Text(found)) => found.as_str() == text,
+        Some(ValueRef::Text(found)) => found == text,
         _ => false,
     }
 }

@@ -1,5 +1,6 @@
 //! Tables: rows that change, ids, commit hooks, and memory of which each request is refused.
 use crate::rows::{At, has_rows, has_text, key, key_value, named, refusal, row, schema};
+use cap_field::ValueRef;
 use cap_row::{Key, Row};
 use cap_table::{NotMade, ROW_IDS_END, RowName, RowRef, Table};
 use cap_test_support::{CountingHook, Memory};
@@ -18,8 +19,8 @@ fn kv<A: AllocHandle>(alloc: A) -> Result<Table<A>, Fault<Refusal>> {
 // Whether the row has the key of this name, or none, and the text.
 fn is_row(row: &Row<Global>, at: At, text: &str) -> bool {
     let is_key = match (row.get(0), at) {
-        (Some(Value::Int(key)), At::Key(number)) => *key == number,
-        (Some(Value::Null), At::Loose(_)) => true,
+        (Some(ValueRef::Int(key)), At::Key(number)) => key == number,
+        (Some(ValueRef::Null), At::Loose(_)) => true,
         _ => false,
     };
     is_key && has_text(row, text) && row.width() == 2

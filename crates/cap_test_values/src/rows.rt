@@ -1,6 +1,7 @@
 //! Schemas, rows and keys at their limits, and in their order.
 use crate::refused::{Call, requests_refused};
-use cap_row::{COLUMNS_MAX, Key, Row, Schema, key_of};
+use cap_field::ValueRef;
+use cap_row::{COLUMNS_MAX, Key, Row, RowBuilder, Schema, key_of};
 use cap_value::{AllocHandle, Fault, OutOfMemory, Refusal, Value};
 use std::alloc::Global;
 
@@ -140,6 +141,65 @@ fn updates_set_just_their_fields(rt: HostRuntime) {
     assert!(rt; sets(rt.alloc(), &[], "Row([Int(1), Int(2), Int(3)])"));
     assert!(rt; is_bad_column(rt.alloc(), &[3]) == Ok(true));
     assert!(rt; is_bad_column(rt.alloc(), &[1, 0, 1]) == Ok(true));
+}
+
+// 130 bytes, whose length is a varint of two.
+const LONG: &str = "01234567890123456789012345678901234567890123456789012345678901234\
+     01234567890123456789012345678901234567890123456789012345678901234";
+
+// Whether a builder that is taken again makes both rows, of which the second has a value of the first.
+fn are_built(alloc: Global) -> Option<bool> {
+    let mut builder = RowBuilder::new(alloc);
+    builder.push_int(-1).ok()?;
+    builder.push_text(LONG).ok()?;
+    builder.push_null().ok()?;
+    builder.push_blob(b"\x00\xff").ok()?;
+    let first = builder.row().ok()?;
+    builder.clear();
+    let mut fields = first.fields();
+    fields.pass();
+    builder.push_next(&mut fields).ok()?;
+    builder.push(&Value::Int(7)).ok()?;
+    let second = builder.finish().ok()?;
+    Some(is_first(&first) && is_second(&second) && !first.same(&second))
+}
+
+fn is_first(row: &Row<Global>) -> bool {
+    let is_front = match (row.get(0), row.get(1)) {
+        (Some(ValueRef::Int(number)), Some(ValueRef::Text(text))) => number == -1 && text == LONG,
+        _ => false,
+    };
+    let is_rest = match (row.get(2), row.get(3)) {
+        (Some(ValueRef::Null), Some(ValueRef::Blob(bytes))) => bytes == b"\x00\xff".as_slice(),
+        _ => false,
+    };
+    is_front && is_rest && row.width() == 4
+}
+
+fn is_second(row: &Row<Global>) -> bool {
+    match (row.get(0), row.get(1)) {
+        (Some(ValueRef::Text(text)), Some(ValueRef::Int(number))) => text == LONG && number == 7,
+        _ => false,
+    }
+}
+
+#[test]
+fn a_builder_makes_row_after_row(rt: HostRuntime) {
+    assert!(rt; are_built(rt.alloc()) == Some(true));
+}
+
+// Whether the record of the row of 1 and NULL is appended.
+fn is_written(alloc: Global) -> Option<bool> {
+    let row = unset(alloc).ok()?;
+    let mut out = vec![in alloc; 9u8].ok()?;
+    row.write_to(&mut out).ok()?;
+    let record = b"\x09\x01\x00\x00\x00\x00\x00\x00\x00\x01\x05";
+    Some(out.as_slice() == record.as_slice())
+}
+
+#[test]
+fn a_row_is_written_as_its_record(rt: HostRuntime) {
+    assert!(rt; is_written(rt.alloc()) == Some(true));
 }
 
 // The row of 1, 2, 3 and 4, whose third field is set to a text.

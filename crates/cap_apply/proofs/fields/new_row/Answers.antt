@@ -11,12 +11,12 @@ pub loop-further-preserved : goal.loop-further-preserved
 loop-further-preserved g c =
     let values = map (λ field. unwrap_or field Null) c.args.fields.now in
     let n = c.loop-further._further in
-    c.in_ok-push-2.ensures.ok ∙ ap (λ (l : Fields g.row.A.Denot). l ++ Null ∷ []) c.loop-further.invariant
+    c.in_ok-push_null.ensures.pushed ∙ ap (λ (l : Fields g.row.A.Denot). l ++ Null ∷ []) c.loop-further.invariant
     ∙ append_assoc values (replicate n Null) (Null ∷ []) ∙ ap (λ (l : Fields g.row.A.Denot). values ++ l) (replicate_more n Null)
 
 pub returns : goal.returns
 returns g c =
     let values = map (λ field. unwrap_or field Null) c.args.fields.now in
     let n : c.loop-further._further ≡ c.args.width - length c.args.fields.now = omega arith in
-    IfOk-weaker c.of_values.result (λ (row : Fields g.row.A.Denot). row ≡ c.loop-further.values.items) (λ row. row ≡ new_row c.args.width c.args.fields.now)
-    (λ row e. e ∙ c.loop-further.invariant ∙ ap (λ m. values ++ replicate m Null) n) c.of_values.ensures
+    IfOk-weaker c.finish.result (λ (row : Fields g.row.A.Denot). row ≡ c.loop-further.builder) (λ row. row ≡ new_row c.args.width c.args.fields.now)
+    (λ row e. e ∙ c.loop-further.invariant ∙ ap (λ m. values ++ replicate m Null) n) c.finish.ensures

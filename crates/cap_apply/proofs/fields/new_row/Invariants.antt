@@ -4,7 +4,7 @@ use Rattle.cap_value.specs.declared.value.Value.TheVariants.{Null}
 use Rattle.cap_apply.proofs.fields.new_row.Given as goal
 
 abbrev pub invariant-loop-field : goal.invariant-loop-field
-invariant-loop-field g l = l.values.items ≡ map (λ field. unwrap_or field Null) (take l.field-index l.fields)
+invariant-loop-field g l = l.builder ≡ map (λ field. unwrap_or field Null) (take l.field-index l.fields)
 
 abbrev pub invariant-loop-further : goal.invariant-loop-further
-invariant-loop-further g l = l.values.items ≡ map (λ field. unwrap_or field Null) l.fields ++ replicate l._further Null
+invariant-loop-further g l = l.builder ≡ map (λ field. unwrap_or field Null) l.fields ++ replicate l._further Null

@@ -1,5 +1,5 @@
 use Rattle.std.proofs.Common.{[], arith}
-use Rattle.cap_codec.proofs.Spelled.{are_low}
+use Rattle.cap_field.proofs.Spelled.{are_low}
 use Rattle.cap_blob.proofs.ConvertedLemmas.{changeset_written, changeset_fault, others_are_none, spelled_list}
 use Rattle.cap_blob.proofs.convert.convert_bytes.Goals as goal
 

@@ -1,7 +1,7 @@
 use Rattle.std.proofs.Common.{map}
 use Rattle.std.proofs.lemmas.Result.{err_from_is_err_and}
 use Rattle.cap_codec.specs.HeaderReading.{is_set, header_of}
-use Rattle.cap_codec.proofs.Binds.{ok_is}
+use Rattle.cap_field.proofs.Binds.{ok_is}
 use Rattle.cap_blob.proofs.GroupLemmas.{group_begun, group_cut, group_empty}
 use Rattle.cap_blob.proofs.group.convert_group.Goals as goal
 

@@ -1,6 +1,6 @@
 use Rattle.std.proofs.Common.{map, arith}
 use Rattle.cap_codec.specs.HeaderReading.{is_set}
-use Rattle.cap_codec.proofs.Spelled.{are_low}
+use Rattle.cap_field.proofs.Spelled.{are_low}
 use Rattle.cap_blob.proofs.RecordLemmas.{full_written}
 use Rattle.cap_blob.proofs.record.push_full.Goals as goal
 

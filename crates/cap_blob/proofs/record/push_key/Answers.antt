@@ -2,7 +2,7 @@ use Rattle.std.proofs.Common.{◌≡◌, ◌++◌, ◌-◌, [], length, take, ge
 use Rattle.std.specs.Prelude.{if◌then◌else◌}
 use Rattle.std.proofs.lemmas.Result.{err_from_is_err_and}
 use Rattle.cap_codec.specs.HeaderReading.{is_set}
-use Rattle.cap_codec.proofs.Spelled.{are_low}
+use Rattle.cap_field.proofs.Spelled.{are_low}
 use Rattle.cap_blob.proofs.RecordLemmas.{flags-cons, flags-past, low_after, key_goes_on, key_fails, key_ends}
 use Rattle.cap_blob.proofs.record.push_key.Goals as goal
 

@@ -5,7 +5,7 @@ use Rattle.cap_changes.specs.declared.record_kind.RecordKind.TheVariants.{Full}
 use Rattle.cap_codec.specs.Field.{key_bytes}
 use Rattle.cap_codec.specs.HeaderReading.{is_set}
 use Rattle.cap_codec.specs.RecordReading.{record_at}
-use Rattle.cap_codec.proofs.Spelled.{AreLow}
+use Rattle.cap_field.proofs.Spelled.{AreLow}
 use Rattle.cap_blob.specs.Passing.{appended}
 use Rattle.cap_blob.proofs.record.push_key.Given as goal
 

@@ -3,7 +3,7 @@ use Rattle.std.specs.Prelude.{if◌then◌else◌}
 use Rattle.std.proofs.lemmas.Result.{err_from_is_err_and}
 use Rattle.cap_changes.specs.declared.field_requirement.FieldRequirement.TheVariants.{Any}
 use Rattle.cap_codec.specs.HeaderReading.{is_set}
-use Rattle.cap_codec.proofs.Spelled.{are_low}
+use Rattle.cap_field.proofs.Spelled.{are_low}
 use Rattle.cap_blob.proofs.RecordLemmas.{flags-cons, flags-past, low_after, old_has_field, old_goes_on, merged_goes_on, merged_fails, merged_ends}
 use Rattle.cap_blob.proofs.record.push_merged.Goals as goal
 

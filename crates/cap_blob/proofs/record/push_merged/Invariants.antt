@@ -1,6 +1,6 @@
 use Rattle.std.proofs.Common.{◌≡◌, ◌≤◌, drop, length, map}
 use Rattle.cap_codec.specs.HeaderReading.{is_set}
-use Rattle.cap_codec.proofs.Spelled.{AreLow}
+use Rattle.cap_field.proofs.Spelled.{AreLow}
 use Rattle.cap_blob.specs.Passing.{BeginsOld, merged_at}
 use Rattle.cap_blob.proofs.record.push_merged.Given as goal
 

@@ -2,7 +2,7 @@ use Rattle.std.proofs.Common.{◌≡◌, ◌++◌, ◌∷◌, [], ◌-◌, lengt
 use Rattle.std.specs.Prelude.{if◌then◌else◌}
 use Rattle.cap_changes.specs.declared.field_requirement.FieldRequirement.TheVariants.{Any}
 use Rattle.cap_codec.specs.HeaderReading.{is_set}
-use Rattle.cap_codec.proofs.Spelled.{are_low}
+use Rattle.cap_field.proofs.Spelled.{are_low}
 use Rattle.cap_blob.proofs.RecordLemmas.{flags-cons, flags-past, low_after, old_has_field, old_goes_on, others_go_on, others_end}
 use Rattle.cap_blob.proofs.record.push_others.Goals as goal
 

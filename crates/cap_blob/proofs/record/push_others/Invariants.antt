@@ -1,7 +1,7 @@
 use Rattle.std.proofs.Common.{◌≡◌, ◌++◌, drop, map}
 use Rattle.cap_codec.specs.Field.{record_bytes}
 use Rattle.cap_codec.specs.HeaderReading.{is_set}
-use Rattle.cap_codec.proofs.Spelled.{AreLow}
+use Rattle.cap_field.proofs.Spelled.{AreLow}
 use Rattle.cap_blob.specs.Passing.{BeginsOld, old_in, without_key}
 use Rattle.cap_blob.proofs.record.push_others.Given as goal
 

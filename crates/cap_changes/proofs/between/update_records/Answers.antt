@@ -1,14 +1,17 @@
-use Rattle.std.proofs.Common.{sym, ◌∙◌}
-use Rattle.std.proofs.lemmas.List.{append-nil}
-use Rattle.cap_changes.proofs.ColumnLemmas.{columns_ended}
+use Rattle.std.proofs.Common.{◌∙◌}
+use Rattle.cap_changes.specs.Change.{old_field, new_field}
+use Rattle.cap_changes.proofs.RecordLemmas.{image_ends, now_ends}
 use Rattle.cap_changes.proofs.between.update_records.Goals as goal
+use Rattle.cap_changes.proofs.between.update_records.Goals.{in_default-via-in-Some+in_default, in_default-via-in_default}
 
-pub returns-clause-old : goal.returns-clause-old
-returns-clause-old g c =
-    let ended = columns_ended c.loop-key.key-iterator c.next.new.self c.next.result c.in-None.is c.next.ensures.steps in
-    c.new.ensures ∙ sym (append-nil _) ∙ (rw ended at c.loop-key.invariant.0)
+pub returns-in_default-clause-old : goal.returns-in_default-clause-old
+returns-in_default-clause-old g c = elim c.in_default.branch [
+  | in_default-via-in-Some+in_default w ↦ c.new.ensures ∙ now_ends old_field _ _ _ _ _ c.loop-key.invariant.0 w.in_default.ensures'.value.0
+  | in_default-via-in_default w ↦ c.new.ensures ∙ image_ends old_field _ _ _ _ _ c.loop-key.invariant.0 w.in_default.ensures.value.0
+]
 
-pub returns-clause-new : goal.returns-clause-new
-returns-clause-new g c =
-    let ended = columns_ended c.loop-key.key-iterator c.next.new.self c.next.result c.in-None.is c.next.ensures.steps in
-    c.new-2.ensures ∙ sym (append-nil _) ∙ (rw ended at c.loop-key.invariant.1)
+pub returns-in_default-clause-new : goal.returns-in_default-clause-new
+returns-in_default-clause-new g c = elim c.in_default.branch [
+  | in_default-via-in-Some+in_default w ↦ c.new-in_default.ensures ∙ now_ends new_field _ _ _ _ _ c.loop-key.invariant.1 w.in_default.ensures'.value.0
+  | in_default-via-in_default w ↦ c.new-in_default.ensures ∙ image_ends new_field _ _ _ _ _ c.loop-key.invariant.1 w.in_default.ensures.value.0
+]

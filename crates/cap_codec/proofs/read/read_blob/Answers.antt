@@ -1,6 +1,6 @@
 use Rattle.std.proofs.Common.{arith}
 use Rattle.cap_codec.proofs.SpelledBlob.{answer_spelled, spelled_answer}
-use Rattle.cap_codec.proofs.Spelled.{are_low}
+use Rattle.cap_field.proofs.Spelled.{are_low}
 use Rattle.cap_codec.proofs.read.read_blob.Goals as goal
 
 pub returns-clause-spelled : goal.returns-clause-spelled

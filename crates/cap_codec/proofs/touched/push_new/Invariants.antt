@@ -1,7 +1,5 @@
 use mathlib.Core.List.{IsPrefix}
-use Rattle.std.proofs.Common.{◌≡◌, ◌++◌}
-use Rattle.std.specs.Iterator.Adapters.{zip_first, zip_second}
-use Rattle.std.specs.Slice.Iter.{iter_rest}
+use Rattle.std.proofs.Common.{◌≡◌, ◌++◌, drop}
 use Rattle.cap_changes.specs.Change.{new_field}
 use Rattle.cap_changes.specs.Column.{by_column}
 use Rattle.cap_codec.specs.Field.{record_bytes}
@@ -10,8 +8,5 @@ use Rattle.cap_codec.proofs.touched.push_new.Given as goal
 -- what was put, and the fields of the columns that are left; what stood before is still its beginning
 abbrev pub invariant-loop-key : goal.invariant-loop-key
 invariant-loop-key g l =
-    let flags = iter_rest (zip_first l.key-iterator) in
-    let image = iter_rest (zip_first (zip_second l.key-iterator)) in
-    let now = iter_rest (zip_second (zip_second l.key-iterator)) in
-    (l.out.items ++ record_bytes (by_column new_field flags image now) ≡ l.fn.out.items ++ record_bytes (by_column new_field l.flags l.fn.image l.fn.now))
+    (l.out.items ++ record_bytes (by_column new_field (drop l.key-index l.flags) l.image l.now) ≡ l.fn.out.items ++ record_bytes (by_column new_field l.flags l.fn.image l.fn.now))
     × IsPrefix l.fn.out.items l.out.items

@@ -1,5 +1,7 @@
-use Rattle.cap_codec.proofs.BeginLemmas.{begins_behind, on_error}
+use Rattle.std.proofs.Common.{List, ℕ, ◌≡◌, ◌++◌, subst}
+use Rattle.std.specs.Prelude.{OnOk}
+use Rattle.cap_codec.proofs.TouchedLemmas.{row_is_record}
 use Rattle.cap_codec.proofs.touched.push_row.Goals as goal
 
-pub returns-in_err-push_value-clause-begins : goal.returns-in_err-push_value-clause-begins
-returns-in_err-push_value-clause-begins g c = on_error _ (begins_behind c.args.out.now.items _ _ _ c.loop-value.invariant c.in_err-push_value.ensures.begins)
+pub returns-clause-bytes : goal.returns-clause-bytes
+returns-clause-bytes g c = subst (λ (bytes : List ℕ). OnOk c.write_to.result (c.write_to.new.out.items ≡ c.args.out.now.items ++ bytes)) (row_is_record c.args.row.now) c.write_to.ensures.bytes

@@ -1,4 +1,4 @@
-use Rattle.cap_codec.proofs.BeginLemmas.{begins_same, on_error}
+use Rattle.cap_field.proofs.BeginLemmas.{begins_same, on_error}
 use Rattle.cap_codec.proofs.write.push_ones.Goals as goal
 
 pub returns-in_err-push-clause-begins : goal.returns-in_err-push-clause-begins

@@ -1,7 +1,7 @@
 use Rattle.std.proofs.Common.{◌≡◌, ◌∙◌, ℕ, ◌≤◌, ◌==◌, Bool, true, false, List, length, sym, arith}
 use Rattle.std.proofs.lemmas.Bool.{eqb-false, eqb-true}
 use Rattle.cap_codec.specs.FieldReading.{value_of}
-use Rattle.cap_codec.proofs.Spelled.{are_low}
+use Rattle.cap_field.proofs.Spelled.{are_low}
 use Rattle.cap_records.proofs.FieldLemmas.{behind_low, fields_end, fields_fail, fields_go_on, fields_spelled, fields_start, shorter}
 use Rattle.cap_records.proofs.reading.take_fields.Goals as goal
 

@@ -1,5 +1,5 @@
 use Rattle.std.proofs.Common.{length}
-use Rattle.cap_codec.proofs.Spelled.{AreLow}
+use Rattle.cap_field.proofs.Spelled.{AreLow}
 use Rattle.cap_records.specs.Record.{record_in}
 use Rattle.cap_records.proofs.FieldLemmas.{FieldsLeft}
 use Rattle.cap_records.proofs.reading.take_fields.Given as goal

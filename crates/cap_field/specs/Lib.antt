@@ -1,0 +1,5 @@
+pub mod FaultName
+pub mod Varint
+pub mod Field
+pub mod Reading
+pub mod FieldReading
