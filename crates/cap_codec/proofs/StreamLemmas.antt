@@ -10,29 +10,9 @@ use Rattle.cap_codec.specs.declared.read.Contents.{Contents}
 use Rattle.cap_codec.specs.BlobReading.{blob_at}
 use Rattle.cap_codec.specs.Pieces.{lasting}
 use Rattle.cap_codec.specs.declared.stream.ReadFault.TheVariants as read
-use Rattle.cap_codec.specs.StreamCalls.{AllWent, ReportsWrite, GaveAtMost}
+use Rattle.cap_stream.specs.StreamCalls.{GaveAtMost}
 use Rattle.cap_codec.specs.Stream.{IsBlobOf, ReadsOn, LastGave, EndsReads, read_fault}
 use Rattle.cap_codec.proofs.Looking.{err_lasts, fault_of_lasting}
-
--- a write took some more of the bytes
-pub writes_more : (a b c : Option (List ℕ)) (bytes rest : List ℕ) (count : ℕ) → ((front : List ℕ) × (bytes ≡ front ++ rest) × Appends a b front) → Appends b c (take count rest)
-    → (front : List ℕ) × (bytes ≡ front ++ drop count rest) × Appends a c front
-writes_more a b c bytes rest count (front, parts, before) taken = (
-  front ++ take count rest,
-  parts ∙ ap (λ (r : List ℕ). front ++ r) (sym (take-append-drop count rest)) ∙ sym (append_assoc front (take count rest) (drop count rest)),
-  Appends-trans a b c front (take count rest) before taken,
-)
-
--- ---- how the calls went
-
-module _ {X : Type 0} (went failed : X → X → Type 0) where
-  pub one_more : (old before new : X) → AllWent went old before → went before new → AllWent went old new
-  one_more old before new (n, calls) last = (suc n, (before, calls, last))
-
-  -- a write that took some bytes
-  pub write_took : (E : Type 0) (count : ℕ) (old new : X) → (count ≡ 0 → ⊥) → ReportsWrite {E = E} went failed (Ok count) old new → went old new
-  write_took E zero old new some reported = absurd (some refl)
-  write_took E (suc count) old new some reported = reported
 
 -- before the first read
 pub nothing_fed : (a : Option (List ℕ)) → Consumes a a []

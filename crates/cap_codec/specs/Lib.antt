@@ -14,6 +14,5 @@ pub mod Writable
 pub mod Spelling
 pub mod FaultPlace
 pub mod Pieces
-pub mod StreamCalls
 pub mod Stream
 pub mod Touched

@@ -1,11 +1,12 @@
 -- Blobs from readers and to writers.
-use Rattle.std.specs.Prelude.{◌≡◌, ◌⊎◌, ℕ, ◌<◌, ◌≤◌, List, [], ◌++◌, length, Option, Result, Ok, Err}
-use Rattle.std.specs.Io.KnownBytes.{Appends, Keeps, IsAtEnd}
+use Rattle.std.specs.Prelude.{◌≡◌, ◌⊎◌, ℕ, ◌<◌, List, [], ◌++◌, Option, Result, Ok, Err}
+use Rattle.std.specs.Io.KnownBytes.{Keeps, IsAtEnd}
 use Rattle.cap_value.specs.declared.memory.Fault.{Fault}
 use Rattle.cap_value.specs.declared.memory.Fault.TheVariants.{Refused, OutOfMemory}
 use Rattle.cap_codec.specs.BlobReading.{blob_at}
 use Rattle.cap_codec.specs.Pieces.{lasting}
-use Rattle.cap_codec.specs.StreamCalls.{AllWent, LastFailed, GaveAtMost, ReadsGave}
+use Rattle.cap_stream.specs.StreamCalls.{AllWent, GaveAtMost, ReadsGave}
+use Rattle.cap_stream.specs.Writing.{AppendsSome, HasFailed}
 use Rattle.cap_field.specs.declared.fault.BlobFault.{BlobFault}
 use Rattle.cap_codec.specs.declared.read.Contents.{Contents}
 use Rattle.cap_codec.specs.declared.stream.ReadFault.{ReadFault}
@@ -70,19 +71,15 @@ module _ (A : Type 0) {R : Type 0} (remaining : R → Option (List ℕ)) (gave f
   EndsReads (Err read.Memory) old new = AnswersLastRead (Err read.Memory) old new
   EndsReads (Err (read.Blob fault)) old new = AnswersLastRead (Err (read.Blob fault)) old new
 
--- a failed write is answered where a write failed, and out of memory where none was made
+-- a failed write is answered where a write failed or their limit was reached, and out of memory where none was
+-- made
 abbrev pub EndsWrites : {X S : Type 0} → (S → S → Type 0) → (S → S → Type 0) → Result X WriteFault → S → S →
     Type 0
-EndsWrites took failed (Err written.Write) old new = LastFailed took failed old new
-EndsWrites took failed (Err written.Memory) old new = new ≡ old
-EndsWrites took failed (Ok x) old new = AllWent took old new
-
--- a proper prefix of the bytes was written
-abbrev pub WritesSome : Option (List ℕ) → Option (List ℕ) → List ℕ → Type 0
-WritesSome old new bytes =
-    (front rest : List ℕ) × (bytes ≡ front ++ rest) × (1 ≤ length rest) × Appends old new front
+EndsWrites went failed (Err written.Write) old new = HasFailed went failed old new
+EndsWrites went failed (Err written.Memory) old new = new ≡ old
+EndsWrites went failed (Ok x) old new = AllWent went old new
 
 -- the bytes written where the call failed
 abbrev pub WritesFront : WriteFault → Option (List ℕ) → Option (List ℕ) → List ℕ → Type 0
-WritesFront written.Write old new bytes = WritesSome old new bytes
+WritesFront written.Write old new bytes = AppendsSome old new bytes
 WritesFront written.Memory old new bytes = Keeps old new

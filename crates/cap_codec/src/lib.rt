@@ -15,7 +15,6 @@ mod operation;
 mod read;
 mod record;
 mod scan;
-mod source_and_sink;
 mod stream;
 mod touched;
 mod writable;
@@ -34,7 +33,6 @@ pub use laws::{
 pub use operation::Operation;
 pub use read::{Contents, read_blob, wrong_kind};
 pub use record::own_field;
-pub use source_and_sink::{Sink, Source};
 pub use stream::{ReadFault, WriteFault, read_from, write_changes_to, write_patches_to};
 pub use touched::{is_changed, push_change_between, push_group_header};
 pub use writable::{changes_are_writable, patches_are_writable};

@@ -1,26 +1,20 @@
 //! Blobs from readers and to writers.
 
-ghost use Rattle.std.specs.Prelude.{◌≡◌, ◌↔◌, IsTrue, IfSome, IfErr, OnOk, OnErr};
-ghost use Rattle.std.specs.IoError.{error_kind};
+ghost use Rattle.std.specs.Prelude.{◌≡◌, IfSome, IfErr, OnOk};
 ghost use Rattle.std.specs.Io.KnownBytes.{Appends};
 ghost use Rattle.cap_codec.specs.BlobReading.{blob_at};
 ghost use Rattle.cap_codec.specs.Changeset.{list_bytes};
 ghost use Rattle.cap_codec.specs.Patchset.{patch_list_bytes};
-ghost use Rattle.cap_codec.specs.Stream.{IsBlobOf, EndsReads, EndsWrites, WritesFront, WritesSome};
+ghost use Rattle.cap_codec.specs.Stream.{IsBlobOf, EndsReads, EndsWrites, WritesFront};
 
 use crate::decoder::Decoder;
 use crate::read::Contents;
-use crate::source_and_sink::{Sink, Source};
 use crate::write::{write_changes, write_patches};
 use cap_changes::{ChangeList, PatchList};
 use cap_field::BlobFault;
+use cap_stream::{CALLS_MAX, Sink, Source, is_interrupted, write_whole};
 use cap_value::{AllocHandle, Fault};
-use std::io;
-use std::io::ErrorKind;
 use thiserror::Error;
-
-// The greatest number of reads of one call.
-const READS_MAX: u64 = 1 << 40;
 
 // The greatest number of bytes of one read.
 const PIECE_LEN: usize = 4096;
@@ -56,18 +50,12 @@ impl From<Fault<BlobFault>> for ReadFault {
 /// Why a list was not written, or only in part.
 #[derive(Clone, Copy, Debug, PartialEq, Eq, Drop, Error)]
 pub enum WriteFault {
-    /// A write failed or took no byte. A prefix of the bytes was written.
+    /// A write failed or took no byte, or 2^40 writes left some of the bytes. A prefix of them was written.
     #[error("a write failed")]
     Write,
     /// Out of memory. Nothing was written.
     #[error("no memory for the bytes")]
     Memory,
-}
-
-fn is_interrupted(error: &io::Error) -> bool
-    ensures { IsTrue result ↔ (error_kind error.now ≡ ErrorKind.Interrupted) }
-{
-    error.kind() == ErrorKind::Interrupted
 }
 
 /// The contents of the bytes from a reader, read in pieces of at most 4,096 bytes to the end, or to the piece
@@ -82,7 +70,7 @@ pub fn read_from<A: AllocHandle, R: Source>(
 {
     let mut piece = [0u8; PIECE_LEN];
     let mut decoder = Decoder::new(alloc);
-    for _ in 0..READS_MAX {
+    for _ in 0..CALLS_MAX {
         let count = match reader.read_some(&mut piece) {
             Ok(count) => count,
             Err(error) => {
@@ -100,24 +88,7 @@ pub fn read_from<A: AllocHandle, R: Source>(
     Err(ReadFault::Read)
 }
 
-// Writes all the bytes, in as many writes as needed.
-fn write_whole<W: Sink>(writer: &mut W, bytes: &[u8]) -> Result<(), WriteFault>
-    ensures ok { OnOk result (Appends (W.contents writer.old) (W.contents writer.new) bytes.now) }
-    ensures err { OnErr result (WritesSome (W.contents writer.old) (W.contents writer.new) bytes.now) }
-    ensures only { IfErr result (λ fault. fault ≡ WriteFault.Write) }
-    ensures reported { EndsWrites W.took W.failed result writer.old writer.new }
-{
-    let mut rest = bytes;
-    while !rest.is_empty() {
-        match writer.write_some(rest) {
-            Ok(0) | Err(_) => return Err(WriteFault::Write),
-            Ok(count) => rest = &rest[count..],
-        }
-    }
-    Ok(())
-}
-
-/// Writes the bytes of a changeset, as `write_changes` gives them.
+/// Writes the bytes of a changeset, as `write_changes` gives them. An interrupted write is made again.
 pub fn write_changes_to<A: AllocHandle, W: Sink>(
     alloc: A,
     writer: &mut W,
@@ -127,13 +98,13 @@ pub fn write_changes_to<A: AllocHandle, W: Sink>(
     ensures err { IfErr result (λ fault.
         WritesFront fault (W.contents writer.old) (W.contents writer.new) (list_bytes list.now)) }
     // Which answer comes when, as far as the outcomes of the writes are known.
-    ensures reported { EndsWrites W.took W.failed result writer.old writer.new }
+    ensures reported { EndsWrites W.went W.failed result writer.old writer.new }
 {
     let bytes = write_changes(alloc, list).map_err(|_| WriteFault::Memory)?;
-    write_whole(writer, bytes.as_slice())
+    write_whole(writer, bytes.as_slice()).map_err(|_| WriteFault::Write)
 }
 
-/// Writes the bytes of a patchset, as `write_patches` gives them.
+/// Writes the bytes of a patchset, as `write_patches` gives them. An interrupted write is made again.
 pub fn write_patches_to<A: AllocHandle, W: Sink>(
     alloc: A,
     writer: &mut W,
@@ -144,8 +115,8 @@ pub fn write_patches_to<A: AllocHandle, W: Sink>(
     ensures err { IfErr result (λ fault.
         WritesFront fault (W.contents writer.old) (W.contents writer.new) (patch_list_bytes list.now)) }
     // Which answer comes when, as far as the outcomes of the writes are known.
-    ensures reported { EndsWrites W.took W.failed result writer.old writer.new }
+    ensures reported { EndsWrites W.went W.failed result writer.old writer.new }
 {
     let bytes = write_patches(alloc, list).map_err(|_| WriteFault::Memory)?;
-    write_whole(writer, bytes.as_slice())
+    write_whole(writer, bytes.as_slice()).map_err(|_| WriteFault::Write)
 }

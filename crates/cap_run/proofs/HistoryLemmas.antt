@@ -17,7 +17,8 @@ use Rattle.cap_history.specs.Seat.{SeatState, calls, newcomer}
 use Rattle.cap_run.proofs.GatherLemmas.{calls-beyond}
 use Rattle.cap_run.proofs.OrderLemmas.{calls_of-parts, ends_sooner, none-behind, own-prefix, prefix-both, prefix-rest, same-rest, split-first}
 use Rattle.cap_run.proofs.SeatLemmas.{calls-begin, calls_of-longer, count_few, newcomers_seats, number-at, reply_lines-longer, reports, still_seats}
-use Rattle.cap_run.specs.Run.{AppendsFront, Ended, IsSpelled, ending}
+use Rattle.cap_run.specs.Run.{Ended, IsSpelled, ending}
+use Rattle.cap_stream.specs.Writing.{AppendsFront}
 use Rattle.cap_run.specs.Code.Calls.{AreSeats, EachSawIn, FirstHasMet, HasCalledOwn, HasCut, HaveCalled, OneHasSeen, RunsLines, first_seen, unclosed_outcome}
 use Rattle.cap_run.specs.Workload.{AreCalls, AreOfOneHistory, EachBlock, EndsBlock, IsDivided, ReportsEvents, WritesAll, WritesSome, WritesUnclosed, WritesWorkload, calls_of, reply_lines}
 use Rattle.cap_run.specs.RunFault.{RunsNothing}

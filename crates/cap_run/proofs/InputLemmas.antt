@@ -2,7 +2,7 @@
 use Rattle.std.proofs.Common.{◌≡◌, ◌∙◌, ap, ℕ, ◌+◌, false, add-one, List, Option, Some, None, ◌⊎◌, Result, Ok, Err, IfSome, IfErr, IsUtf8, arith, inl, inr, refl, subst, sym}
 use Rattle.cap_value.specs.declared.memory.Fault.TheVariants.{Refused}
 use Rattle.cap_run.specs.Run.{IsSpelled}
-use Rattle.cap_codec.specs.StreamCalls.{AllWent, Calls}
+use Rattle.cap_stream.specs.StreamCalls.{AllWent, Calls}
 use Rattle.cap_run.specs.Reads.{EndsAtFault, EndsReads}
 use Rattle.cap_run.specs.RunFault.{exit_status, is_read, is_script, IsNoWorkload, IsOfText, IsUnread, IsUnspelled, RunsNothing}
 use Rattle.cap_run.specs.declared.fault.RunFault.{RunFault}

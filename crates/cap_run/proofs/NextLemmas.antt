@@ -6,7 +6,8 @@ use Rattle.std.specs.Prelude.{OnOk}
 use Rattle.cap_history.specs.Seat.{SeatState}
 use Rattle.cap_run.proofs.RunLemmas.{front_more, front_sooner}
 use Rattle.cap_run.proofs.SeatLemmas.{called_longer, called_more, called_none, called_refused}
-use Rattle.cap_run.specs.Run.{AppendsFront, Ended, ending, run_outcome}
+use Rattle.cap_run.specs.Run.{Ended, ending, run_outcome}
+use Rattle.cap_stream.specs.Writing.{AppendsFront}
 use Rattle.cap_run.specs.Code.Calls.{AreUnder, EachAt, HaveEnded, HaveCalled, IsBlock, IsNext, IsWholeBlock, RunsLines}
 use Rattle.cap_run.specs.declared.fault.RunFault.TheVariants.{Write}
 use Rattle.cap_replies.specs.Lines.{LinesLeft, SpellsRun, TakesFirst, begins_at}

@@ -2,11 +2,13 @@
 use Rattle.std.proofs.Common.{◌≡◌, ℕ, zero, suc, ◌+◌, add-one, List, [], Option, Result, Ok, Err, IfErr, append-nil, inl, inr, refl, subst, sym, arith}
 use Rattle.std.specs.Io.KnownBytes.{Appends, Keeps}
 use Rattle.std.proofs.KnownBytes.{Appends-kept}
-use Rattle.cap_codec.specs.StreamCalls.{AllWent, Calls, LastFailed}
-use Rattle.cap_run.specs.Run.{AppendsFront, Ended, run_outcome}
+use Rattle.cap_stream.specs.StreamCalls.{AllWent}
+use Rattle.cap_stream.proofs.CallLemmas.{failed_later, went_on}
+use Rattle.cap_run.specs.Run.{Ended, run_outcome}
+use Rattle.cap_stream.specs.Writing.{AppendsFront}
 use Rattle.cap_run.specs.Code.Calls.{unclosed_outcome}
 use Rattle.cap_run.specs.RunFault.{RunsNothing}
-use Rattle.cap_run.specs.Writes.{EndsAtWriteFault, EndsWrites, ReportsWrite, WriteLimitReached}
+use Rattle.cap_run.specs.Writes.{EndsAtWriteFault, EndsWrites}
 use Rattle.cap_run.specs.declared.fault.RunFault.{RunFault}
 use Rattle.cap_run.specs.declared.fault.RunFault.TheVariants.{BlobList, Blob, Call, Close, NotHex, NotUtf8, OutOfMemory, Patchset, Read, Script, Write}
 
@@ -17,53 +19,23 @@ flush_failed (Ok x) a b c bytes is wrote kept = tt
 flush_failed (Err fault) a b c bytes is wrote kept = (is, (bytes, [], sym (append-nil bytes), Appends-kept a b c bytes wrote kept))
 
 module _ {W : Type 0} (went failed : W → W → Type 0) where
-  -- ---- calls one after the other
-
-  pub calls_on : (m n : ℕ) (a b c : W) → Calls went m a b → Calls went n b c → (k : ℕ) × (k ≡ m + n) × Calls went k a c
-  calls_on m zero a b c some same = (m, omega arith, subst (λ (w : W). Calls went m a w) same some)
-  calls_on m (suc n) a b c some (before, calls, last) =
-      let all = calls_on m n a b before some calls in
-      (suc all.0, omega (arith, all.1), (before, all.2, last))
-
-  pub went_on : (a b c : W) → AllWent went a b → AllWent went b c → AllWent went a c
-  went_on a b c (m, some) (n, others) =
-      let all = calls_on m n a b c some others in
-      (all.0, all.2)
-
-  failed_later : (a b c : W) → AllWent went a b → LastFailed went failed b c → LastFailed went failed a c
-  failed_later a b c some (before, calls, last) = (before, went_on a b before some calls, last)
-
-  limit_later : (a b c : W) → AllWent went a b → WriteLimitReached went failed b c → WriteLimitReached went failed a c
-  limit_later a b c (m, some) (n, most, others) =
-      let all = calls_on m n a b c some others in
-      (all.0, omega (arith, most, all.1), all.2)
-
-  pub one_write : (n : ℕ) (a b c : W) → Calls went n a b → went b c → Calls went (n + 1) a c
-  one_write n a b c calls last = rw add-one (b, calls, last)
-
-  -- a write that took some bytes
-  pub write_went : (count : ℕ) (a b : W) → (count ≡ 0 → ⊥) → ReportsWrite went failed (Ok count) a b → went a b
-  write_went zero a b some so = absurd (some refl)
-  write_went (suc count) a b some so = so
-
   -- ---- how the writes ended, after calls without a failure
 
   pub fault_later : (fault : RunFault) (a b c : W) → AllWent went a b → EndsAtWriteFault went failed fault b c → EndsAtWriteFault went failed fault a c
-  fault_later (Script fault) a b c some so = went_on a b c some so
-  fault_later NotUtf8 a b c some so = went_on a b c some so
-  fault_later NotHex a b c some so = went_on a b c some so
-  fault_later (Blob fault) a b c some so = went_on a b c some so
-  fault_later Patchset a b c some so = went_on a b c some so
-  fault_later (BlobList fault) a b c some so = went_on a b c some so
-  fault_later (Call fault) a b c some so = went_on a b c some so
-  fault_later Read a b c some so = went_on a b c some so
-  fault_later Write a b c some (inl last) = inl (failed_later a b c some last)
-  fault_later Write a b c some (inr most) = inr (limit_later a b c some most)
-  fault_later OutOfMemory a b c some so = went_on a b c some so
-  fault_later Close a b c some so = went_on a b c some so
+  fault_later (Script fault) a b c some so = went_on went failed a b c some so
+  fault_later NotUtf8 a b c some so = went_on went failed a b c some so
+  fault_later NotHex a b c some so = went_on went failed a b c some so
+  fault_later (Blob fault) a b c some so = went_on went failed a b c some so
+  fault_later Patchset a b c some so = went_on went failed a b c some so
+  fault_later (BlobList fault) a b c some so = went_on went failed a b c some so
+  fault_later (Call fault) a b c some so = went_on went failed a b c some so
+  fault_later Read a b c some so = went_on went failed a b c some so
+  fault_later Write a b c some so = failed_later went failed a b c some so
+  fault_later OutOfMemory a b c some so = went_on went failed a b c some so
+  fault_later Close a b c some so = went_on went failed a b c some so
 
   pub writes_later : {X : Type 0} (result : Result X RunFault) (a b c : W) → AllWent went a b → EndsWrites went failed result b c → EndsWrites went failed result a c
-  writes_later (Ok x) a b c some so = went_on a b c some so
+  writes_later (Ok x) a b c some so = went_on went failed a b c some so
   writes_later (Err fault) a b c some so = fault_later fault a b c some so
 
   -- the fault is that of a write

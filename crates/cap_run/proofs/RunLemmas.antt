@@ -19,19 +19,11 @@ use Rattle.cap_replies.specs.Lines.{LinesLeft, SpellsRun}
 use Rattle.cap_run.specs.declared.fault.RunFault.{RunFault}
 use Rattle.cap_run.specs.declared.fault.RunFault.TheVariants.{BlobList, Script, NotUtf8, NotHex, Blob, Patchset, Call, Read, Write, OutOfMemory, Close}
 use Rattle.cap_run.specs.Code.Run.{HaveEnded, MayEnd, RunsNext}
-use Rattle.cap_run.specs.Run.{AppendsFront, BeginsRun, Ended, EndsAt, HasRoomAt, IsLegalRun, NextIs, IsSpelled, Writes, WritesInput, WritesRun, ending, history_of, replies_to, run_outcome, run_text}
+use Rattle.cap_run.specs.Run.{BeginsRun, Ended, EndsAt, HasRoomAt, IsLegalRun, NextIs, IsSpelled, Writes, WritesInput, WritesRun, ending, history_of, replies_to, run_outcome, run_text}
+use Rattle.cap_stream.specs.Writing.{AppendsFront}
 use Rattle.cap_run.specs.RunFault.{RunsNothing}
 
 -- ---- what of the bytes was written
-
--- a write took some more of the bytes
-pub writes_more : (a b c : Option (List ℕ)) (bytes rest : List ℕ) (count : ℕ) → ((front : List ℕ) × (bytes ≡ front ++ rest) × Appends a b front) → Appends b c (take count rest)
-    → (front : List ℕ) × (bytes ≡ front ++ drop count rest) × Appends a c front
-writes_more a b c bytes rest count (front, parts, before) taken = (
-  front ++ take count rest,
-  parts ∙ ap (λ (r : List ℕ). front ++ r) (sym (take-append-drop count rest)) ∙ sym (append_assoc front (take count rest) (drop count rest)),
-  Appends-trans a b c front (take count rest) before taken,
-)
 
 -- all before these bytes was written, and a beginning of them
 pub front_more : (a b c : Option (List ℕ)) (before bytes : List ℕ) → Appends a b before → AppendsFront b c bytes → AppendsFront a c (before ++ bytes)

@@ -2,7 +2,7 @@
 use Rattle.std.proofs.Common.{◌≡◌, ◌∙◌, ◌⊎◌, ℕ, suc, ◌+◌, ◌<◌, ◌≤◌, List, [], ◌∷◌, ◌++◌, Option, None, Some, Result, Ok, Err, IfErr, IfOk, IsUtf8, OnOk, length, length-append, append-nil, append_assoc, ap, inl, inr, sym, refl, subst, arith}
 use Rattle.std.specs.Io.KnownBytes.{Appends, IsAtEnd, prepend_known}
 use Rattle.std.proofs.KnownBytes.{Appends-nil, Appends-trans}
-use Rattle.cap_codec.specs.StreamCalls.{AllWent, Calls, LastFailed}
+use Rattle.cap_stream.specs.StreamCalls.{AllWent, Calls, LastFailed}
 use Rattle.cap_interpreter.specs.Interpreter.{InterpreterState}
 use Rattle.cap_interpreter.specs.Lines.{Course, IsAt as Stands, after_line, after_lines, begin_course, on_a_line, text_of}
 use Rattle.cap_script.specs.ReadLine.{IsFound}
@@ -16,12 +16,14 @@ use Rattle.cap_run.specs.BlobList.{HasLines}
 use Rattle.cap_run.specs.Code.Shell.{HasAnswered, MatchEnd, MayEnd}
 use Rattle.cap_run.specs.Code.Unread.{Counted, CutsLine, Failed, HasLine, HasPart}
 use Rattle.cap_run.specs.Reads.{EndsAtFault, LimitReached}
-use Rattle.cap_run.specs.Run.{AppendsFront, Ended, ending, history_of, replies_to}
+use Rattle.cap_run.specs.Run.{Ended, ending, history_of, replies_to}
+use Rattle.cap_stream.specs.Writing.{AppendsFront}
 use Rattle.cap_run.specs.Shell.{AreReadAs, EndsBefore, HasRun, IsReadAs, Outputs, Prints, PrintsPart, ReadLine, Spelled, WritesShell, fault_of, faults_of, lines_run, of_each, outputs, run_of}
 use Rattle.cap_run.specs.Writes.{EndsAtWriteFault, EndsBoth, EndsWrites}
 use Rattle.cap_run.specs.declared.fault.RunFault.{RunFault}
 use Rattle.cap_run.specs.declared.fault.RunFault.TheVariants.{Blob, Call, Close, BlobList, NotHex, NotUtf8, OutOfMemory, Patchset, Read, Script, Write}
-use Rattle.cap_run.proofs.OutputLemmas.{fault_later, went_on, writes_later}
+use Rattle.cap_run.proofs.OutputLemmas.{fault_later, writes_later}
+use Rattle.cap_stream.proofs.CallLemmas.{went_on}
 use Rattle.cap_run.proofs.RunLemmas.{after_parts, front_more, legal_run, replies_parts, stands_events}
 use Rattle.cap_run.proofs.UnreadLemmas.{lines_cut, lines_end, lines_kept, lines_known, lines_one}
 

@@ -4,12 +4,13 @@ use Rattle.std.specs.Io.KnownBytes.{Consumes, IsAtEnd, Keeps, prepend_known}
 use Rattle.std.specs.List.{list_any, onto_first}
 use Rattle.cap_run.specs.BlobList.{HasLines}
 use Rattle.cap_replies.specs.TextLines.{split_lines}
-use Rattle.cap_codec.specs.StreamCalls.{AllWent, Calls, LastFailed}
+use Rattle.cap_stream.specs.StreamCalls.{AllWent, Calls, LastFailed}
 use Rattle.cap_run.specs.Code.Unread.{Counted, CutsLine, Failed, HasLine, HasPart, IsGiven, IsTaken, MatchRead}
 use Rattle.cap_run.specs.declared.unread.ReadFault.{ReadFault}
 use Rattle.cap_run.specs.declared.unread.ReadFault.TheVariants.{Failed as ReadFailed, OutOfMemory}
 use Rattle.cap_replies.proofs.TextLineLemmas.{has_line_feed, line_alone, line_cut}
-use Rattle.cap_run.proofs.OutputLemmas.{calls_on, went_on}
+use Rattle.cap_run.proofs.OutputLemmas.{calls_on}
+use Rattle.cap_stream.proofs.CallLemmas.{went_on}
 
 -- the first line feed is here
 pub feed_at : (text : List ℕ) (i d : ℕ) → i < length text → get_or text i d ≡ 10 → text ≡ take i text ++ 10 ∷ drop (i + 1) text

@@ -9,7 +9,8 @@ use Rattle.cap_run.specs.declared.conversion.Conversion.{Conversion}
 use Rattle.cap_run.specs.declared.fault.RunFault.{RunFault}
 use Rattle.cap_run.specs.declared.fault.RunFault.TheVariants.{Blob, Patchset, Write}
 use Rattle.cap_run.specs.Encoding.{decoded, encoded}
-use Rattle.cap_run.specs.Run.{AppendsFront, Known}
+use Rattle.cap_run.specs.Run.{Known}
+use Rattle.cap_stream.specs.Writing.{AppendsFront}
 use Rattle.cap_run.specs.RunFault.{after}
 
 -- why a blob is not converted

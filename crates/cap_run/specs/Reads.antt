@@ -1,6 +1,6 @@
 -- When a failed read is reported.
 use Rattle.std.specs.Prelude.{◌≡◌, ◌⊎◌, ℕ, Result, Ok, Err}
-use Rattle.cap_codec.specs.StreamCalls.{AllWent, Calls, LastFailed}
+use Rattle.cap_stream.specs.StreamCalls.{AllWent, Calls, LastFailed}
 use Rattle.cap_run.specs.declared.fault.RunFault.{RunFault}
 use Rattle.cap_run.specs.declared.fault.RunFault.TheVariants.{Read}
 use Rattle.cap_run.specs.RunFault.{IsUnread}

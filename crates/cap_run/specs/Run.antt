@@ -16,6 +16,7 @@ use Rattle.cap_replies.specs.declared.run_line.ReplyForm.{ReplyForm}
 use Rattle.cap_replies.specs.declared.run_line.ReplyForm.TheVariants.{Json, Text}
 use Rattle.cap_replies.specs.declared.run_line.RunLine.{RunLine}
 use Rattle.cap_replies.specs.Lines.{SpellsLines}
+use Rattle.cap_stream.specs.Writing.{AppendsFront}
 
 -- what a writer holds, where it is known
 abbrev pub Known : Type 0
@@ -24,11 +25,6 @@ Known = Option (List ℕ)
 -- how lines ended: after the last, or at the fault of the first without a reply
 abbrev pub Ended : Type 0
 Ended = Result (Unit {0}) CallFault
-
--- a prefix of the bytes was written
-abbrev pub AppendsFront : Known → Known → List ℕ → Type 0
-AppendsFront old new bytes =
-    (front : List ℕ) × (rest : List ℕ) × (bytes ≡ front ++ rest) × Appends old new front
 
 unfoldable pub call_fault_text : CallFault → List ℕ
 call_fault_text call.OutOfMemory = codes "refused for memory"

@@ -16,7 +16,8 @@ use Rattle.cap_replies.specs.Lines.{run_line}
 use Rattle.cap_replies.specs.declared.run_line.ReplyForm.TheVariants.{Text}
 use Rattle.cap_replies.specs.declared.run_line.RunLine.{RunLine}
 use Rattle.cap_run.specs.BlobList.{HasLines}
-use Rattle.cap_run.specs.Run.{AppendsFront, Ended, IsLegalRun, Known, history_of, run_text}
+use Rattle.cap_run.specs.Run.{Ended, IsLegalRun, Known, history_of, run_text}
+use Rattle.cap_stream.specs.Writing.{AppendsFront}
 use Rattle.cap_run.specs.declared.fault.RunFault.{RunFault}
 use Rattle.cap_run.specs.declared.fault.RunFault.TheVariants.{Call, Read, Write}
 

@@ -9,7 +9,8 @@ use Rattle.cap_core.specs.declared.event.Event.{Event}
 use Rattle.cap_core.specs.declared.reply.Reply.{Reply}
 use Rattle.cap_history.specs.History.{own}
 use Rattle.cap_interpreter.specs.Lines.{events_max, on_a_line}
-use Rattle.cap_run.specs.Run.{AppendsFront, Ended, IsSpelled, Known, ending}
+use Rattle.cap_run.specs.Run.{Ended, IsSpelled, Known, ending}
+use Rattle.cap_stream.specs.Writing.{AppendsFront}
 use Rattle.cap_run.specs.declared.fault.RunFault.{RunFault}
 use Rattle.cap_run.specs.declared.fault.RunFault.TheVariants.{Call, Close, Write}
 use Rattle.cap_replies.specs.Printed.{reply_text}

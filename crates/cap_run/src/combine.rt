@@ -15,10 +15,10 @@ use crate::encoding::encode;
 use crate::fault::ListedFault;
 use crate::input::read_whole;
 use crate::output::write_output;
-use crate::{Combination, CombinationKind, RunFault, RunOutput};
-use cap_codec::Source;
+use crate::{Combination, CombinationKind, RunFault};
 use cap_group::ChangeGroup;
 use cap_rebase::Rebaser;
+use cap_stream::{Sink, Source};
 use cap_value::{AllocHandle, Fault};
 
 /// Writes what the blobs that the reader gives make together: their concatenation, or the first of them, a
@@ -28,7 +28,7 @@ use cap_value::{AllocHandle, Fault};
 ///
 /// All blobs are read before anything is written. A failed read and out of memory may come before any other
 /// answer.
-pub fn combine_blobs<A: AllocHandle, R: Source, W: RunOutput>(
+pub fn combine_blobs<A: AllocHandle, R: Source, W: Sink>(
     alloc: A,
     combination: Combination,
     reader: &mut R,

@@ -8,16 +8,16 @@ ghost use Rattle.cap_run.specs.Writes.{EndsWrites};
 
 use crate::encoding::{encode, read_bytes};
 use crate::output::write_output;
-use crate::{Conversion, RunFault, RunOutput};
+use crate::{Conversion, RunFault};
 use cap_blob::{ChangesetRefusal, convert_bytes};
-use cap_codec::Source;
+use cap_stream::{Sink, Source};
 use cap_value::{AllocHandle, Fault};
 
 /// Writes the inverse or the patchset of the changeset that the reader gives.
 ///
 /// The whole blob is read and converted before anything is written. A failed read and out of memory may come
 /// before any other answer.
-pub fn convert_blob<A: AllocHandle, R: Source, W: RunOutput>(
+pub fn convert_blob<A: AllocHandle, R: Source, W: Sink>(
     alloc: A,
     conversion: Conversion,
     reader: &mut R,

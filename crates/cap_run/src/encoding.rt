@@ -9,7 +9,7 @@ ghost use Rattle.cap_run.specs.RunFault.{input_fault, is_read, RunsNothing};
 
 use crate::RunFault;
 use crate::input::read_whole;
-use cap_codec::Source;
+use cap_stream::Source;
 use cap_value::{AllocHandle, Fault, OutOfMemory};
 use hex::FromHexError;
 

@@ -1,29 +1,17 @@
 //! Reads the input.
-ghost use Rattle.std.specs.Prelude.{◌≡◌, ◌↔◌, IsTrue, IfOk, IfSome, IfErr};
-ghost use Rattle.std.specs.IoError.{error_kind};
+ghost use Rattle.std.specs.Prelude.{◌≡◌, IfOk, IfSome, IfErr};
 ghost use Rattle.cap_run.specs.Reads.{EndsReads};
 ghost use Rattle.cap_run.specs.RunFault.{IsUnread};
 
 use crate::RunFault;
 use crate::pieces::Pieces;
-use cap_codec::Source;
+use cap_stream::{CALLS_MAX, Source, is_interrupted};
 use cap_value::AllocHandle;
-use std::io;
-use std::io::ErrorKind;
-
-/// The most reads of a run.
-pub const READS_MAX: u64 = 1 << 40;
 
 // The most bytes of one read.
 pub(crate) const READ_LEN: usize = 8192;
 
-pub(crate) fn is_interrupted(error: &io::Error) -> bool
-    ensures { IsTrue result ↔ (error_kind error.now ≡ ErrorKind.Interrupted) }
-{
-    error.kind() == ErrorKind::Interrupted
-}
-
-/// Reads to the end of the reader. A reader that has not ended after `READS_MAX` reads has failed.
+/// Reads to the end of the reader. A reader that has not ended after `CALLS_MAX` reads has failed.
 pub fn read_whole<A: AllocHandle, R: Source>(
     alloc: A,
     reader: &mut R,
@@ -46,7 +34,7 @@ fn read_pieces<A: AllocHandle, R: Source>(alloc: A, reader: &mut R) -> Result<Pi
 {
     let mut bytes = [0u8; READ_LEN];
     let mut pieces = Pieces::new(alloc);
-    for _ in 0..READS_MAX {
+    for _ in 0..CALLS_MAX {
         let count = match reader.read_some(&mut bytes) {
             Ok(count) => count,
             Err(error) if is_interrupted(&error) => continue,

@@ -1,46 +1,32 @@
 //! Writes replies and faults.
 ghost use Rattle.std.specs.Prelude.{◌≡◌, ◌++◌, ℕ, Err, List, [], OnOk, IfErr, decimal, string_bytes};
 ghost use Rattle.std.specs.Io.KnownBytes.{Appends, Keeps};
-ghost use Rattle.cap_run.specs.Run.{AppendsFront, ending, fault_line};
+ghost use Rattle.cap_run.specs.Run.{ending, fault_line};
 ghost use Rattle.cap_run.specs.Writes.{EndsWrites};
+ghost use Rattle.cap_stream.specs.Writing.{AppendsFront};
 
-use crate::input::is_interrupted;
-use crate::{RunFault, RunOutput};
+use crate::RunFault;
 use cap_locked::CallFault;
 use cap_replies::ReplyForm;
+use cap_stream::Sink;
 use cap_value::AllocHandle;
 use itoa::Buffer;
-
-// The most writes for one piece of output.
-const WRITES_MAX: u64 = 1 << 40;
 
 // The length at which pending output is written.
 const PIECE_LEN: usize = 8192;
 
-/// Writes all of the bytes, in several writes where one is short. An interrupted write is retried.
-pub fn write_whole<W: RunOutput>(writer: &mut W, bytes: &[u8]) -> Result<(), RunFault>
+// Writes all of the bytes. An interrupted write is made again.
+fn write_whole<W: Sink>(writer: &mut W, bytes: &[u8]) -> Result<(), RunFault>
     ensures ok { OnOk result (Appends (W.contents writer.old) (W.contents writer.new) bytes.now) }
     ensures err { IfErr result (λ fault. (fault ≡ RunFault.Write)
         × AppendsFront (W.contents writer.old) (W.contents writer.new) bytes.now) }
     ensures write_reported { EndsWrites W.went W.failed result writer.old writer.new }
 {
-    let mut rest = bytes;
-    for _ in 0..WRITES_MAX {
-        if rest.is_empty() {
-            return Ok(());
-        }
-        match writer.write_some(rest) {
-            Ok(0) => return Err(RunFault::Write),
-            Ok(count) => rest = &rest[count..],
-            Err(error) if is_interrupted(&error) => continue,
-            Err(_) => return Err(RunFault::Write),
-        }
-    }
-    Err(RunFault::Write)
+    cap_stream::write_whole(writer, bytes).map_err(|_| RunFault::Write)
 }
 
 // Writes all of the output and flushes the writer.
-pub(crate) fn write_output<W: RunOutput>(writer: &mut W, output: &[u8]) -> Result<(), RunFault>
+pub(crate) fn write_output<W: Sink>(writer: &mut W, output: &[u8]) -> Result<(), RunFault>
     ensures ok { OnOk result (Appends (W.contents writer.old) (W.contents writer.new) output.now) }
     ensures err { IfErr result (λ fault. (fault ≡ RunFault.Write)
         × AppendsFront (W.contents writer.old) (W.contents writer.new) output.now) }
@@ -51,7 +37,7 @@ pub(crate) fn write_output<W: RunOutput>(writer: &mut W, output: &[u8]) -> Resul
 }
 
 // Writes the pending output. Where a write fails it stays pending, though a prefix of it may be written.
-pub(crate) fn write_pending<A: AllocHandle, W: RunOutput>(
+pub(crate) fn write_pending<A: AllocHandle, W: Sink>(
     writer: &mut W,
     pending: &mut String<A>,
 ) -> Result<(), RunFault>
@@ -67,7 +53,7 @@ pub(crate) fn write_pending<A: AllocHandle, W: RunOutput>(
 }
 
 // Writes the pending output, if it is as long as a piece.
-pub(crate) fn write_long<A: AllocHandle, W: RunOutput>(
+pub(crate) fn write_long<A: AllocHandle, W: Sink>(
     writer: &mut W,
     pending: &mut String<A>,
 ) -> Result<(), RunFault>
@@ -85,7 +71,7 @@ pub(crate) fn write_long<A: AllocHandle, W: RunOutput>(
 }
 
 // Writes the fault at which the run ended, if any, and flushes the writer.
-pub(crate) fn write_ending<W: RunOutput>(
+pub(crate) fn write_ending<W: Sink>(
     form: ReplyForm,
     outcome: Result<(), CallFault>,
     writer: &mut W,
@@ -100,7 +86,7 @@ pub(crate) fn write_ending<W: RunOutput>(
 }
 
 // Flushes the writer.
-fn flush<W: RunOutput>(writer: &mut W) -> Result<(), RunFault>
+fn flush<W: Sink>(writer: &mut W) -> Result<(), RunFault>
     ensures bytes { Keeps (W.contents writer.old) (W.contents writer.new) }
     ensures err { IfErr result (λ fault. fault ≡ RunFault.Write) }
     ensures write_reported { EndsWrites W.went W.failed result writer.old writer.new }
@@ -109,7 +95,7 @@ fn flush<W: RunOutput>(writer: &mut W) -> Result<(), RunFault>
 }
 
 // Writes the fault at which the run ended, if any. It takes no memory.
-fn write_last_line<W: RunOutput>(
+fn write_last_line<W: Sink>(
     form: ReplyForm,
     outcome: Result<(), CallFault>,
     writer: &mut W,
@@ -127,7 +113,7 @@ fn write_last_line<W: RunOutput>(
 }
 
 // Writes a fault as a line of its own.
-fn write_fault_line<W: RunOutput>(
+fn write_fault_line<W: Sink>(
     form: ReplyForm,
     fault: CallFault,
     writer: &mut W,
@@ -145,7 +131,7 @@ fn write_fault_line<W: RunOutput>(
 }
 
 #[tactic(auto, unfolding(crate::specs::Run::call_fault_text))]
-fn write_fault_text<W: RunOutput>(fault: CallFault, writer: &mut W) -> Result<(), RunFault>
+fn write_fault_text<W: Sink>(fault: CallFault, writer: &mut W) -> Result<(), RunFault>
     ensures ok { OnOk result (Appends (W.contents writer.old) (W.contents writer.new)
         (fault_line ReplyForm.Text fault)) }
     ensures err { IfErr result (λ why. (why ≡ RunFault.Write)
@@ -160,7 +146,7 @@ fn write_fault_text<W: RunOutput>(fault: CallFault, writer: &mut W) -> Result<()
 }
 
 #[tactic(auto, unfolding(crate::specs::Run::call_fault_text))]
-fn write_fault_json<W: RunOutput>(fault: CallFault, writer: &mut W) -> Result<(), RunFault>
+fn write_fault_json<W: Sink>(fault: CallFault, writer: &mut W) -> Result<(), RunFault>
     ensures ok { OnOk result (Appends (W.contents writer.old) (W.contents writer.new)
         (fault_line ReplyForm.Json fault)) }
     ensures err { IfErr result (λ why. (why ≡ RunFault.Write)
@@ -178,7 +164,7 @@ fn write_fault_json<W: RunOutput>(fault: CallFault, writer: &mut W) -> Result<()
 
 // Writes a number between some bytes and others.
 #[tactic(auto, using(crate::proofs::RunLemmas::front_more, crate::proofs::RunLemmas::front_sooner))]
-fn write_number<W: RunOutput>(
+fn write_number<W: Sink>(
     writer: &mut W,
     before: &[u8],
     number: u64,
@@ -203,7 +189,7 @@ fn write_number<W: RunOutput>(
 
 // Writes some bytes and then others.
 #[tactic(auto, using(crate::proofs::RunLemmas::front_more, crate::proofs::RunLemmas::front_sooner))]
-fn write_both<W: RunOutput>(writer: &mut W, first: &[u8], second: &[u8]) -> Result<(), RunFault>
+fn write_both<W: Sink>(writer: &mut W, first: &[u8], second: &[u8]) -> Result<(), RunFault>
     ensures ok { OnOk result (Appends (W.contents writer.old) (W.contents writer.new)
         (first.now ++ second.now)) }
     ensures err { IfErr result (λ fault. (fault ≡ RunFault.Write)

@@ -15,14 +15,14 @@ ghost use Rattle.cap_replies.specs.declared.run_line.ReplyForm.{ReplyForm};
 ghost use Rattle.cap_replies.specs.declared.run_line.RunLine.{RunLine};
 ghost use Rattle.cap_locked.specs.Fault.{MatchCallFault};
 
+use crate::RunFault;
 use crate::input::read_whole;
 use crate::output::{write_ending, write_long, write_pending};
-use crate::{RunFault, RunOutput};
-use cap_codec::Source;
 use cap_core::EVENTS_MAX;
 use cap_interpreter::Interpreter;
 use cap_locked::CallFault;
 use cap_replies::{ReplyForm, RunLine, RunLines};
+use cap_stream::{Sink, Source};
 use cap_value::{AllocHandle, Fault};
 
 /// Runs the workload from the reader on a new server, one line after the other, and writes the replies. A
@@ -37,7 +37,7 @@ use cap_value::{AllocHandle, Fault};
 /// failed read and out of memory may come before any other answer. They say which other texts are refused,
 /// and at which line; the offset within it is tested. The contracts determine the whole output, for writers
 /// whose content is known.
-pub fn run_core<A: AllocHandle, R: Source, W: RunOutput>(
+pub fn run_core<A: AllocHandle, R: Source, W: Sink>(
     alloc: A,
     form: ReplyForm,
     reader: &mut R,
@@ -123,7 +123,7 @@ pub(crate) fn parse_lines<A: AllocHandle>(
 }
 
 // Runs the lines on a new server, and writes their replies.
-fn run_lines<A: AllocHandle, W: RunOutput>(
+fn run_lines<A: AllocHandle, W: Sink>(
     alloc: A,
     form: ReplyForm,
     lines: &mut RunLines<'_, A>,
@@ -153,7 +153,7 @@ pub(crate) fn run_outcome(outcome: Result<(), CallFault>) -> Result<(), RunFault
 
 // Writes the replies to the lines, except the last ones, which are left in `pending`. The inner fault is that
 // of the line at which the run ended.
-fn write_replies<A: AllocHandle, W: RunOutput>(
+fn write_replies<A: AllocHandle, W: Sink>(
     alloc: A,
     lines: &mut RunLines<'_, A>,
     writer: &mut W,

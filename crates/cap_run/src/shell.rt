@@ -6,22 +6,22 @@ ghost use Rattle.std.specs.Io.KnownBytes.{Appends};
 ghost use Rattle.cap_interpreter.specs.Lines.{Course, IsAt, on_a_line};
 ghost use Rattle.cap_run.specs.Code.Shell.{HasAnswered, MatchEnd, MayEnd};
 ghost use Rattle.cap_run.specs.Reads.{EndsReads};
-ghost use Rattle.cap_run.specs.Run.{AppendsFront, ending};
+ghost use Rattle.cap_run.specs.Run.{ending};
+ghost use Rattle.cap_stream.specs.Writing.{AppendsFront};
 ghost use Rattle.cap_run.specs.RunFault.{exit_status, is_read};
 ghost use Rattle.cap_run.specs.Shell.{WritesShell, outputs};
 ghost use Rattle.cap_run.specs.Writes.{EndsBoth, EndsWrites};
 ghost use Rattle.cap_script.specs.FaultText.{fault_text};
 ghost use Rattle.cap_script.specs.ReadLine.{HasFault, IsFound};
 
-use crate::input::READS_MAX;
+use crate::RunFault;
 use crate::output::{write_ending, write_output};
 use crate::unread::{ReadFault, Unread, next_line};
-use crate::{RunFault, RunOutput};
-use cap_codec::Source;
 use cap_interpreter::Interpreter;
 use cap_locked::CallFault;
 use cap_replies::{ReplyForm, RunLine};
 use cap_script::{Line, ScriptFault, print_fault, read_line};
+use cap_stream::{CALLS_MAX, Sink, Source};
 use cap_value::{AllocHandle, Fault};
 
 /// Runs the lines from the reader on a new server, each as it is read, as `run_core` runs those of a workload.
@@ -31,7 +31,7 @@ use cap_value::{AllocHandle, Fault};
 /// the next line is read; an open transaction stays open. A line that begins with `@K` is run as any other.
 /// Where a line has no reply, or memory runs out, the fault of that is written to `replies`, and the shell
 /// ends.
-pub fn run_shell<A: AllocHandle, R: Source, W: RunOutput, E: RunOutput>(
+pub fn run_shell<A: AllocHandle, R: Source, W: Sink, E: Sink>(
     alloc: A,
     reader: &mut R,
     replies: &mut W,
@@ -52,7 +52,7 @@ pub fn run_shell<A: AllocHandle, R: Source, W: RunOutput, E: RunOutput>(
 {
     let mut interpreter = Interpreter::new(alloc);
     let mut unread = Unread::new(alloc);
-    let mut reads = READS_MAX;
+    let mut reads = CALLS_MAX;
     let mut number = 0u64;
     loop {
         let found = match next_line(alloc, reader, &mut unread, &mut reads) {
@@ -82,7 +82,7 @@ struct Printed<A: AllocHandle> {
 }
 
 // Writes what is written for a line.
-fn write_printed<A: AllocHandle, W: RunOutput, E: RunOutput>(
+fn write_printed<A: AllocHandle, W: Sink, E: Sink>(
     printed: &Printed<A>,
     replies: &mut W,
     faults: &mut E,
@@ -103,7 +103,7 @@ fn write_printed<A: AllocHandle, W: RunOutput, E: RunOutput>(
 }
 
 // Writes the fault at which the shell ends.
-fn end<W: RunOutput>(replies: &mut W, fault: CallFault) -> Result<(), RunFault>
+fn end<W: Sink>(replies: &mut W, fault: CallFault) -> Result<(), RunFault>
     ensures ended { OnOk result ⊥ }
     ensures written { IfErr result (λ why. MatchEnd why
         (λ f. (f ≡ fault) × Appends (W.contents replies.old) (W.contents replies.new) (ending ReplyForm.Text (Err fault)))

@@ -10,11 +10,12 @@ ghost use Rattle.cap_run.specs.Writes.{EndsWrites};
 
 use crate::encoding::read_bytes;
 use crate::output::write_output;
-use crate::{Encoding, RunFault, RunOutput};
-use cap_codec::{Contents, Source, read_blob};
+use crate::{Encoding, RunFault};
+use cap_codec::{Contents, read_blob};
 use cap_show::{
     changeset_json, changeset_sql, changeset_text, patchset_json, patchset_sql, patchset_text,
 };
+use cap_stream::{Sink, Source};
 use cap_value::{AllocHandle, Fault, OutOfMemory};
 
 /// How a blob is shown.
@@ -33,7 +34,7 @@ pub enum Form {
 /// The whole blob is read before anything is written. The contracts say exactly which input is refused and
 /// with which fault, where it is known what the reader gives. A failed read and out of memory may come before
 /// any other answer.
-pub fn show_blob<A: AllocHandle, R: Source, W: RunOutput>(
+pub fn show_blob<A: AllocHandle, R: Source, W: Sink>(
     alloc: A,
     form: Form,
     encoding: Encoding,
@@ -91,7 +92,7 @@ fn contents<A: AllocHandle>(alloc: A, bytes: &[u8]) -> Result<Contents<A>, Fault
 }
 
 // Writes the content of the blob. All of its text is made before any of it is written.
-fn write_blob<A: AllocHandle, W: RunOutput>(
+fn write_blob<A: AllocHandle, W: Sink>(
     alloc: A,
     form: Form,
     blob: &Contents<A>,

@@ -6,8 +6,8 @@ ghost use Rattle.cap_run.specs.Code.Unread.{Counted, CutsLine, Failed, HasLine, 
 ghost use Rattle.cap_run.specs.Code.Unread.{MatchRead};
 ghost use Rattle.cap_script.specs.Script.{has_line_feed};
 
-use crate::input::{READ_LEN, is_interrupted};
-use cap_codec::Source;
+use crate::input::READ_LEN;
+use cap_stream::{Source, is_interrupted};
 use cap_value::{AllocHandle, OutOfMemory};
 use std::marker::Model;
 

@@ -23,12 +23,12 @@ use crate::meeting::{each_meets_first, first_meets_each};
 use crate::output::{write_ending, write_long, write_pending};
 use crate::run::{parse_lines, read_text, run_outcome};
 use crate::worker::{Shared, Worker, call_line, seat_of};
-use crate::{Gate, Pace, RunFault, RunOutput};
-use cap_codec::Source;
+use crate::{Gate, Pace, RunFault};
 use cap_history::Opened;
 use cap_locked::{CallFault, SEATS_MAX};
 use cap_replies::{ReplyForm, RunLine, RunLines};
 use cap_server::{Naming, Seat, Server};
+use cap_stream::{Sink, Source};
 use cap_value::{AllocHandle, OutOfMemory};
 use std::marker::Brand;
 use std::sync::Wait;
@@ -58,7 +58,7 @@ pub fn run_workload<
     T: Threads + Wait + Sync,
     G: Gate,
     R: Source,
-    W: RunOutput,
+    W: Sink,
 >(
     rt: &T,
     alloc: A,
@@ -119,7 +119,7 @@ fn serve_lines<
     A: AllocHandle + Send + Sync,
     T: Threads + Wait + Sync,
     G: Gate,
-    W: RunOutput,
+    W: Sink,
 >(
     rt: &T,
     alloc: A,
@@ -228,7 +228,7 @@ fn run_with_workers<
     A: AllocHandle + Send + Sync,
     T: Threads + Wait + Sync,
     G: Gate,
-    W: RunOutput,
+    W: Sink,
 >(
     shared: &Shared<'_, J, A, T, G>,
     lines: &mut RunLines<'_, A>,
@@ -258,7 +258,7 @@ fn run_with_workers<
 }
 
 // Writes the pending output, and the fault at which the lines ended.
-fn write_rest<A: AllocHandle, W: RunOutput>(
+fn write_rest<A: AllocHandle, W: Sink>(
     form: ReplyForm,
     writer: &mut W,
     pending: &mut String<A>,
@@ -284,7 +284,7 @@ fn answer_all<
     A: AllocHandle + Send + Sync,
     T: Threads + Wait + Sync,
     G: Gate,
-    W: RunOutput,
+    W: Sink,
 >(
     shared: &Shared<'_, J, A, T, G>,
     lines: &mut RunLines<'_, A>,

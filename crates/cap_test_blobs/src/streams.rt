@@ -231,6 +231,19 @@ fn a_write_that_fails(rt: HostRuntime) {
     }
 }
 
+// An interrupted write is made again.
+#[test]
+fn a_write_that_is_interrupted(rt: HostRuntime) {
+    for call in 1..=3u64 {
+        let mut writer = sink(rt.alloc(), 7, Failure::interrupted(call));
+        assert!(rt;
+            write_to(rt.alloc(), &mut writer, &INSERT) == Ok(()),
+            "{call}"
+        );
+        assert!(rt; writer.taken.as_slice() == INSERT.as_slice(), "{call}");
+    }
+}
+
 #[test]
 fn a_patchset_is_written_whole(rt: HostRuntime) {
     let mut writer = sink(rt.alloc(), 1, Failure::at(21));

@@ -1,6 +1,6 @@
 -- What a run reports of a stream that keeps whether a call of its failed.
 use Rattle.std.proofs.Common.{◌≡◌, ◌∙◌, ℕ, zero, suc, Bool, true, false, Result, Ok, Err, ap, inl, inr, refl, sym}
-use Rattle.cap_codec.specs.StreamCalls.{AllWent, Calls}
+use Rattle.cap_stream.specs.StreamCalls.{AllWent, Calls}
 use Rattle.cap_run.specs.Reads.{EndsReads}
 use Rattle.cap_run.specs.Writes.{EndsBoth, EndsWrites}
 use Rattle.cap_run.specs.declared.fault.RunFault.{RunFault}

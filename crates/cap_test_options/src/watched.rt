@@ -3,11 +3,11 @@ ghost use Rattle.std.specs.Prelude.{◌≡◌, Err, false, true};
 ghost use Rattle.std.specs.IoError.{error_kind};
 ghost use Rattle.std.specs.declared.io.ErrorKind.TheVariants.{Interrupted};
 
-use cap_codec::Source;
 use cap_run::{
-    Combination, Conversion, Encoding, Form, NoGate, Pace, ReplyForm, RunFault, RunOutput,
-    combine_blobs, convert_blob, run_core, run_shell, run_workload, show_blob,
+    Combination, Conversion, Encoding, Form, NoGate, Pace, ReplyForm, RunFault, combine_blobs,
+    convert_blob, run_core, run_shell, run_workload, show_blob,
 };
+use cap_stream::{Sink, Source};
 use std::alloc::Global;
 use std::io;
 use std::io::{ErrorKind, Read, Write};
@@ -64,7 +64,7 @@ impl<R: Read> Source for Watched<R> {
     }
 }
 
-impl<W: Write> RunOutput for Watched<W> {
+impl<W: Write> Sink for Watched<W> {
     ghost use Rattle.std.specs.Prelude.{◌≡◌, true};
 
     ghost contents = { λ watched. W.Write.contents watched.stream };

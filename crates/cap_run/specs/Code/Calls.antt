@@ -11,7 +11,8 @@ use Rattle.cap_history.specs.History.{own}
 use Rattle.cap_history.specs.Seat.{SeatState, calls}
 use Rattle.cap_locked.specs.declared.fault.CallFault.TheVariants.{OutOfMemory}
 use Rattle.cap_interpreter.specs.Lines.{on_a_line}
-use Rattle.cap_run.specs.Run.{AppendsFront, Ended, Known, ending}
+use Rattle.cap_run.specs.Run.{Ended, Known, ending}
+use Rattle.cap_stream.specs.Writing.{AppendsFront}
 use Rattle.cap_run.specs.declared.fault.RunFault.{RunFault}
 use Rattle.cap_run.specs.declared.fault.RunFault.TheVariants.{Call, Close, Write}
 use Rattle.cap_replies.specs.Printed.{reply_text}

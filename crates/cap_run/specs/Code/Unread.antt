@@ -2,7 +2,7 @@
 use Rattle.std.specs.Prelude.{◌≡◌, ◌⊎◌, ℕ, ◌+◌, ◌≤◌, Bool, true, false, List, [], ◌∷◌, ◌++◌}
 use Rattle.std.specs.Prelude.{None, Some, length}
 use Rattle.std.specs.Io.KnownBytes.{Consumes, IsAtEnd, Keeps, prepend_known}
-use Rattle.cap_codec.specs.StreamCalls.{Calls, LastFailed}
+use Rattle.cap_stream.specs.StreamCalls.{Calls, LastFailed}
 use Rattle.cap_replies.specs.TextLines.{split_lines}
 use Rattle.cap_run.specs.Run.{Known}
 use Rattle.cap_run.specs.declared.unread.ReadFault.{ReadFault}

@@ -1,5 +1,5 @@
 use Rattle.std.specs.Io.KnownBytes.{Consumes}
-use Rattle.cap_codec.specs.StreamCalls.{Calls}
+use Rattle.cap_stream.specs.StreamCalls.{Calls}
 use Rattle.cap_run.proofs.input.read_pieces.Given as goal
 
 abbrev pub invariant-loop : goal.invariant-loop

@@ -1,5 +1,6 @@
 use Rattle.std.proofs.Common.{refl}
-use Rattle.cap_run.proofs.OutputLemmas.{fault_later, went_on, write_fault}
+use Rattle.cap_run.proofs.OutputLemmas.{fault_later, write_fault}
+use Rattle.cap_stream.proofs.CallLemmas.{went_on}
 use Rattle.cap_run.proofs.RunLemmas.{front_more}
 use Rattle.cap_run.specs.declared.fault.RunFault.TheVariants.{Write}
 use Rattle.cap_run.proofs.output.write_both.Goals as goal
@@ -13,9 +14,9 @@ returns-in-Err-write_whole-clause-err g c = (
 
 pub returns-in-Err-write_whole-clause-write_reported : goal.returns-in-Err-write_whole-clause-write_reported
 returns-in-Err-write_whole-clause-write_reported g c =
-    fault_later g.W.RunOutput.went g.W.RunOutput.failed Write c.args.writer.now c.write_whole.new.writer c.write_whole-2.new.writer c.in_default.ensures.write_reported
-    (write_fault g.W.RunOutput.went g.W.RunOutput.failed c.in-Err-write_whole.field-0 c.write_whole.new.writer c.write_whole-2.new.writer c.in-Err-write_whole.ensures.err.0 c.in-Err-write_whole.ensures.write_reported)
+    fault_later g.W.Sink.went g.W.Sink.failed Write c.args.writer.now c.write_whole.new.writer c.write_whole-2.new.writer c.in_default.ensures.write_reported
+    (write_fault g.W.Sink.went g.W.Sink.failed c.in-Err-write_whole.field-0 c.write_whole.new.writer c.write_whole-2.new.writer c.in-Err-write_whole.ensures.err.0 c.in-Err-write_whole.ensures.write_reported)
 
 pub returns-clause-write_reported : goal.returns-clause-write_reported
 returns-clause-write_reported g c =
-    went_on g.W.RunOutput.went g.W.RunOutput.failed c.args.writer.now c.write_whole.new.writer c.write_whole-2.new.writer c.in_default.ensures.write_reported c.in_default-write_whole.ensures.write_reported
+    went_on g.W.Sink.went g.W.Sink.failed c.args.writer.now c.write_whole.new.writer c.write_whole-2.new.writer c.in_default.ensures.write_reported c.in_default-write_whole.ensures.write_reported

@@ -5,7 +5,7 @@ use Rattle.cap_run.proofs.output.write_ending.Goals as goal
 
 pub returns-clause-write_reported : goal.returns-clause-write_reported
 returns-clause-write_reported g c =
-    writes_later g.W.RunOutput.went g.W.RunOutput.failed c.flush.result c.args.writer.now c.write_last_line.new.writer c.flush.new.writer c.in_ok-write_last_line.ensures.write_reported c.flush.ensures.write_reported
+    writes_later g.W.Sink.went g.W.Sink.failed c.flush.result c.args.writer.now c.write_last_line.new.writer c.flush.new.writer c.in_ok-write_last_line.ensures.write_reported c.flush.ensures.write_reported
 
 pub returns-in_err-write_last_line-clause-write_reported : goal.returns-in_err-write_last_line-clause-write_reported
 returns-in_err-write_last_line-clause-write_reported g c =

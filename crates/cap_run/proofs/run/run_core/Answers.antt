@@ -90,4 +90,4 @@ returns-in_err-text-clause-no_lines g c =
 pub returns-in_err-lines-clause-write_reported : goal.returns-in_err-lines-clause-write_reported
 returns-in_err-lines-clause-write_reported g c =
     let p = err_from_is_err_and c.from_residual-in_err-lines.result c.from_residual-in_err-lines.ensures.1 in
-    rw (p.1, p.2) (none_reported g.W.RunOutput.went g.W.RunOutput.failed c.in_err-lines.field-0.0 c.args.writer.now (unspelled_early c.in_err-lines.field-0.0 c.in_err-lines.ensures.early))
+    rw (p.1, p.2) (none_reported g.W.Sink.went g.W.Sink.failed c.in_err-lines.field-0.0 c.args.writer.now (unspelled_early c.in_err-lines.field-0.0 c.in_err-lines.ensures.early))

@@ -1,6 +1,7 @@
 use Rattle.std.proofs.Common.{string_bytes}
 use Rattle.std.proofs.lemmas.Result.{err_from_is_err_and}
-use Rattle.cap_run.proofs.OutputLemmas.{fault_later, went_on, ended_reported}
+use Rattle.cap_run.proofs.OutputLemmas.{fault_later, ended_reported}
+use Rattle.cap_stream.proofs.CallLemmas.{went_on}
 use Rattle.cap_run.proofs.RunLemmas.{begins_last, begins_pending, writes_ended, writes_front, writes_run}
 use Rattle.cap_run.proofs.run.run_lines.Goals as goal
 
@@ -40,20 +41,20 @@ returns-in_err-outcome-clause-write_reported g c =
 pub returns-in_err-write_pending-clause-write_reported : goal.returns-in_err-write_pending-clause-write_reported
 returns-in_err-write_pending-clause-write_reported g c =
     let p = err_from_is_err_and c.from_residual-in_err-write_pending.result c.from_residual-in_err-write_pending.ensures.1 in
-    rw (p.1, p.2) (fault_later g.W.RunOutput.went g.W.RunOutput.failed c.in_err-write_pending.field-0.0 c.args.writer.now c.write_replies.new.writer c.write_pending.new.writer
+    rw (p.1, p.2) (fault_later g.W.Sink.went g.W.Sink.failed c.in_err-write_pending.field-0.0 c.args.writer.now c.write_replies.new.writer c.write_pending.new.writer
     c.in_ok-outcome.ensures.write_reported c.in_err-write_pending.ensures.write_reported)
 
 pub returns-in_err-write_ending-clause-write_reported : goal.returns-in_err-write_ending-clause-write_reported
 returns-in_err-write_ending-clause-write_reported g c =
     let p = err_from_is_err_and c.from_residual-in_err-write_ending.result c.from_residual-in_err-write_ending.ensures.1 in
-    rw (p.1, p.2) (fault_later g.W.RunOutput.went g.W.RunOutput.failed c.in_err-write_ending.field-0.0 c.args.writer.now c.write_pending.new.writer c.write_ending.new.writer
-    (went_on g.W.RunOutput.went g.W.RunOutput.failed c.args.writer.now c.write_replies.new.writer c.write_pending.new.writer c.in_ok-outcome.ensures.write_reported c.in_ok-write_pending.ensures.write_reported)
+    rw (p.1, p.2) (fault_later g.W.Sink.went g.W.Sink.failed c.in_err-write_ending.field-0.0 c.args.writer.now c.write_pending.new.writer c.write_ending.new.writer
+    (went_on g.W.Sink.went g.W.Sink.failed c.args.writer.now c.write_replies.new.writer c.write_pending.new.writer c.in_ok-outcome.ensures.write_reported c.in_ok-write_pending.ensures.write_reported)
     c.in_err-write_ending.ensures.write_reported)
 
 pub returns-clause-write_reported : goal.returns-clause-write_reported
 returns-clause-write_reported g c =
     rw c.run_outcome.ensures.same
-    (ended_reported g.W.RunOutput.went g.W.RunOutput.failed c.in_ok-outcome.outcome c.args.writer.now c.write_ending.new.writer
-    (went_on g.W.RunOutput.went g.W.RunOutput.failed c.args.writer.now c.write_pending.new.writer c.write_ending.new.writer
-    (went_on g.W.RunOutput.went g.W.RunOutput.failed c.args.writer.now c.write_replies.new.writer c.write_pending.new.writer c.in_ok-outcome.ensures.write_reported c.in_ok-write_pending.ensures.write_reported)
+    (ended_reported g.W.Sink.went g.W.Sink.failed c.in_ok-outcome.outcome c.args.writer.now c.write_ending.new.writer
+    (went_on g.W.Sink.went g.W.Sink.failed c.args.writer.now c.write_pending.new.writer c.write_ending.new.writer
+    (went_on g.W.Sink.went g.W.Sink.failed c.args.writer.now c.write_replies.new.writer c.write_pending.new.writer c.in_ok-outcome.ensures.write_reported c.in_ok-write_pending.ensures.write_reported)
     c.in_ok-write_ending.ensures.write_reported))

@@ -8,7 +8,7 @@ use Rattle.cap_run.specs.RunFault.{is_read}
 use Rattle.cap_interpreter.specs.Lines.{after_lines, begin_course}
 use Rattle.cap_run.specs.Shell.{lines_run, outputs}
 use Rattle.cap_run.proofs.InputLemmas.{reads_before, reads_passed}
-use Rattle.cap_run.proofs.OutputLemmas.{went_on}
+use Rattle.cap_stream.proofs.CallLemmas.{went_on}
 use Rattle.cap_run.proofs.ShellLemmas.{at_end, at_fault, at_first, at_line, at_next, at_unread, both_later, failed_reported, first_alone, line_there}
 use Rattle.cap_run.proofs.UnreadLemmas.{all_went, counted_none, counted_on, failed_on, lines_nil, lines_one}
 use Rattle.cap_run.proofs.shell.run_shell.Goals as goal
@@ -16,7 +16,7 @@ use Rattle.cap_run.proofs.shell.run_shell.Goals as goal
 pub loop-found-init : goal.loop-found-init
 loop-found-init g c =
     let input = g.R.Source.remaining c.args.reader.now in record {
-      run = at_first input (prepend_known c.new-unread.result input) c.new-interpreter.result (outputs (g.W.RunOutput.contents c.args.replies.now) (g.E.RunOutput.contents c.args.faults.now)) c.new-interpreter.ensures
+      run = at_first input (prepend_known c.new-unread.result input) c.new-interpreter.result (outputs (g.W.Sink.contents c.args.replies.now) (g.E.Sink.contents c.args.faults.now)) c.new-interpreter.ensures
           (λ others has. lines_nil input others (subst (λ (u : List ℕ). HasLines (prepend_known u input) others) c.new-unread.ensures has));
       went = (0, refl);
       reported = (0, refl);
@@ -34,7 +34,7 @@ returns-in-Err-OutOfMemory-clause-read_reported g c =
 
 pub returns-in-Err-OutOfMemory-clause-write_reported : goal.returns-in-Err-OutOfMemory-clause-write_reported
 returns-in-Err-OutOfMemory-clause-write_reported g c =
-    first_alone g.W.RunOutput.went g.W.RunOutput.failed g.E.RunOutput.went g.E.RunOutput.failed c.end.result c.args.replies.now c.loop-found.replies c.end.new.replies c.args.faults.now c.loop-found.faults
+    first_alone g.W.Sink.went g.W.Sink.failed g.E.Sink.went g.E.Sink.failed c.end.result c.args.replies.now c.loop-found.replies c.end.new.replies c.args.faults.now c.loop-found.faults
     c.loop-found.invariant.went c.loop-found.invariant.reported c.end.ensures.write_reported
 
 pub returns-in-Err-OutOfMemory-clause-written : goal.returns-in-Err-OutOfMemory-clause-written
@@ -44,9 +44,9 @@ returns-in-Err-OutOfMemory-clause-written g c =
     let so = c.loop-found.invariant.run in
     let input = remaining c.args.reader.now in
     let left = prepend_known c.loop-found.unread (remaining c.loop-found.reader) in
-    let old = outputs (g.W.RunOutput.contents c.args.replies.now) (g.E.RunOutput.contents c.args.faults.now) in
-    let here = outputs (g.W.RunOutput.contents c.loop-found.replies) (g.E.RunOutput.contents c.loop-found.faults) in
-    at_fault input left (remaining c.next_line.new.reader) c.loop-found.interpreter c.loop-found.number old here (g.W.RunOutput.contents c.end.new.replies) call.OutOfMemory c.end.result so tt (lines_one left memory.1)
+    let old = outputs (g.W.Sink.contents c.args.replies.now) (g.E.Sink.contents c.args.faults.now) in
+    let here = outputs (g.W.Sink.contents c.loop-found.replies) (g.E.Sink.contents c.loop-found.faults) in
+    at_fault input left (remaining c.next_line.new.reader) c.loop-found.interpreter c.loop-found.number old here (g.W.Sink.contents c.end.new.replies) call.OutOfMemory c.end.result so tt (lines_one left memory.1)
     c.end.ensures.ended c.end.ensures.written
 
 -- ---- a read failed
@@ -64,8 +64,8 @@ returns-in-Err-Failed-clause-written g c =
     let so = c.loop-found.invariant.run in
     let input = remaining c.args.reader.now in
     let left = prepend_known c.loop-found.unread (remaining c.loop-found.reader) in
-    let old = outputs (g.W.RunOutput.contents c.args.replies.now) (g.E.RunOutput.contents c.args.faults.now) in
-    let here = outputs (g.W.RunOutput.contents c.loop-found.replies) (g.E.RunOutput.contents c.loop-found.faults) in
+    let old = outputs (g.W.Sink.contents c.args.replies.now) (g.E.Sink.contents c.args.faults.now) in
+    let here = outputs (g.W.Sink.contents c.loop-found.replies) (g.E.Sink.contents c.loop-found.faults) in
     at_unread input left (remaining c.next_line.new.reader) c.loop-found.interpreter c.loop-found.number old here so unread.1
 
 -- ---- the end of the input
@@ -80,8 +80,8 @@ returns-in_default-clause-written g c =
     let so = c.loop-found.invariant.run in
     let input = remaining c.args.reader.now in
     let left = prepend_known c.loop-found.unread (remaining c.loop-found.reader) in
-    let old = outputs (g.W.RunOutput.contents c.args.replies.now) (g.E.RunOutput.contents c.args.faults.now) in
-    let here = outputs (g.W.RunOutput.contents c.loop-found.replies) (g.E.RunOutput.contents c.loop-found.faults) in
+    let old = outputs (g.W.Sink.contents c.args.replies.now) (g.E.Sink.contents c.args.faults.now) in
+    let here = outputs (g.W.Sink.contents c.loop-found.replies) (g.E.Sink.contents c.loop-found.faults) in
     at_end input left c.loop-found.interpreter c.loop-found.number old here so ended
 
 -- ---- a line at which the shell ends
@@ -93,7 +93,7 @@ returns-in-Err-clause-read_reported g c =
 
 pub returns-in-Err-clause-write_reported : goal.returns-in-Err-clause-write_reported
 returns-in-Err-clause-write_reported g c =
-    first_alone g.W.RunOutput.went g.W.RunOutput.failed g.E.RunOutput.went g.E.RunOutput.failed c.end-in-Err.result c.args.replies.now c.loop-found.replies c.end-in-Err.new.replies c.args.faults.now c.loop-found.faults
+    first_alone g.W.Sink.went g.W.Sink.failed g.E.Sink.went g.E.Sink.failed c.end-in-Err.result c.args.replies.now c.loop-found.replies c.end-in-Err.new.replies c.args.faults.now c.loop-found.faults
     c.loop-found.invariant.went c.loop-found.invariant.reported c.end-in-Err.ensures.write_reported
 
 pub returns-in-Err-clause-written : goal.returns-in-Err-clause-written
@@ -102,11 +102,11 @@ returns-in-Err-clause-written g c =
     let so = c.loop-found.invariant.run in
     let input = remaining c.args.reader.now in
     let left = prepend_known c.loop-found.unread (remaining c.loop-found.reader) in
-    let old = outputs (g.W.RunOutput.contents c.args.replies.now) (g.E.RunOutput.contents c.args.faults.now) in
-    let here = outputs (g.W.RunOutput.contents c.loop-found.replies) (g.E.RunOutput.contents c.loop-found.faults) in
+    let old = outputs (g.W.Sink.contents c.args.replies.now) (g.E.Sink.contents c.args.faults.now) in
+    let here = outputs (g.W.Sink.contents c.loop-found.replies) (g.E.Sink.contents c.loop-found.faults) in
     let rest = prepend_known c.next_line.new.unread (remaining c.next_line.new.reader) in
     let cut = rw c.in-Some.is at c.in-Ok.ensures.line in
-    at_fault input left (remaining c.next_line.new.reader) c.loop-found.interpreter c.loop-found.number old here (g.W.RunOutput.contents c.end-in-Err.new.replies) c.in-Err.fault c.end-in-Err.result so c.in-Err.ensures.ended
+    at_fault input left (remaining c.next_line.new.reader) c.loop-found.interpreter c.loop-found.number old here (g.W.Sink.contents c.end-in-Err.new.replies) c.in-Err.fault c.end-in-Err.result so c.in-Err.ensures.ended
     (line_there c.in-Some.line.items left rest cut) c.end-in-Err.ensures.ended c.end-in-Err.ensures.written
 
 -- ---- a write failed
@@ -119,7 +119,7 @@ returns-in-Err-write_printed-clause-read_reported g c =
 
 pub returns-in-Err-write_printed-clause-write_reported : goal.returns-in-Err-write_printed-clause-write_reported
 returns-in-Err-write_printed-clause-write_reported g c =
-    both_later g.W.RunOutput.went g.W.RunOutput.failed g.E.RunOutput.went g.E.RunOutput.failed (Err c.in-Err-write_printed.fault) c.args.replies.now c.loop-found.replies c.write_printed.new.replies c.args.faults.now c.loop-found.faults c.write_printed.new.faults
+    both_later g.W.Sink.went g.W.Sink.failed g.E.Sink.went g.E.Sink.failed (Err c.in-Err-write_printed.fault) c.args.replies.now c.loop-found.replies c.write_printed.new.replies c.args.faults.now c.loop-found.faults c.write_printed.new.faults
     c.loop-found.invariant.went c.loop-found.invariant.reported c.in-Err-write_printed.ensures.write_reported
 
 pub returns-in-Err-write_printed-clause-written : goal.returns-in-Err-write_printed-clause-written
@@ -128,13 +128,13 @@ returns-in-Err-write_printed-clause-written g c =
     let so = c.loop-found.invariant.run in
     let input = remaining c.args.reader.now in
     let left = prepend_known c.loop-found.unread (remaining c.loop-found.reader) in
-    let old = outputs (g.W.RunOutput.contents c.args.replies.now) (g.E.RunOutput.contents c.args.faults.now) in
-    let here = outputs (g.W.RunOutput.contents c.loop-found.replies) (g.E.RunOutput.contents c.loop-found.faults) in
+    let old = outputs (g.W.Sink.contents c.args.replies.now) (g.E.Sink.contents c.args.faults.now) in
+    let here = outputs (g.W.Sink.contents c.loop-found.replies) (g.E.Sink.contents c.loop-found.faults) in
     let rest = prepend_known c.next_line.new.unread (remaining c.next_line.new.reader) in
     let cut = rw c.in-Some.is at c.in-Ok.ensures.line in
     let text = subst (λ (l : List ℕ). CutsLine l left rest) (sym c.as_slice.ensures.value) cut in
     let answered = c.in-Ok-answer_line.ensures.answered (after_lines begin_course (lines_run so.lines)) so.stands in
-    let after = outputs (g.W.RunOutput.contents c.write_printed.new.replies) (g.E.RunOutput.contents c.write_printed.new.faults) in
+    let after = outputs (g.W.Sink.contents c.write_printed.new.replies) (g.E.Sink.contents c.write_printed.new.faults) in
     let err = c.in-Err-write_printed.ensures.err in
     rw err.0 (at_line input left rest (remaining c.next_line.new.reader) c.loop-found.interpreter c.answer_line.new.interpreter c.loop-found.number (c.loop-found.number + 1) old here after c.as_slice.result.now
     (string_bytes c.in-Ok-answer_line.printed.reply) (string_bytes c.in-Ok-answer_line.printed.fault) so text refl answered (err.1, err.2))
@@ -147,19 +147,19 @@ loop-found-preserved g c =
     let so = c.loop-found.invariant.run in
     let input = remaining c.args.reader.now in
     let left = prepend_known c.loop-found.unread (remaining c.loop-found.reader) in
-    let old = outputs (g.W.RunOutput.contents c.args.replies.now) (g.E.RunOutput.contents c.args.faults.now) in
-    let here = outputs (g.W.RunOutput.contents c.loop-found.replies) (g.E.RunOutput.contents c.loop-found.faults) in
+    let old = outputs (g.W.Sink.contents c.args.replies.now) (g.E.Sink.contents c.args.faults.now) in
+    let here = outputs (g.W.Sink.contents c.loop-found.replies) (g.E.Sink.contents c.loop-found.faults) in
     let rest = prepend_known c.next_line.new.unread (remaining c.next_line.new.reader) in
     let cut = rw c.in-Some.is at c.in-Ok.ensures.line in
     let text = subst (λ (l : List ℕ). CutsLine l left rest) (sym c.as_slice.ensures.value) cut in
     let answered = c.in-Ok-answer_line.ensures.answered (after_lines begin_course (lines_run so.lines)) so.stands in
-    let after = outputs (g.W.RunOutput.contents c.write_printed.new.replies) (g.E.RunOutput.contents c.write_printed.new.faults) in
+    let after = outputs (g.W.Sink.contents c.write_printed.new.replies) (g.E.Sink.contents c.write_printed.new.faults) in
     let wrote = c.in_default-write_printed.ensures in
     let fewer = rw c.in-Some.is at c.in-Ok.ensures.fewer in record {
       run = at_next input left rest c.loop-found.interpreter c.answer_line.new.interpreter c.loop-found.number (c.loop-found.number + 1) old here after c.as_slice.result.now
           (string_bytes c.in-Ok-answer_line.printed.reply) (string_bytes c.in-Ok-answer_line.printed.fault) so text refl answered wrote.ok;
-      went = went_on g.W.RunOutput.went g.W.RunOutput.failed c.args.replies.now c.loop-found.replies c.write_printed.new.replies c.loop-found.invariant.went wrote.write_reported.0;
-      reported = went_on g.E.RunOutput.went g.E.RunOutput.failed c.args.faults.now c.loop-found.faults c.write_printed.new.faults c.loop-found.invariant.reported wrote.write_reported.1;
+      went = went_on g.W.Sink.went g.W.Sink.failed c.args.replies.now c.loop-found.replies c.write_printed.new.replies c.loop-found.invariant.went wrote.write_reported.0;
+      reported = went_on g.E.Sink.went g.E.Sink.failed c.args.faults.now c.loop-found.faults c.write_printed.new.faults c.loop-found.invariant.reported wrote.write_reported.1;
       counted = counted_on g.R.Source.gave 1099511627776 c.loop-found.reads c.next_line.new.reads c.args.reader.now c.loop-found.reader c.next_line.new.reader c.loop-found.invariant.counted c.in-Ok.ensures.gave;
       few = omega (arith, c.loop-found.invariant.few, fewer);
     }

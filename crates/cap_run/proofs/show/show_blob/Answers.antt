@@ -14,4 +14,4 @@ returns-clause-read_reported g c = reads_passed g.R.Source.gave g.R.Source.faile
 pub returns-in_err-blob-clause-write_reported : goal.returns-in_err-blob-clause-write_reported
 returns-in_err-blob-clause-write_reported g c =
     let p = err_from_is_err_and c.from_residual.result c.from_residual.ensures.1 in
-    rw (p.1, p.2) (none_reported g.W.RunOutput.went g.W.RunOutput.failed c.in_err-blob.field-0.0 c.args.writer.now c.in_err-blob.ensures.early)
+    rw (p.1, p.2) (none_reported g.W.Sink.went g.W.Sink.failed c.in_err-blob.field-0.0 c.args.writer.now c.in_err-blob.ensures.early)

@@ -2,7 +2,8 @@ use Rattle.std.proofs.Common.{◌∙◌, Option, refl, string_bytes, subst}
 use Rattle.cap_replies.specs.Lines.{TakesFirst}
 use Rattle.cap_replies.specs.declared.run_line.RunLine.{RunLine}
 use Rattle.cap_run.proofs.NextLemmas.{under_begun, under_end, under_next, under_none, under_refused, under_stuck, under_written}
-use Rattle.cap_run.proofs.OutputLemmas.{fault_later, went_on}
+use Rattle.cap_run.proofs.OutputLemmas.{fault_later}
+use Rattle.cap_stream.proofs.CallLemmas.{went_on}
 use Rattle.cap_run.proofs.workload.answer_all.Goals as goal
 
 pub loop-line-init : goal.loop-line-init
@@ -24,7 +25,7 @@ loop-line-preserved g c = record {
       let next = under_next c.args.shared.now.threads spelled c.loop-line.lines c.next_line.new.self c.answer_next-called.new.lines (string_bytes c.loop-line.pending) (string_bytes c.answer_next-called.new.pending)
       c.in-Ok-Some.line _ _ _ _ _ _ so taken c.in_default.is c.answer_next-called.ensures.called in
       under_written c.args.shared.now.threads spelled c.answer_next-called.new.lines (string_bytes c.answer_next-called.new.pending) (string_bytes c.write_long.new.pending) _ _ _ _ _ next c.in_default-write_long.ensures.ok;
-  went = went_on g.W.RunOutput.went g.W.RunOutput.failed c.args.writer.now c.loop-line.writer c.write_long.new.writer c.loop-line.invariant.went c.in_default-write_long.ensures.write_reported;
+  went = went_on g.W.Sink.went g.W.Sink.failed c.args.writer.now c.loop-line.writer c.write_long.new.writer c.loop-line.invariant.went c.in_default-write_long.ensures.write_reported;
 }
 
 -- all lines were called
@@ -59,7 +60,7 @@ returns-in-Err-write_long-clause-called g c = λ spelled is.
 
 pub returns-in-Err-write_long-clause-write_reported : goal.returns-in-Err-write_long-clause-write_reported
 returns-in-Err-write_long-clause-write_reported g c =
-    fault_later g.W.RunOutput.went g.W.RunOutput.failed c.in-Err-write_long.fault c.args.writer.now c.loop-line.writer c.write_long.new.writer c.loop-line.invariant.went c.in-Err-write_long.ensures.write_reported
+    fault_later g.W.Sink.went g.W.Sink.failed c.in-Err-write_long.fault c.args.writer.now c.loop-line.writer c.write_long.new.writer c.loop-line.invariant.went c.in-Err-write_long.ensures.write_reported
 
 -- the lines behind this one are those that are left
 pub answer_next-called-requires-clause-spelled : goal.answer_next-called-requires-clause-spelled

@@ -1,5 +1,5 @@
 use Rattle.std.proofs.Common.{◌≡◌, List, length, map, string_bytes, vec_len}
-use Rattle.cap_codec.specs.StreamCalls.{AllWent}
+use Rattle.cap_stream.specs.StreamCalls.{AllWent}
 use Rattle.cap_run.specs.Code.Calls.{AreSeats, AreUnder}
 use Rattle.cap_replies.specs.Lines.{SpellsRun}
 use Rattle.cap_replies.specs.declared.run_line.RunLine.{RunLine}
@@ -10,8 +10,8 @@ invariant-loop-line g l = record {
   seats : AreSeats l.shared.threads (map (λ w. w.seat) l.workers.items);
   len : vec_len l.workers ≡ vec_len l.fn.workers;
   called : (spelled : List (RunLine g.row.A.Denot)) → SpellsRun spelled l.initial.lines → AreUnder l.shared.threads spelled l.lines (string_bytes l.pending)
-      (map (λ w. w.seat) l.fn.workers.items) (map (λ w. w.seat) l.workers.items) (g.W.RunOutput.contents l.initial.writer) (g.W.RunOutput.contents l.writer);
-  went : AllWent g.W.RunOutput.went l.initial.writer l.writer;
+      (map (λ w. w.seat) l.fn.workers.items) (map (λ w. w.seat) l.workers.items) (g.W.Sink.contents l.initial.writer) (g.W.Sink.contents l.writer);
+  went : AllWent g.W.Sink.went l.initial.writer l.writer;
 }
 
 -- bytes of the lines that are still to be called

@@ -19,7 +19,7 @@ returns-clause-write_reported g c =
     let called = c.answer_all-workers.ensures.write_reported in
     elim c.match-outcome.branch [
       | in-Ok w ↦
-          rw (w.outcome-is, w.writer-is) (writes_later g.W.RunOutput.went g.W.RunOutput.failed w.write_rest-outcome.result c.args.writer.now c.answer_all-workers.new.writer w.write_rest-outcome.new.writer
+          rw (w.outcome-is, w.writer-is) (writes_later g.W.Sink.went g.W.Sink.failed w.write_rest-outcome.result c.args.writer.now c.answer_all-workers.new.writer w.write_rest-outcome.new.writer
           (rw w.in-Ok.is at called) w.write_rest-outcome.ensures.write_reported)
       | in-Err w ↦ rw (w.outcome-is, w.writer-is) (rw w.in-Err.is at called)
     ]

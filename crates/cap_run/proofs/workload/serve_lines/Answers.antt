@@ -31,7 +31,7 @@ returns-in-Ok-closed-clause-written g c = λ input spelled is spells.
 pub returns-in-Err-clause-written : goal.returns-in-Err-clause-written
 returns-in-Err-clause-written g c = λ input spelled is spells.
     let last = map (λ w. w.seat) c.run_with_workers-workers.result.0.items in
-    subst (λ (r : Result (Unit {0}) RunFault). WritesWorkload g.row.A.Denot c.args.form c.args.threads input r (g.W.RunOutput.contents c.args.writer.now) (g.W.RunOutput.contents c.run_with_workers-workers.new.writer)) (sym c.outcome_unclosed.ensures.same)
+    subst (λ (r : Result (Unit {0}) RunFault). WritesWorkload g.row.A.Denot c.args.form c.args.threads input r (g.W.Sink.contents c.args.writer.now) (g.W.Sink.contents c.run_with_workers-workers.new.writer)) (sym c.outcome_unclosed.ensures.same)
     (served_unclosed c.args.form c.args.threads g.J.Naming.seats input spelled c.run_with_workers-workers.result.1 (map (λ w. w.seat) c.in-Ok-workers_of.workers.items) last c.take_seats.new.seats.items c.in-Err._unclosed.1.items c.in-Err._unclosed.2 _ _
     c.requires.threads.0 (sym c.requires.seats) is (c.in-Ok-workers_of.ensures.seats ∙ c.in-Ok.ensures) (c.take_seats.ensures.seats ∙ ap (λ (l : List (SeatState g.row.A.Denot)). l ++ last) c.in-Ok-with_capacity.ensures.items)
     (c.run_with_workers-workers.ensures.runs spelled spells) c.in-Err.ensures.refused)
@@ -39,4 +39,4 @@ returns-in-Err-clause-written g c = λ input spelled is spells.
 pub returns-in-Err-clause-write_reported : goal.returns-in-Err-clause-write_reported
 returns-in-Err-clause-write_reported g c =
     rw c.outcome_unclosed.ensures.same
-    (unclosed_reported g.W.RunOutput.went g.W.RunOutput.failed c.run_with_workers-workers.result.1 c.args.writer.now c.run_with_workers-workers.new.writer c.run_with_workers-workers.ensures.write_reported)
+    (unclosed_reported g.W.Sink.went g.W.Sink.failed c.run_with_workers-workers.result.1 c.args.writer.now c.run_with_workers-workers.new.writer c.run_with_workers-workers.ensures.write_reported)

@@ -37,8 +37,15 @@ ReportsRead gave failed (Ok count) old new = gave old new
 ReportsRead gave failed (Err error) old new =
     (error_kind error ≡ Interrupted → gave old new) × ((error_kind error ≡ Interrupted → ⊥) → failed old new)
 
--- a write of at least one byte fails where it answers an error or takes none
-abbrev pub ReportsWrite : {X E : Type 0} → (X → X → Type 0) → (X → X → Type 0) → Result ℕ E → X → X → Type 0
-ReportsWrite took failed (Ok zero) old new = failed old new
-ReportsWrite took failed (Ok (suc count)) old new = took old new
-ReportsWrite took failed (Err error) old new = failed old new
+-- a write of at least one byte fails where it takes none, or answers an error other than an interruption
+abbrev pub ReportsWrite : {X : Type 0} → (X → X → Type 0) → (X → X → Type 0) → Result ℕ Error → X → X → Type 0
+ReportsWrite went failed (Ok zero) old new = failed old new
+ReportsWrite went failed (Ok (suc count)) old new = went old new
+ReportsWrite went failed (Err error) old new =
+    (error_kind error ≡ Interrupted → went old new) × ((error_kind error ≡ Interrupted → ⊥) → failed old new)
+
+-- a flush fails where it answers an error
+abbrev pub ReportsFlush : {X : Type 0} → (X → X → Type 0) → (X → X → Type 0) → Result (Unit {0}) Error → X → X →
+    Type 0
+ReportsFlush went failed (Ok done) old new = went old new
+ReportsFlush went failed (Err error) old new = failed old new

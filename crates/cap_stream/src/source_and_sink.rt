@@ -1,14 +1,14 @@
-//! Readers and writers of blobs, with what contracts know of each call.
+//! Readers and writers, with what contracts know of each call.
 
 ghost use Rattle.std.specs.Prelude.{◌≤◌, ℕ, List, Option, length};
 ghost use Rattle.std.specs.Io.{ReadsAtMost, WritesAtMost};
-ghost use Rattle.std.specs.Io.KnownBytes.{ReadConsumes, WriteAppends};
-ghost use Rattle.cap_codec.specs.StreamCalls.{ReportsRead, ReportsWrite};
+ghost use Rattle.std.specs.Io.KnownBytes.{Keeps, ReadConsumes, WriteAppends};
+ghost use Rattle.cap_stream.specs.StreamCalls.{ReportsFlush, ReportsRead, ReportsWrite};
 
 use std::io;
 use std::io::{Read, Write};
 
-/// A reader of a blob. Each `Read` is one, of which no contract knows the outcome of a read; a reader whose
+/// A reader. Each `Read` is one, of which no contract knows the outcome of a read; a reader whose
 /// outcomes are known states them in `gave` and `failed`.
 pub trait Source {
     // The bytes that reads will give from here on, where they are known.
@@ -39,22 +39,29 @@ impl<R: Read> Source for R {
     }
 }
 
-/// A writer of a blob. Each `Write` is one, of which no contract knows the outcome of a write; a writer whose
-/// outcomes are known states them in `took` and `failed`.
+/// A writer. Each `Write` is one, of which no contract knows the outcome of a call; a writer whose outcomes are
+/// known states them in `went` and `failed`.
 pub trait Sink {
     // The bytes that the writer holds, where they are known.
     ghost contents: { Self → Option (List ℕ) };
-    // What is known of a write that took some bytes, by the states before and after it.
-    ghost took: { Self → Self → Type 0 };
-    // What is known of a write that failed.
+    // What is known of a write that took some bytes or was interrupted, and of a flush without an error, by
+    // the states before and after it.
+    ghost went: { Self → Self → Type 0 };
+    // What is known of a write or a flush that failed.
     ghost failed: { Self → Self → Type 0 };
 
-    /// One write of at least one byte, as `Write::write` makes it. An error, and 0 bytes, are a failed write.
+    /// One write of at least one byte, as `Write::write` makes it. An error other than an interruption, and 0
+    /// bytes, are a failed write.
     fn write_some(&mut self, bytes: &[u8]) -> io::Result<usize>
         requires { 1 ≤ length bytes.now }
         ensures bound { WritesAtMost result bytes.now }
         ensures bytes { WriteAppends (contents self.old) (contents self.new) result bytes.now }
-        ensures reported { ReportsWrite took failed result self.old self.new };
+        ensures reported { ReportsWrite went failed result self.old self.new };
+
+    /// One flush, as `Write::flush` makes it.
+    fn flush_all(&mut self) -> io::Result<()>
+        ensures bytes { Keeps (contents self.old) (contents self.new) }
+        ensures reported { ReportsFlush went failed result self.old self.new };
 }
 
 impl<W: Write> Sink for W {
@@ -62,11 +69,15 @@ impl<W: Write> Sink for W {
 
     ghost contents = { λ writer. W.Write.contents writer };
 
-    ghost took = { λ _ _. ⊤ };
+    ghost went = { λ _ _. ⊤ };
 
     ghost failed = { λ _ _. ⊤ };
 
     fn write_some(&mut self, bytes: &[u8]) -> io::Result<usize> {
         self.write(bytes)
+    }
+
+    fn flush_all(&mut self) -> io::Result<()> {
+        self.flush()
     }
 }

@@ -1,0 +1,2 @@
+pub mod StreamCalls
+pub mod Writing
