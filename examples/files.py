@@ -227,9 +227,9 @@ REFUSED = [
     ("run wrong", "wrong: ", "line 2: G1 Syntax at 0"),
 ]
 # What is expected where a line begins.
-COMMANDS = ("expected create commit commitat apply applyquiet get scan save dropdatabase attach enable indirect diff "
-            "changeset patchset restart dump insert update delete cascade rollback drop attachall filter isempty "
-            "session sessions databases tables begin savepoint end @")
+COMMANDS = ("expected create commit commitat apply applyquiet applyeach get scan save dropdatabase attach enable indirect diff "
+            "changeset patchset restart dump insert update delete cascade rollback put drop attachall filter "
+            "isempty session sessions databases tables begin savepoint end omit replace abort @")
 # What is said on standard error beside the replies: the words of a command, its standard input, what it prints there
 # and on standard error, and its status.
 EXPLAINED = [

@@ -78,11 +78,12 @@ def rows_text(members):
     return "\n".join([f"rows {len(rows)}", *rows])
 
 
-def applied_text(members, command):
+def applied_text(members, command, state):
     version, applied = members.number("version"), members.number("applied")
     conflicts = members.objects("conflicts")
     omitted, skipped = members.take("omitted", list), members.take("skipped", list)
     command, has_filter, _ = command.partition(" filter ")
+    has_filter = has_filter or state.is_applying and state.has_filter
     passed = f", passed {members.number('passed')}" if has_filter else ""
     lines = [f"ok version {version}, applied {applied}, omitted {len(omitted)}, skipped {len(skipped)}{passed}"]
     if command.rstrip(" ").endswith(" report"):
@@ -93,6 +94,67 @@ def applied_text(members, command):
         lines.append("buffer none" if is_none else f"buffer {members.text('buffer') or '-'}")
         members.left = members.left[1:] if is_none else members.left
     return "\n".join(lines)
+
+
+def change_text(change, columns, is_patchset):
+    """The lines of a change as it is shown: its group's, with these columns, and its own."""
+    names = [f"c{place}" for place in range(len(columns))]
+    if change["key"] != [name for name, letter in zip(names, columns) if letter == "k"]:
+        raise ValueError(f"{change['key']!r} is no key of {columns}")
+    parts = []
+    for side in ("old", "new"):
+        if side not in change:
+            continue
+        fields = {name: dict(value) if isinstance(value, list) else value for name, value in change[side]}
+        shown = [value_text(fields[name]) if name in fields else "-" for name in names]
+        if is_patchset and change["op"] == "delete":
+            shown = [text for text in shown if text != "-"]
+        of_side = f"{side} " if change["op"] == "update" and not is_patchset else ""
+        parts.append(f"{of_side}({','.join(shown)})")
+    flag = "indirect" if change["indirect"] else "direct"
+    return f"group {change['table']} {columns}\n{change['op']} {flag} {' '.join(parts)}"
+
+
+def conflict_text(members, state):
+    number, kind = members.number("change"), members.text("kind")
+    change = dict(members.take("content", list))
+    shown = change_text(change, state.columns[change["table"]], state.is_patchset)
+    return f"conflict {number} {kind}\n{shown}\n{found_text(members)}"
+
+
+def found_text(members):
+    if members.left == [("row", None)]:
+        members.left = []
+        return "no row"
+    return f"row {row_text(members.row(members.take('row', list)))}"
+
+
+class State:
+    """What the lines before have led to, as far as a reply's text depends on it: whether a transaction is open, the
+    application that is, and the columns of each table that was made."""
+
+    def __init__(self):
+        self.is_open, self.has_filter, self.is_applying, self.is_patchset, self.columns = False, False, False, False, {}
+
+    def reach(self, command):
+        """Goes before a line."""
+        if command.split()[0] == "applyeach" and not self.is_open and not self.is_applying:
+            self.has_filter = re.search("'.*filter", command) is not None
+            self.is_patchset = re.search("x'50", command) is not None
+
+    def follow(self, command, text):
+        """Goes behind a line with this reply."""
+        words = command.split()
+        if words[0] == "create" and text.startswith("ok"):
+            self.columns[words[1]] = words[2]
+        if words[0] == "begin" and text == "ok":
+            self.is_open = True
+        if words[0] == "applyeach" and not text.startswith("refused"):
+            self.is_applying = True
+        if words in (["rollback"], ["end"]) and text != "refused: E24 Unanswered":
+            self.is_open = self.is_applying = False
+        if words[0] in ("abort", "replace") and text.startswith("refused at"):
+            self.is_applying = False
 
 
 def name_text(name):
@@ -129,13 +191,17 @@ def refused_text(members):
     return f"refused{at}: {refusal}{more}{members.optional('item', ' item ')}"
 
 
-def text_of(members, command, is_open):
+def text_of(members, command, state):
     """The text of a reply to a command. What is read in a transaction that is open has no version."""
     kind = members.text("reply")
     if kind == "done":
         return "ok"
     if kind == "applied":
-        return applied_text(members, command)
+        return applied_text(members, command, state)
+    if kind == "conflict":
+        return conflict_text(members, state)
+    if kind == "noconflict":
+        return "no conflict"
     if kind == "session":
         return f"session {members.number('session')}"
     if kind == "databases":
@@ -151,7 +217,7 @@ def text_of(members, command, is_open):
         return refused_text(members)
     if kind == "savepoint":
         return f"savepoint {members.number('savepoint')}"
-    version = members.number("version") if kind not in ("row", "rows") or not is_open else None
+    version = members.number("version") if kind not in ("row", "rows") or not state.is_open else None
     if kind == "written":
         return f"ok version {version}"
     if kind in ("changeset", "patchset"):
@@ -160,15 +226,12 @@ def text_of(members, command, is_open):
         return rows_text(members)
     if kind != "row":
         raise ValueError(f"no reply: {members.line}")
-    if members.left == [("row", None)]:
-        members.left = []
-        return "no row"
-    return f"row {row_text(members.row(members.take('row', list)))}"
+    return found_text(members)
 
 
 def replies(workload, printed):
     """The text of each reply, and of the fault at which the run ended, if any."""
-    lines, texts, is_open = printed.removesuffix("\n").split("\n"), [], False
+    lines, texts, state = printed.removesuffix("\n").split("\n"), [], State()
     for line, (number, worker, command) in zip(lines, commands_of(workload)):
         members = Members(line)
         if members.has("fault"):
@@ -179,9 +242,9 @@ def replies(workload, printed):
         if members.has("worker") != (worker is not None) or worker not in (None, members.left[0][1]):
             raise ValueError(f"not of worker {worker}: {line}")
         members.left = members.left[worker is not None:]
-        texts.append(text_of(members, command, is_open))
-        begins, ends = command.strip(" ") == "begin", command.strip(" ") in ("rollback", "end")
-        is_open = (is_open or begins and texts[-1] == "ok") and not ends
+        state.reach(command)
+        texts.append(text_of(members, command, state))
+        state.follow(command, texts[-1])
         if members.left:
             raise ValueError(f"more than the text has: {line}")
     if len(texts) != len(lines):

@@ -28,8 +28,8 @@ Nothing runs before the end of the input, except in `changecap shell`, which run
 What is refused has a code. G1 Syntax, G2 (a limit, with its E) and G3 (a blob, with its D) are of a line
 of a workload, and have its number. D1 Truncated, D2 BadHeader, D3 BadVarint, D4 BadName, D5 BadOp, D6
 BadField, D7 Real, D8 BadText, D9 BadRecord and D10 Mixed are of the bytes of a blob. E1 to E20 are of a
-command, as E5 Duplicate, and E21 and E22 of a line that fits no open transaction or needs none; the refusal
-is its reply, and the next line runs.
+command, as E5 Duplicate, and E21 to E25 of a line that does not fit the transaction or the application
+that is open, or that none is; the refusal is its reply, and the next line runs.
 
 The exit status is 0 where the input was run or printed, 1 where it is refused, 2 where the command line
 is, and 3 where memory ran out or a read or a write failed. With -v a line on standard error then says what
@@ -156,6 +156,11 @@ Changes:
                       apply x'5402..' omit omit replace report filter is t
   applyquiet S,.. ..  the same, of which the sessions S,.. record nothing:
                       applyquiet 1,2 x'5402..' omit omit replace
+  applyeach x'..'     stop at each conflict and show it, in a shell and without --threads; with
+                      filter F at its end, of these tables: applyeach x'5402..'
+  omit replace abort  answer the conflict, and go on to the next one
+  put (V,..)          let this row stand there instead: put (1,'both'); end then commits the
+                      application, and rollback undoes it
 
 OP is insert T (V,..), update T REF set I = V , .. or delete T REF; cascade before it marks it as
 indirect. REF is key(V,..), or loose N for the row without a key that has the number N. V is null, 1,

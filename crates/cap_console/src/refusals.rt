@@ -1,7 +1,7 @@
 //! What each refusal of a command means.
 
 // The number and the name of each refusal, and a sentence.
-pub(crate) static REFUSALS: [(&str, &str); 22] = [
+pub(crate) static REFUSALS: [(&str, &str); 25] = [
     (
         "E1 TooLong",
         "a text or a blob has more than 1,000,000,000 bytes",
@@ -65,7 +65,22 @@ pub(crate) static REFUSALS: [(&str, &str); 22] = [
         "E21 NoTransaction",
         "no transaction is open; begin opens one, but not on several threads",
     ),
-    ("E22 InTransaction", "a transaction is open already"),
+    (
+        "E22 InTransaction",
+        "a transaction or an application is open already",
+    ),
+    (
+        "E23 NoConflict",
+        "no application stands at a conflict; applyeach opens one, but not on several threads",
+    ),
+    (
+        "E24 Unanswered",
+        "the application stands at a conflict, which omit, replace, abort or put answers",
+    ),
+    (
+        "E25 OtherKey",
+        "the row has another key than the change in whose place it is put",
+    ),
 ];
 
 // What is said of the refusal that this text names: its number and name, and a sentence.

@@ -14,12 +14,11 @@ use Rattle.cap_script.specs.Script.{is_ignored}
 use Rattle.cap_script.specs.declared.fault.ScriptFault.{ScriptFault}
 use Rattle.cap_script.specs.declared.fault.ScriptFault.TheVariants.{Syntax}
 
--- the words of steps, rows, flags, captures, applications and values, and those of filters
+-- the words of steps, rows, flags, captures, applications and values, and those of filters, that begin no command
 abbrev pub inner_words : List (List ℕ)
 inner_words =
     codes "to" ∷ codes "key" ∷ codes "loose"
-    ∷ codes "set" ∷ codes "on" ∷ codes "off" ∷ codes "ask" ∷ codes "places" ∷ codes "omit" ∷ codes "replace"
-    ∷ codes "abort" ∷ codes "report" ∷ codes "buffer" ∷ codes "null" ∷ codes "all" ∷ codes "nothing"
+    ∷ codes "set" ∷ codes "on" ∷ codes "off" ∷ codes "ask" ∷ codes "places" ∷ codes "report" ∷ codes "buffer" ∷ codes "null" ∷ codes "all" ∷ codes "nothing"
     ∷ codes "is" ∷ codes "starts" ∷ codes "ends" ∷ codes "not" ∷ codes "and" ∷ codes "or" ∷ []
 
 abbrev pub signs : List (List ℕ)

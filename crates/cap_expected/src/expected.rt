@@ -9,12 +9,13 @@ use cap_language::after_blanks;
 use cap_script::{ScriptFault, a_line_without_fault, read_line};
 use cap_value::{AllocHandle, Fault, OutOfMemory};
 
-const COMMAND_WORDS: [&str; 33] = [
+const COMMAND_WORDS: [&str; 38] = [
     "create",
     "commit",
     "commitat",
     "apply",
     "applyquiet",
+    "applyeach",
     "get",
     "scan",
     "save",
@@ -32,6 +33,7 @@ const COMMAND_WORDS: [&str; 33] = [
     "delete",
     "cascade",
     "rollback",
+    "put",
     "drop",
     "attachall",
     "filter",
@@ -43,11 +45,14 @@ const COMMAND_WORDS: [&str; 33] = [
     "begin",
     "savepoint",
     "end",
+    "omit",
+    "replace",
+    "abort",
 ];
 
-const INNER_WORDS: [&str; 22] = [
-    "to", "key", "loose", "set", "on", "off", "ask", "places", "omit", "replace", "abort",
-    "report", "buffer", "null", "all", "nothing", "is", "starts", "ends", "not", "and", "or",
+const INNER_WORDS: [&str; 19] = [
+    "to", "key", "loose", "set", "on", "off", "ask", "places", "report", "buffer", "null", "all",
+    "nothing", "is", "starts", "ends", "not", "and", "or",
 ];
 
 const SIGNS: [&str; 6] = ["(", ")", ",", ";", "=", "@"];
@@ -120,7 +125,7 @@ fn list_first_words<A: AllocHandle>(
 ) -> Result<(), OutOfMemory>
     ensures { OnOk result (string_bytes out.new ≡ string_bytes out.old ++ first_words A before.now) }
 {
-    let words: [&str; 33] = COMMAND_WORDS;
+    let words: [&str; 38] = COMMAND_WORDS;
     list_among(alloc, before, words.as_slice(), out)
 }
 
@@ -132,7 +137,7 @@ fn list_later_words<A: AllocHandle>(
 ) -> Result<(), OutOfMemory>
     ensures { OnOk result (string_bytes out.new ≡ string_bytes out.old ++ later_words A before.now) }
 {
-    let words: [&str; 22] = INNER_WORDS;
+    let words: [&str; 19] = INNER_WORDS;
     list_among(alloc, before, words.as_slice(), out)
 }
 

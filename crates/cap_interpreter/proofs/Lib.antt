@@ -1,2 +1,5 @@
+mod ApplyingLemmas
+mod LedLemmas
 mod LineLemmas
 mod OpenLemmas
+mod StopLemmas

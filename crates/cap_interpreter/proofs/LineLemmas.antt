@@ -1,5 +1,5 @@
 -- What a line that carries out a command makes of a course.
-use Rattle.std.proofs.Common.{◌≡◌, ℕ, ◌+◌, ◌≤◌, true, false, List, [], ◌∷◌, ◌++◌, Option, None, Some, Result, Ok, Err, length, refl, sym, ap, subst, ◌∙◌, length-append, arith}
+use Rattle.std.proofs.Common.{◌≡◌, ℕ, ◌≤◌, true, false, List, [], ◌∷◌, ◌++◌, Option, None, Some, Result, Ok, Err, length, refl, sym, ap, subst, ◌∙◌, length-append, arith}
 use Rattle.std.specs.Prelude.{IfErr, IfOk, MatchResult, OnErr, OnOk, is_some}
 use Rattle.std.proofs.lemmas.Bool.{false≢true}
 use Rattle.std.proofs.lemmas.List.{reverse-append, length-reverse}
@@ -24,9 +24,12 @@ use Rattle.cap_replies.specs.Printed.{reply_text}
 use Rattle.cap_replies.specs.declared.outcome.Outcome.TheVariants as outcome
 use Rattle.cap_replies.specs.declared.run_line.RunLine.{RunLine}
 use Rattle.cap_interpreter.specs.Calls.{IsCalled}
-use Rattle.cap_interpreter.specs.Code.Runs.{FaultIs, Ran, holding}
+use Rattle.cap_interpreter.specs.Code.Runs.{Did, FaultIs, Ran, holding}
 use Rattle.cap_interpreter.specs.Interpreter.{InterpreterState}
-use Rattle.cap_interpreter.specs.Lines.{Course, Deed, IsAt, IsFull, after, after_line, command_of, deed, deed_text, deed_within, events_max, history_with, on_a_line, text_of, txn_after}
+use Rattle.cap_interpreter.specs.Application.{ApplicationState}
+use Rattle.cap_interpreter.specs.declared.held.Open.{Open}
+use Rattle.cap_interpreter.specs.declared.held.Open.TheVariants.{Transaction}
+use Rattle.cap_interpreter.specs.Lines.{Course, Deed, IsAt, IsFull, after, after_line, command_of, deed, deed_applying, deed_text, deed_within, events_max, history_with, on_a_line, text_of, txn_after}
 use Rattle.cap_interpreter.specs.Lines.Deed.{Call, Serve}
 
 module _ {A : Type 0} where
@@ -78,7 +81,7 @@ module _ {A : Type 0} where
       → new.txn ≡ txn_after course does → printed ≡ before ++ on_a_line (deed_text line course.history does)
       → IsAt (after_line course line) new × (printed ≡ before ++ on_a_line (text_of course line))
   led course line does command old new before printed at is one fits room core txn text =
-      let here : does ≡ deed course.txn line.line = sym is ∙ ap (λ (t : Option (TxnState A)). deed t line.line) at.txn in
+      let here : does ≡ deed course.txn line.line = sym is ∙ ap (λ (t : Option (Open A)). deed t line.line) at.txn in
       subst (λ (d : Deed A). IsAt (after course d) new × (printed ≡ before ++ on_a_line (deed_text line course.history d))) here
       (at_command course does command old new at one fits room core txn, text)
 
@@ -87,7 +90,7 @@ module _ {A : Type 0} where
       → new.core ≡ old.core → new.txn ≡ txn_after course does → printed ≡ before ++ on_a_line (deed_text line course.history does)
       → IsAt (after_line course line) new × (printed ≡ before ++ on_a_line (text_of course line))
   told course line does old new before printed at is none core txn text =
-      let here : does ≡ deed course.txn line.line = sym is ∙ ap (λ (t : Option (TxnState A)). deed t line.line) at.txn in
+      let here : does ≡ deed course.txn line.line = sym is ∙ ap (λ (t : Option (Open A)). deed t line.line) at.txn in
       let same : course.history ≡ history_with course.history (command_of does) = sym (ap (history_with course.history) none) in
       subst (λ (d : Deed A). IsAt (after course d) new × (printed ≡ before ++ on_a_line (deed_text line course.history d))) here (
         record {
@@ -118,8 +121,8 @@ module _ {A : Type 0} where
   fault_of line old does command HistoryFull is one met = is_full line old does command is one met
 
   -- a line that carries out a command
-  pub ran_command : (line : RunLine A) (old : InterpreterState A) (does : Deed A) (command : Command A) (core : State A) (txn : Option (TxnState A)) (text : List (Event A) → List ℕ)
-      (result : Result (Option (TxnState A)) CallFault) (before printed : List ℕ) → deed old.txn line.line ≡ does → command_of does ≡ Some command → BlobFits command
+  pub ran_command : (line : RunLine A) (old : InterpreterState A) (does : Deed A) (command : Command A) (core : State A) (txn : Option (Open A)) (text : List (Event A) → List ℕ)
+      (result : Result (Option (Open A)) CallFault) (before printed : List ℕ) → deed old.txn line.line ≡ does → command_of does ≡ Some command → BlobFits command
       → ((course : Course A) → IsAt course old → txn ≡ txn_after course does) → ((h : List (Event A)) → text h ≡ deed_text line h does)
       → ((h : List (Event A)) → IsLegal h → state h ≡ old.core → OnOk result ((core ≡ state (h ++ event_by 0 command (reply_of h command) ∷ [])) × (printed ≡ before ++ on_a_line (text h))))
       → IfOk result (λ left. left ≡ txn) → OnOk result (HasRoom old.core.events) → IfErr result (λ fault. FaultIs fault (events_max ≤ old.core.events))
@@ -134,7 +137,7 @@ module _ {A : Type 0} where
       (unchanged, same, fault_of line old does command why is one fault)
 
   -- a line that carries out none
-  pub ran_none : (line : RunLine A) (old : InterpreterState A) (does : Deed A) (txn : Option (TxnState A)) (text : List ℕ) (result : Result (Option (TxnState A)) CallFault) (before printed : List ℕ)
+  pub ran_none : (line : RunLine A) (old : InterpreterState A) (does : Deed A) (txn : Option (Open A)) (text : List ℕ) (result : Result (Option (Open A)) CallFault) (before printed : List ℕ)
       → deed old.txn line.line ≡ does → command_of does ≡ None → ((course : Course A) → IsAt course old → txn ≡ txn_after course does) → ((h : List (Event A)) → text ≡ deed_text line h does)
       → IfOk result (λ left. left ≡ txn) → OnOk result (printed ≡ before ++ on_a_line text) → IfErr result (λ fault. fault ≡ OutOfMemory) → OnErr result (printed ≡ before)
       → Ran line old old.core result before printed
@@ -146,16 +149,16 @@ module _ {A : Type 0} where
       (refl, same, subst (λ (f : CallFault). FaultIs f (IsFull old line)) (sym memory) (not_full line old does is none))
 
   -- a line that makes a call
-  pub ran_call : {E : Type 0} (line : RunLine A) (core : State A) (txn left : TxnState A) (asked : Asked A) (answered : Result (Answer A) E) (result : Result (Option (TxnState A)) CallFault) (before printed : List ℕ)
-      → deed (Some txn) line.line ≡ Call txn asked → IfOk answered (λ answer. IsCalled txn asked answer left) → IfOk result (λ l. l ≡ Some left)
+  pub ran_call : {E : Type 0} (line : RunLine A) (core : State A) (txn left : TxnState A) (asked : Asked A) (answered : Result (Answer A) E) (result : Result (Option (Open A)) CallFault) (before printed : List ℕ)
+      → deed (Some (Transaction txn)) line.line ≡ Call txn asked → IfOk answered (λ answer. IsCalled txn asked answer left) → IfOk result (λ l. l ≡ Some (Transaction left))
       → OnOk result (MatchResult answered (λ answer. printed ≡ before ++ on_a_line (outcome_text line (outcome.Answer answer))) (λ e. ⊥)) → IfErr result (λ fault. fault ≡ OutOfMemory) → OnErr result (printed ≡ before)
-      → Ran line (holding core (Some txn)) core result before printed
+      → Ran line (holding core (Some (Transaction txn))) core result before printed
   ran_call line core txn left asked (Ok answer) result before printed is called is_left wrote memory same =
-      ran_none line (holding core (Some txn)) (Call txn asked) (Some left) (outcome_text line (outcome.Answer answer)) result before printed is refl (λ course at. ap Some called.1)
+      ran_none line (holding core (Some (Transaction txn))) (Call txn asked) (Some (Transaction left)) (outcome_text line (outcome.Answer answer)) result before printed is refl (λ course at. ap (λ (t : TxnState A). Some (Transaction t)) called.1)
       (λ h. ap (λ (a : Answer A). outcome_text line (outcome.Answer a)) called.0) is_left wrote memory same
   ran_call line core txn left asked (Err e) (Ok l) before printed is called is_left wrote memory same = absurd wrote
   ran_call line core txn left asked (Err e) (Err why) before printed is called is_left wrote memory same =
-      (refl, same, subst (λ (f : CallFault). FaultIs f (IsFull (holding core (Some txn)) line)) (sym memory) (not_full line (holding core (Some txn)) (Call txn asked) is refl))
+      (refl, same, subst (λ (f : CallFault). FaultIs f (IsFull (holding core (Some (Transaction txn))) line)) (sym memory) (not_full line (holding core (Some (Transaction txn))) (Call txn asked) is refl))
 
   -- a line that is no read and no step, where a transaction is open
   pub serves_within : (txn : TxnState A) (how : Show A) (command : Command A) → ((table : List ℕ) (row : RowRef A) → how ≡ show.Get table row → ⊥) → ((table : List ℕ) → how ≡ show.Scan table → ⊥)
@@ -169,3 +172,35 @@ module _ {A : Type 0} where
   serves_within txn show.Report command get scan step = refl
   serves_within txn show.Buffer command get scan step = refl
   serves_within txn (show.Accepted detail numbers) command get scan step = refl
+  serves_within txn (show.Decided report passed) command get scan step = refl
+
+  -- a line that is no step, where an application is open
+  pub serves_applying : (app : ApplicationState A) (how : Show A) (command : Command A) → ((step : Step A) → how ≡ show.Step step → ⊥) → deed_applying app how command ≡ Serve command
+  serves_applying app show.Plain command step = refl
+  serves_applying app (show.Get table row) command step = refl
+  serves_applying app (show.Scan table) command step = refl
+  serves_applying app (show.Step s) command step = absurd (step s refl)
+  serves_applying app (show.Changeset flags) command step = refl
+  serves_applying app (show.Patchset flags) command step = refl
+  serves_applying app show.Report command step = refl
+  serves_applying app show.Buffer command step = refl
+  serves_applying app (show.Accepted detail numbers) command step = refl
+  serves_applying app (show.Decided report passed) command step = refl
+
+  -- what a line did that carries out none
+  pub did : (line : RunLine A) (does : Deed A) (held stays : Option (Open A)) (text : List ℕ) (result : Result (Option (Open A)) CallFault) (before printed : List ℕ)
+      → command_of does ≡ None → ((course : Course A) → course.txn ≡ held → stays ≡ txn_after course does) → ((h : List (Event A)) → text ≡ deed_text line h does)
+      → IfOk result (λ left. left ≡ stays) → OnOk result (printed ≡ before ++ on_a_line text) → IfErr result (λ fault. fault ≡ OutOfMemory) → OnErr result (printed ≡ before)
+      → Did line does held result before printed
+  did line does held stays text (Ok left) before printed none opens shows is_left wrote memory same =
+      (none, (λ course is. is_left ∙ opens course is), (λ h. wrote ∙ ap (λ (t : List ℕ). before ++ on_a_line t) (shows h)))
+  did line does held stays text (Err why) before printed none opens shows is_left wrote memory same = (none, memory, same)
+
+  pub ran_did : (line : RunLine A) (old : InterpreterState A) (does : Deed A) (result : Result (Option (Open A)) CallFault) (before printed : List ℕ)
+      → deed old.txn line.line ≡ does → Did line does old.txn result before printed → Ran line old old.core result before printed
+  ran_did line old does (Ok left) before printed is run = (
+    not_full line old does is run.0,
+    λ course at. told course line does old (holding old.core left) before printed at is run.0 refl (run.1 course (sym at.txn)) (run.2 course.history),
+  )
+  ran_did line old does (Err why) before printed is run =
+      (refl, run.2, subst (λ (f : CallFault). FaultIs f (IsFull old line)) (sym run.1) (not_full line old does is run.0))

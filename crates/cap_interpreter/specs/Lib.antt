@@ -1,3 +1,4 @@
+pub mod Application
 pub mod Calls
 pub mod Code
 pub mod Interpreter

@@ -4,19 +4,20 @@ ghost use Rattle.cap_locked.specs.Fault.{MatchCallFault};
 ghost use Rattle.cap_interpreter.specs.Lines.{Course, IsAt, IsFull, after_line, begin_course, on_a_line};
 ghost use Rattle.cap_interpreter.specs.Lines.{text_of};
 
-use crate::lines::{run_alone, run_within};
+use crate::held::Open;
+use crate::lines::{run_alone, run_open};
 use cap_core::{Core, fitting_histories_grow, legal_histories_grow};
 use cap_locked::CallFault;
 use cap_replies::RunLine;
-use cap_txn::Txn;
 use cap_value::AllocHandle;
 use std::marker::Model;
 
-/// Runs lines one after the other: on the sequential server, and in the transaction that is open.
+/// Runs lines one after the other: on the sequential server, and in the transaction or the application that is
+/// open.
 #[derive(Drop)]
 pub struct Interpreter<A: AllocHandle> {
     core: Core<A>,
-    txn: Option<Txn<A>>,
+    txn: Option<Open<A>>,
 }
 
 impl<A: AllocHandle> Model for Interpreter<A> {
@@ -32,7 +33,7 @@ impl<A: AllocHandle> Model for Interpreter<A> {
 }
 
 impl<A: AllocHandle> Interpreter<A> {
-    /// An empty server, and no open transaction.
+    /// An empty server, and nothing that is open.
     pub fn new(alloc: A) -> Self
         ensures { IsAt begin_course result }
     {
@@ -54,7 +55,7 @@ impl<A: AllocHandle> Interpreter<A> {
     /// Runs a line. Its reply is made in `made`, whose content is dropped, and appended to `output`, as a line.
     ///
     /// A command of the server takes effect once its reply is made: a line without a reply has no event. On an
-    /// error the open transaction is undone, as SQLite may undo one where it is out of memory (SQL As
+    /// error what is open is undone, as SQLite may undo a transaction where it is out of memory (SQL As
     /// Understood By SQLite, "Transactions").
     pub fn run(
         &mut self,
@@ -81,7 +82,7 @@ impl<A: AllocHandle> Interpreter<A> {
                 }
                 Err(fault) => Err(fault),
             },
-            Some(txn) => match run_within(alloc, &mut self.core, txn, line, made, output) {
+            Some(held) => match run_open(alloc, &mut self.core, held, line, made, output) {
                 Ok(txn) => {
                     self.txn = txn;
                     Ok(())

@@ -1,5 +1,5 @@
 //! Laws of lines, over the definitions alone. The functions do nothing.
-ghost use Rattle.std.specs.Prelude.{◌≡◌, ◌++◌, ◌∷◌, [], List, None, Some, false};
+ghost use Rattle.std.specs.Prelude.{◌≡◌, ◌++◌, ◌∷◌, [], List, None, Ok, Some, false};
 ghost use Rattle.cap_txn.specs.Transaction.{TxnState, batch_of, seen_of};
 ghost use Rattle.cap_core.specs.Answer.{event_by, reply_of, snapshot_of, state};
 ghost use Rattle.cap_core.specs.Commit.{CommitsIfUnchanged};
@@ -7,9 +7,12 @@ ghost use Rattle.cap_core.specs.Table.{BlobsFit};
 ghost use Rattle.cap_core.specs.declared.command.Command.{Command};
 ghost use Rattle.cap_replies.specs.Printed.{reply_text};
 ghost use Rattle.cap_replies.specs.declared.run_line.RunLine.{RunLine};
-ghost use Rattle.cap_interpreter.specs.Lines.{Course, IsOn, after_line, after_lines, begin_course};
+ghost use Rattle.cap_interpreter.specs.Application.{ApplicationState, transaction_left};
+ghost use Rattle.cap_interpreter.specs.declared.held.Open.{Open};
+ghost use Rattle.cap_interpreter.specs.Lines.{Course, IsApplying, IsOn, after_line, after_lines, begin_course};
 ghost use Rattle.cap_interpreter.specs.Lines.{is_step, text_of};
 
+use cap_applier::applications_keep_to_the_rows_that_they_look_at;
 use cap_core::{
     fitting_histories_grow, legal_histories_grow, rows_stand_under_own_keys,
     transactions_commit_if_unchanged,
@@ -17,7 +20,7 @@ use cap_core::{
 use cap_txn::transactions_are_traced;
 use cap_value::AllocHandle;
 
-/// Where no transaction is open, a line that is no step of one is its command of the server: it is one event,
+/// Where nothing is open, a line that is no step is its command of the server: it is one event,
 /// and its reply is that command's. So lines without a step are the commands of the sequential server.
 pub fn lines_without_steps_are_commands<A: AllocHandle>()
     ensures event { (course : Course A) (line : RunLine A) → course.txn ≡ None
@@ -38,16 +41,39 @@ pub fn lines_without_steps_are_commands<A: AllocHandle>()
 pub fn transactions_of_lines_commit_if_unchanged<A: AllocHandle>()
     ensures base { (lines : List (RunLine A)) (txn : TxnState A) →
         let course = after_lines begin_course lines in
-        course.txn ≡ Some txn → IsOn course.history txn }
+        course.txn ≡ Some (Open.Transaction txn) → IsOn course.history txn }
     ensures commit { (lines : List (RunLine A)) (txn : TxnState A) →
         let course = after_lines begin_course lines in
-        course.txn ≡ Some txn → BlobsFit course.history
+        course.txn ≡ Some (Open.Transaction txn) → BlobsFit course.history
+        → CommitsIfUnchanged (snapshot_of (state course.history))
+        (reply_of course.history (Command.Commit (batch_of txn)))
+        txn.standing.base.version (seen_of txn) }
+{
+    transactions_are_traced::<A>();
+    applications_keep_to_the_rows_that_they_look_at::<A>();
+    transactions_commit_if_unchanged::<A>();
+    rows_stand_under_own_keys::<A>();
+    fitting_histories_grow::<A>();
+    legal_histories_grow::<A>();
+}
+
+/// After any lines, the application that is open is on a snapshot of a beginning of the history, and changes none
+/// but the rows that it looks at. Its commit is accepted exactly where none of them has changed since; else the
+/// refusal names the first item that has changed.
+pub fn applications_of_lines_commit_if_unchanged<A: AllocHandle>()
+    ensures keeps { (lines : List (RunLine A)) (app : ApplicationState A) →
+        let course = after_lines begin_course lines in
+        course.txn ≡ Some (Open.Application app) → IsApplying course.history app }
+    ensures commit { (lines : List (RunLine A)) (app : ApplicationState A) (txn : TxnState A) →
+        let course = after_lines begin_course lines in
+        course.txn ≡ Some (Open.Application app) → transaction_left app ≡ Ok txn → BlobsFit course.history
         → CommitsIfUnchanged (snapshot_of (state course.history))
         (reply_of course.history (Command.Commit (batch_of txn)))
         txn.standing.base.version (seen_of txn) }
 {
     transactions_are_traced::<A>();
     transactions_commit_if_unchanged::<A>();
+    applications_keep_to_the_rows_that_they_look_at::<A>();
     rows_stand_under_own_keys::<A>();
     fitting_histories_grow::<A>();
     legal_histories_grow::<A>();

@@ -1,4 +1,4 @@
-//! One line, where no transaction is open and where one is.
+//! One line, where nothing is open and where a transaction is.
 ghost use Rattle.std.specs.Prelude.{◌≡◌, ◌++◌, None, Some, Ok, Err, MatchResult, IfOk, IfErr, OnOk, OnErr};
 ghost use Rattle.std.specs.Prelude.{string_bytes};
 ghost use Rattle.cap_script.specs.declared.line.Show.{Show};
@@ -7,9 +7,12 @@ ghost use Rattle.cap_replies.specs.declared.outcome.Outcome.{Outcome};
 ghost use Rattle.cap_interpreter.specs.Code.Runs.{Ran, holding};
 ghost use Rattle.cap_interpreter.specs.Lines.{deed, on_a_line};
 ghost use Rattle.cap_interpreter.specs.Lines.Deed.{Serve};
+ghost use Rattle.cap_interpreter.specs.declared.held.Open.{Open};
 
+use crate::applying::run_applying;
 use crate::calls::{call, get, scan};
-use crate::commands::{begin, serve};
+use crate::commands::{apply_each, begin, serve};
+use crate::held::Open;
 use crate::printed::print;
 use cap_core::{Command, Core};
 use cap_locked::CallFault;
@@ -18,14 +21,14 @@ use cap_script::{Show, Step};
 use cap_txn::{Answer, Txn};
 use cap_value::{AllocHandle, OutOfMemory};
 
-// Runs a line where no transaction is open. The answer is the one that is open after it.
+// Runs a line where nothing is open. The answer is what is open after it.
 pub(crate) fn run_alone<A: AllocHandle>(
     alloc: A,
     core: &mut Core<A>,
     line: &RunLine<A>,
     made: &mut String<A>,
     output: &mut String<A>,
-) -> Result<Option<Txn<A>>, CallFault>
+) -> Result<Option<Open<A>>, CallFault>
     ensures { Ran line.now (holding core.old None) core.new result
         (string_bytes output.old) (string_bytes output.new) }
 {
@@ -35,7 +38,7 @@ pub(crate) fn run_alone<A: AllocHandle>(
     }
 }
 
-// Runs a step where no transaction is open.
+// Runs a step where nothing is open.
 fn step_alone<A: AllocHandle>(
     alloc: A,
     core: &mut Core<A>,
@@ -43,27 +46,50 @@ fn step_alone<A: AllocHandle>(
     line: &RunLine<A>,
     made: &mut String<A>,
     output: &mut String<A>,
-) -> Result<Option<Txn<A>>, CallFault>
+) -> Result<Option<Open<A>>, CallFault>
     requires step { line.now.line.show ≡ Show.Step step.now }
     ensures { Ran line.now (holding core.old None) core.new result
         (string_bytes output.old) (string_bytes output.new) }
 {
     match step {
         Step::Begin => begin(alloc, core, line, made, output),
+        Step::ApplyEach(blob, filter) => {
+            apply_each(alloc, core, blob, filter, line, made, output)
+        }
+        Step::Answer(_) => tell(alloc, None, &Outcome::NoConflict, line, made, output),
+        Step::Put(_) => tell(alloc, None, &Outcome::NoConflict, line, made, output),
         _ => tell(alloc, None, &Outcome::NoTransaction, line, made, output),
     }
 }
 
-// Runs a line where this transaction is open. The answer is the one that is open after it.
-pub(crate) fn run_within<A: AllocHandle>(
+// Runs a line where this is open. The answer is what is open after it.
+pub(crate) fn run_open<A: AllocHandle>(
+    alloc: A,
+    core: &mut Core<A>,
+    held: Open<A>,
+    line: &RunLine<A>,
+    made: &mut String<A>,
+    output: &mut String<A>,
+) -> Result<Option<Open<A>>, CallFault>
+    ensures { Ran line.now (holding core.old (Some held)) core.new result
+        (string_bytes output.old) (string_bytes output.new) }
+{
+    match held {
+        Open::Transaction(txn) => run_within(alloc, core, txn, line, made, output),
+        Open::Application(app) => run_applying(alloc, core, app, line, made, output),
+    }
+}
+
+// Runs a line where this transaction is open. The answer is what is open after it.
+fn run_within<A: AllocHandle>(
     alloc: A,
     core: &mut Core<A>,
     txn: Txn<A>,
     line: &RunLine<A>,
     made: &mut String<A>,
     output: &mut String<A>,
-) -> Result<Option<Txn<A>>, CallFault>
-    ensures { Ran line.now (holding core.old (Some txn)) core.new result
+) -> Result<Option<Open<A>>, CallFault>
+    ensures { Ran line.now (holding core.old (Some (Open.Transaction txn))) core.new result
         (string_bytes output.old) (string_bytes output.new) }
 {
     match &line.line.show {
@@ -78,7 +104,14 @@ pub(crate) fn run_within<A: AllocHandle>(
             tell_answer(alloc, txn, answer, line, made, output)
         }
         Show::Step(step) => step_within(alloc, core, txn, step, line, made, output),
-        _ => serve_line(alloc, core, Some(txn), line, made, output),
+        _ => serve_line(
+            alloc,
+            core,
+            Some(Open::Transaction(txn)),
+            line,
+            made,
+            output,
+        ),
     }
 }
 
@@ -91,20 +124,14 @@ fn step_within<A: AllocHandle>(
     line: &RunLine<A>,
     made: &mut String<A>,
     output: &mut String<A>,
-) -> Result<Option<Txn<A>>, CallFault>
+) -> Result<Option<Open<A>>, CallFault>
     requires step { line.now.line.show ≡ Show.Step step.now }
-    ensures { Ran line.now (holding core.old (Some txn)) core.new result
+    ensures { Ran line.now (holding core.old (Some (Open.Transaction txn))) core.new result
         (string_bytes output.old) (string_bytes output.new) }
 {
     match step {
-        Step::Begin => tell(
-            alloc,
-            Some(txn),
-            &Outcome::InTransaction,
-            line,
-            made,
-            output,
-        ),
+        Step::Begin => keep(alloc, txn, &Outcome::InTransaction, line, made, output),
+        Step::ApplyEach(_, _) => keep(alloc, txn, &Outcome::InTransaction, line, made, output),
         Step::Call(asked) => {
             let mut txn = txn;
             let answer = call(alloc, &mut txn, asked);
@@ -119,44 +146,64 @@ fn step_within<A: AllocHandle>(
             let command = Command::Commit(batch);
             serve(alloc, core, None, line, &command, made, output)
         }
+        Step::Answer(_) => keep(alloc, txn, &Outcome::NoConflict, line, made, output),
+        Step::Put(_) => keep(alloc, txn, &Outcome::NoConflict, line, made, output),
     }
 }
 
-// Carries out the command of a line that is no step. The transaction, if one is open, stays so.
-fn serve_line<A: AllocHandle>(
+// Prints what a line did that leaves the transaction as it is.
+fn keep<A: AllocHandle>(
     alloc: A,
-    core: &mut Core<A>,
-    txn: Option<Txn<A>>,
-    line: &RunLine<A>,
-    made: &mut String<A>,
-    output: &mut String<A>,
-) -> Result<Option<Txn<A>>, CallFault>
-    requires serves { deed txn line.now.line ≡ Serve line.now.line.command }
-    ensures { Ran line.now (holding core.old txn) core.new result
-        (string_bytes output.old) (string_bytes output.new) }
-{
-    line.line.command.blob_fits();
-    serve(alloc, core, txn, line, &line.line.command, made, output)
-}
-
-// Prints what a line did that carries out no command. The answer is the transaction that is open after it,
-// which is handed in.
-fn tell<A: AllocHandle>(
-    alloc: A,
-    txn: Option<Txn<A>>,
+    txn: Txn<A>,
     outcome: &Outcome<A>,
     line: &RunLine<A>,
     made: &mut String<A>,
     output: &mut String<A>,
-) -> Result<Option<Txn<A>>, CallFault>
-    ensures left { IfOk result (λ left. left ≡ txn) }
+) -> Result<Option<Open<A>>, CallFault>
+    ensures left { IfOk result (λ left. left ≡ Some (Open.Transaction txn)) }
+    ensures text { OnOk result (string_bytes output.new
+        ≡ string_bytes output.old ++ on_a_line (outcome_text line.now outcome.now)) }
+    ensures memory { IfErr result (λ fault. fault ≡ CallFault.OutOfMemory) }
+    ensures same { OnErr result (string_bytes output.new ≡ string_bytes output.old) }
+{
+    let held = Some(Open::Transaction(txn));
+    tell(alloc, held, outcome, line, made, output)
+}
+
+// Carries out the command of a line that is no step. What is open stays so.
+pub(crate) fn serve_line<A: AllocHandle>(
+    alloc: A,
+    core: &mut Core<A>,
+    held: Option<Open<A>>,
+    line: &RunLine<A>,
+    made: &mut String<A>,
+    output: &mut String<A>,
+) -> Result<Option<Open<A>>, CallFault>
+    requires serves { deed held line.now.line ≡ Serve line.now.line.command }
+    ensures { Ran line.now (holding core.old held) core.new result
+        (string_bytes output.old) (string_bytes output.new) }
+{
+    line.line.command.blob_fits();
+    serve(alloc, core, held, line, &line.line.command, made, output)
+}
+
+// Prints what a line did that carries out no command. The answer is what is open after it, which is handed in.
+pub(crate) fn tell<A: AllocHandle>(
+    alloc: A,
+    held: Option<Open<A>>,
+    outcome: &Outcome<A>,
+    line: &RunLine<A>,
+    made: &mut String<A>,
+    output: &mut String<A>,
+) -> Result<Option<Open<A>>, CallFault>
+    ensures left { IfOk result (λ left. left ≡ held) }
     ensures text { OnOk result (string_bytes output.new
         ≡ string_bytes output.old ++ on_a_line (outcome_text line.now outcome.now)) }
     ensures memory { IfErr result (λ fault. fault ≡ CallFault.OutOfMemory) }
     ensures same { OnErr result (string_bytes output.new ≡ string_bytes output.old) }
 {
     match print(alloc, line, outcome, made, output) {
-        Ok(()) => Ok(txn),
+        Ok(()) => Ok(held),
         Err(_) => Err(CallFault::OutOfMemory),
     }
 }
@@ -169,15 +216,15 @@ fn tell_answer<A: AllocHandle>(
     line: &RunLine<A>,
     made: &mut String<A>,
     output: &mut String<A>,
-) -> Result<Option<Txn<A>>, CallFault>
-    ensures left { IfOk result (λ left. left ≡ Some txn) }
+) -> Result<Option<Open<A>>, CallFault>
+    ensures left { IfOk result (λ left. left ≡ Some (Open.Transaction txn)) }
     ensures text { OnOk result (MatchResult answer (λ told. string_bytes output.new
         ≡ string_bytes output.old ++ on_a_line (outcome_text line.now (Outcome.Answer told))) (λ _. ⊥)) }
     ensures memory { IfErr result (λ fault. fault ≡ CallFault.OutOfMemory) }
     ensures same { OnErr result (string_bytes output.new ≡ string_bytes output.old) }
 {
     match answer {
-        Ok(told) => tell(alloc, Some(txn), &Outcome::Answer(told), line, made, output),
+        Ok(told) => keep(alloc, txn, &Outcome::Answer(told), line, made, output),
         Err(_) => Err(CallFault::OutOfMemory),
     }
 }

@@ -4,4 +4,6 @@ pub mod OutcomeJson
 pub mod Outcomes
 pub mod Printed
 pub mod ReplyJson
+pub mod StopJson
+pub mod Stops
 pub mod TextLines

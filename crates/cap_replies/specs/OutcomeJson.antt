@@ -11,7 +11,8 @@ use Rattle.cap_replies.specs.ReplyJson.{found, kind, line_members, named_refusal
 use Rattle.cap_replies.specs.ReplyJson.{rows_member}
 use Rattle.cap_replies.specs.declared.outcome.Outcome.{Outcome}
 use Rattle.cap_replies.specs.declared.outcome.Outcome.TheVariants.{Answer, Begun, InTransaction}
-use Rattle.cap_replies.specs.declared.outcome.Outcome.TheVariants.{NoTransaction, RolledBack}
+use Rattle.cap_replies.specs.declared.outcome.Outcome.TheVariants.{NoConflict, NoTransaction, OtherKey}
+use Rattle.cap_replies.specs.declared.outcome.Outcome.TheVariants.{RolledBack, Unanswered}
 
 module _ {A : Type 0} where
   -- Rows that are read in a transaction have no version of the tables.
@@ -35,6 +36,9 @@ module _ {A : Type 0} where
   outcome_members RolledBack = kind (codes "done")
   outcome_members NoTransaction = named_refusal (codes "E21 NoTransaction")
   outcome_members InTransaction = named_refusal (codes "E22 InTransaction")
+  outcome_members NoConflict = named_refusal (codes "E23 NoConflict")
+  outcome_members Unanswered = named_refusal (codes "E24 Unanswered")
+  outcome_members OtherKey = named_refusal (codes "E25 OtherKey")
 
   -- what a step of the line with this number led to
   unfoldable pub outcome_json : ℕ → Option ℕ → Outcome A → List ℕ

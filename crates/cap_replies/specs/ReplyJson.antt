@@ -40,7 +40,7 @@ use Rattle.cap_script.specs.Words.{answer_word, kind_word}
 use Rattle.cap_script.specs.declared.line.Detail.TheVariants as detail
 use Rattle.cap_script.specs.declared.line.Line.{Line}
 use Rattle.cap_script.specs.declared.line.Show.{Show}
-use Rattle.cap_script.specs.declared.line.Show.TheVariants.{Accepted, Buffer, Changeset, Get}
+use Rattle.cap_script.specs.declared.line.Show.TheVariants.{Accepted, Buffer, Changeset, Decided, Get}
 use Rattle.cap_script.specs.declared.line.Show.TheVariants.{Patchset, Scan, Step}
 use Rattle.cap_show.specs.Json.{text_member, value}
 
@@ -135,6 +135,12 @@ module _ {A : Type 0} where
   abbrev pub passed_member : Show A → List Token
   passed_member (Accepted detail numbering) = number_member (codes "passed") numbering.passed.groups
   passed_member show = []
+
+  -- the version that was made, and what an application that was committed so did
+  abbrev pub written : Show A → ℕ → List Token
+  written (Decided r passed) version =
+      kind_at (codes "applied") version ++ (report r ++ optional_member (codes "passed") passed)
+  written show version = kind_at (codes "written") version
 
   -- the hex digits of the buffer of an application; a patchset has none
   abbrev pub buffer : Contents A → List Conflict → List Token
@@ -243,7 +249,7 @@ module _ {A : Type 0} where
   -- which reply it is, and what it has
   abbrev pub reply_members : Line A → Reply A → List Token
   reply_members line Done = kind (codes "done")
-  reply_members line (Written version) = kind_at (codes "written") version
+  reply_members line (Written version) = written line.show version
   reply_members line (Applied version r) =
       kind_at (codes "applied") version ++ (report (report_in line.show r)
       ++ (passed_member line.show ++ buffer_member line.show line.command r.conflicts))

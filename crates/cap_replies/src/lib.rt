@@ -12,6 +12,8 @@ mod report;
 mod rows;
 mod run_line;
 mod run_lines;
+mod stop;
+mod stop_json;
 mod text_line;
 
 pub use outcome::{Outcome, write_outcome};
@@ -19,4 +21,5 @@ pub use printer::{Printer, append_made};
 pub use reply_json::print_reply_json;
 pub use run_line::{ReplyForm, RunLine, write_run_reply};
 pub use run_lines::RunLines;
+pub use stop::write_stop;
 pub use text_line::first_line;

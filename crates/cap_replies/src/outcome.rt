@@ -1,4 +1,4 @@
-//! What a step of a transaction led to, and how it is printed.
+//! What a step of a transaction or of an application led to, and how it is printed.
 ghost use Rattle.std.specs.Prelude.{◌≡◌, ◌++◌, OnOk, string_bytes};
 ghost use Rattle.cap_replies.specs.Outcomes.{outcome_text, step_text};
 
@@ -8,7 +8,7 @@ use cap_script::print_answer;
 use cap_txn::Answer;
 use cap_value::{AllocHandle, OutOfMemory};
 
-/// What a step of a transaction over several lines led to, where no command of the server answers it.
+/// What a step of a transaction or of an application over several lines led to, where no command of the server answers it.
 #[derive(Drop)]
 pub enum Outcome<A: AllocHandle> {
     /// The open transaction answered a call.
@@ -19,8 +19,14 @@ pub enum Outcome<A: AllocHandle> {
     RolledBack,
     /// No transaction is open.
     NoTransaction,
-    /// A transaction is open already.
+    /// A transaction or an application is open already.
     InTransaction,
+    /// No application stands at a conflict.
+    NoConflict,
+    /// The application that is to end stands at a conflict.
+    Unanswered,
+    /// The row has another key than the change in whose place it is put.
+    OtherKey,
 }
 
 /// Appends what a step led to, in the form that its line asks for, to `out`, without a line feed at its end.
@@ -58,5 +64,8 @@ fn write_step<A: AllocHandle>(
         Outcome::RolledBack => out.push_str("ok"),
         Outcome::NoTransaction => out.push_str("refused: E21 NoTransaction"),
         Outcome::InTransaction => out.push_str("refused: E22 InTransaction"),
+        Outcome::NoConflict => out.push_str("refused: E23 NoConflict"),
+        Outcome::Unanswered => out.push_str("refused: E24 Unanswered"),
+        Outcome::OtherKey => out.push_str("refused: E25 OtherKey"),
     }
 }

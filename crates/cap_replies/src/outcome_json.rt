@@ -63,6 +63,9 @@ fn write_outcome<A: AllocHandle>(
         Outcome::RolledBack => write_kind(writer, "done"),
         Outcome::NoTransaction => write_named_refusal(writer, "E21 NoTransaction"),
         Outcome::InTransaction => write_named_refusal(writer, "E22 InTransaction"),
+        Outcome::NoConflict => write_named_refusal(writer, "E23 NoConflict"),
+        Outcome::Unanswered => write_named_refusal(writer, "E24 Unanswered"),
+        Outcome::OtherKey => write_named_refusal(writer, "E25 OtherKey"),
     }
 }
 

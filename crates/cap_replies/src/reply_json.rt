@@ -15,7 +15,7 @@ use crate::lists::{write_databases, write_sessions, write_tables};
 use crate::members::{
     write_blob, write_flag, write_kind, write_kind_at, write_number, write_optional,
 };
-use crate::report::{write_buffer, write_passed, write_refused, write_report};
+use crate::report::{write_buffer, write_own_report, write_passed, write_refused, write_report};
 use crate::rows::write_snapshot;
 use cap_apply::Report;
 use cap_codec::KeyFlags;
@@ -95,7 +95,7 @@ fn write_reply<A: AllocHandle>(
 {
     match reply {
         Reply::Done => write_kind(writer, "done"),
-        Reply::Written { version } => write_kind_at(writer, "written", *version),
+        Reply::Written { version } => write_written(writer, &line.show, *version),
         Reply::Applied { version, report } => write_applied(alloc, writer, line, *version, report),
         Reply::Session(number) => write_session(writer, *number),
         Reply::Databases(names) => write_databases(writer, names),
@@ -136,6 +136,24 @@ fn write_flag_reply<A: AllocHandle>(writer: &mut Writer<A>, flag: bool) -> Resul
 {
     write_kind(writer, "flag")?;
     write_flag(writer, "flag", flag)
+}
+
+// Writes the version that was made, and what an application that was committed so did.
+fn write_written<A: AllocHandle>(
+    writer: &mut Writer<A>,
+    show: &Show<A>,
+    version: u64,
+) -> Result<(), OutOfMemory>
+    ensures { Appends result writer.old writer.new (spec.written show.now version) }
+{
+    match show {
+        Show::Decided(report, passed) => {
+            write_kind_at(writer, "applied", version)?;
+            write_own_report(writer, report)?;
+            write_optional(writer, "passed", *passed)
+        }
+        _ => write_kind_at(writer, "written", version),
+    }
 }
 
 fn write_applied<A: AllocHandle>(

@@ -71,7 +71,7 @@ pub(crate) fn write_report<A: AllocHandle>(
     }
 }
 
-fn write_own_report<A: AllocHandle>(
+pub(crate) fn write_own_report<A: AllocHandle>(
     writer: &mut Writer<A>,
     report: &Report<A>,
 ) -> Result<(), OutOfMemory>

@@ -24,10 +24,10 @@ use Rattle.cap_core.specs.Table.{BlobFits}
 use Rattle.cap_language.specs.Forms.{Words, a_blob, behind, either, one_of}
 use Rattle.cap_language.specs.Grammar.{Grammar, Spells, exceeds, unfit}
 use Rattle.cap_language.specs.Tokens.{Begins, Blob, Integer, Text, Token, Word}
-use Rattle.cap_script.specs.Language.{Filtered, Opening, alone, application, apply_quiet, applying, attach, called, cascaded, changeset, command, commands, commit, commit_at, contents, contents_of, create, delete, diff, drop_database, dump, enable, ending, get, indirect, insert, numbered, opening, patchset, restart, rollback, save, scan, update, with_alone, with_numbered}
+use Rattle.cap_script.specs.Language.{Filtered, Opening, alone, application, apply_each, apply_quiet, applying, attach, called, cascaded, changeset, command, commands, commit, commit_at, contents, contents_of, create, delete, diff, drop_database, dump, each_conflict, enable, ending, filter_behind, get, indirect, insert, numbered, opening, patchset, put, restart, rollback, save, scan, update, with_alone, with_numbered}
 use Rattle.cap_script.specs.Script.{Closes, LineSpelled, LinesSpelled, ScriptSpelled, SpellsLine, SpellsScript, filtered_command}
 use Rattle.cap_script.specs.declared.command.Filtering.{Filtering}
-use Rattle.cap_script.specs.declared.command.Filtering.TheVariants.{Application, Session}
+use Rattle.cap_script.specs.declared.command.Filtering.TheVariants.{Application, EachConflict, Session}
 use Rattle.cap_script.specs.declared.command.Spelled.{Spelled}
 use Rattle.cap_script.specs.declared.command.Spelled.TheVariants.{Filter, Whole}
 use Rattle.cap_script.specs.declared.line.Detail.{Detail}
@@ -55,6 +55,7 @@ module _ {A : Type 0} (fit : (blob : Contents A) (bytes : List ℕ) → SpellsBl
   Fits (Whole command show) = BlobFits command
   Fits (Filter (Session session)) = ⊤
   Fits (Filter (Application blob policy quiet detail)) = FitsItsColumns blob
+  Fits (Filter (EachConflict blob)) = ⊤
 
   blob-fits : (bytes : List ℕ) → AreBytes bytes → (r : Result (Contents A) BlobFault) → blob_at bytes ≡ r → Makes (FitsItsColumns {A = A}) (contents_of r)
   blob-fits bytes are (Ok blob) is x line rest made = subst FitsItsColumns (sym made.0) (fit blob bytes (spelled bytes blob are is))
@@ -88,6 +89,14 @@ module _ {A : Type 0} (fit : (blob : Contents A) (bytes : List ℕ) → SpellsBl
   apply_quiet-fits : Makes Fits apply_quiet
   unfolding apply_quiet
   apply_quiet-fits x line rest (quiet, a, p, made) = apply-fits quiet x a rest made
+
+  each-fits : (blob : Contents A) (behind : Detail × Bool) → Fits (each_conflict blob behind)
+  each-fits blob (detail, false) = tt
+  each-fits blob (detail, true) = tt
+
+  apply_each-fits : Makes Fits apply_each
+  unfolding apply_each
+  apply_each-fits x line rest (blob, a, p, (behind, b, q, e)) = subst Fits (sym e.0) (each-fits blob behind)
 
   -- ---- commands without a blob
 
@@ -158,6 +167,10 @@ module _ {A : Type 0} (fit : (blob : Contents A) (bytes : List ℕ) → SpellsBl
   unfolding rollback
   rollback-fits x line rest (taken, a, p, e) = subst Fits (sym e.0) tt
 
+  put-fits : Makes Fits put
+  unfolding put
+  put-fits x line rest (row, a, p, e) = subst Fits (sym e.0) tt
+
   -- ---- lines
 
   either-fits : (b : Bool) (first second : Grammar (Spelled A)) → Makes Fits first → Makes Fits second → Makes Fits (either b (behind first) second)
@@ -211,38 +224,41 @@ module _ {A : Type 0} (fit : (blob : Contents A) (bytes : List ℕ) → SpellsBl
           (
             apply_quiet-fits,
             (
-              get-fits,
+              apply_each-fits,
               (
-                scan-fits,
+                get-fits,
                 (
-                  save-fits,
+                  scan-fits,
                   (
-                    drop_database-fits,
+                    save-fits,
                     (
-                      attach-fits,
+                      drop_database-fits,
                       (
-                        enable-fits,
+                        attach-fits,
                         (
-                          indirect-fits,
+                          enable-fits,
                           (
-                            diff-fits,
+                            indirect-fits,
                             (
-                              changeset-fits,
+                              diff-fits,
                               (
-                                patchset-fits,
+                                changeset-fits,
                                 (
-                                  restart-fits,
+                                  patchset-fits,
                                   (
-                                    dump-fits,
+                                    restart-fits,
                                     (
-                                      called-fits (insert Direct),
+                                      dump-fits,
                                       (
-                                        called-fits (update Direct),
+                                        called-fits (insert Direct),
                                         (
-                                          called-fits (delete Direct),
+                                          called-fits (update Direct),
                                           (
-                                            called-fits cascaded,
-                                            (rollback-fits, numbered-fit numbered (with_alone alone []) (λ _. refl) (alone-fit alone [] refl tt)),
+                                            called-fits (delete Direct),
+                                            (
+                                              called-fits cascaded,
+                                              (rollback-fits, (put-fits, numbered-fit numbered (with_alone alone []) (λ _. refl) (alone-fit alone [] refl tt))),
+                                            ),
                                           ),
                                         ),
                                       ),
@@ -272,6 +288,7 @@ module _ {A : Type 0} (fit : (blob : Contents A) (bytes : List ℕ) → SpellsBl
   -- what a filter accepts of a blob fits as the blob does
   filtered-fits : (what : Filtering A) (filter : Rule) → Fits (Filter what) → BlobFits (filtered_command what filter)
   filtered-fits (Session session) filter fits = tt
+  filtered-fits (EachConflict blob) filter fits = tt
   filtered-fits (Application (Changes list) policy quiet detail) filter fits = All-filter (λ group. accepts filter group.table) (λ group. IsFitting change_fits group) list fits
   filtered-fits (Application (Patches list) policy quiet detail) filter fits = All-filter (λ group. accepts filter group.table) (λ group. IsFitting patch_fits group) list fits
 

@@ -28,7 +28,7 @@ use Rattle.cap_language.specs.Forms.{Words, a_blob, a_word, either, keyword, nam
 use Rattle.cap_language.specs.Grammar.{Grammar, done, exceeds, follows, next, read, read_at, unfit}
 use Rattle.cap_language.specs.Tokens.{Blob, Word}
 use Rattle.cap_language.proofs.FormLaws.{eats_keyword, form_keyword, form_name, form_natural, form_value, form_values, goes_44, goes_59}
-use Rattle.cap_script.specs.Language.{alone, answer, application, apply_quiet, applying, attach, back, batch, called, cascaded, changeset, columns, commands, commit, commit_at, contents, contents_of, create, delete, diff, drop_database, dump, enable, field, fields, filter_behind, flag, flags_in, get, indirect, insert, key_flags, nth_operation, numbered, numbers, operation, operations, patchset, policy, report, restart, rollback, row, row_of, save, scan, schema, spelled_step, update, with_alone, with_numbered}
+use Rattle.cap_script.specs.Language.{alone, answer, application, apply_each, apply_quiet, applying, attach, back, batch, called, cascaded, changeset, columns, commands, commit, commit_at, contents, contents_of, create, delete, diff, drop_database, dump, each_conflict, enable, field, fields, filter_behind, flag, flags_in, get, indirect, insert, key_flags, nth_operation, numbered, numbers, operation, operations, patchset, policy, put, report, restart, rollback, row, row_of, save, scan, schema, spelled_step, update, with_alone, with_numbered}
 use Rattle.cap_script.specs.declared.command.Spelled.{Spelled}
 use Rattle.cap_script.specs.declared.command.Spelled.TheVariants.{Filter, Whole}
 use Rattle.cap_script.specs.declared.line.Detail.{Detail}
@@ -290,6 +290,14 @@ module _ {A : Type 0} where
   unfolding apply_quiet
   open_apply_quiet = let last = last_both Closing closing_tail numbers (λ quiet. applying quiet) form_numbers last_applying in last.inner
 
+  open_apply_each : Open Closing (read (apply_each {A = A}))
+  unfolding apply_each
+  open_apply_each =
+      let last = last_both Closing closing_tail contents (λ blob. follows (filter_behind Counts) (λ behind. done (each_conflict blob behind))) form_contents
+      (λ blob. last_map Closing (filter_behind Counts) (each_conflict blob)
+      (last_filter_behind (λ behind. Closing (each_conflict blob behind)) (λ behind. closing_tail (each_conflict blob behind)) (λ detail line nil. nil) Counts)) in
+      last.inner
+
   open_get : Open Closing (read (get {A = A}))
   unfolding get
   open_get =
@@ -387,6 +395,10 @@ module _ {A : Type 0} where
   unfolding rollback
   open_rollback = let last = last_map Closing back spelled_step last_back in last.inner
 
+  open_put : Open Closing (read (put {A = A}))
+  unfolding put
+  open_put = closing (follows values (λ row. done (spelled_step (step.Put row)))) (form_map values (λ (row : Fields A). spelled_step (step.Put row)) form_values)
+
   open_numbered : (words : List (List ℕ × (ℕ → Spelled A))) (others : Words (Spelled A)) → AreOpen Closing others → AreOpen Closing (with_numbered words others)
   open_numbered [] others all = all
   open_numbered ((w, of_session) ∷ words) others all = (open_session of_session, open_numbered words others all)
@@ -407,38 +419,41 @@ module _ {A : Type 0} where
           (
             open_apply_quiet,
             (
-              open_get,
+              open_apply_each,
               (
-                open_scan,
+                open_get,
                 (
-                  open_save,
+                  open_scan,
                   (
-                    open_drop_database,
+                    open_save,
                     (
-                      open_attach,
+                      open_drop_database,
                       (
-                        open_enable,
+                        open_attach,
                         (
-                          open_indirect,
+                          open_enable,
                           (
-                            open_diff,
+                            open_indirect,
                             (
-                              open_changeset,
+                              open_diff,
                               (
-                                open_patchset,
+                                open_changeset,
                                 (
-                                  open_restart,
+                                  open_patchset,
                                   (
-                                    open_dump,
+                                    open_restart,
                                     (
-                                      open_called (insert Direct) (form_insert Direct),
+                                      open_dump,
                                       (
-                                        open_called (update Direct) (form_update Direct),
+                                        open_called (insert Direct) (form_insert Direct),
                                         (
-                                          open_called (delete Direct) (form_delete Direct),
+                                          open_called (update Direct) (form_update Direct),
                                           (
-                                            open_called cascaded form_cascaded,
-                                            (open_rollback, open_numbered numbered (with_alone alone []) (open_alone alone [] tt)),
+                                            open_called (delete Direct) (form_delete Direct),
+                                            (
+                                              open_called cascaded form_cascaded,
+                                              (open_rollback, (open_put, open_numbered numbered (with_alone alone []) (open_alone alone [] tt))),
+                                            ),
                                           ),
                                         ),
                                       ),

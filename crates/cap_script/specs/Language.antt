@@ -31,7 +31,7 @@ use Rattle.cap_language.specs.Forms.{separated, sign, value}
 use Rattle.cap_language.specs.Forms.{values, within, worker, Words}
 use Rattle.cap_language.specs.Grammar.{Grammar, done, unfit, exceeds, no_blob, ◌>>=◌, next, where_end}
 use Rattle.cap_script.specs.declared.command.Filtering.{Filtering}
-use Rattle.cap_script.specs.declared.command.Filtering.TheVariants.{Application, Session}
+use Rattle.cap_script.specs.declared.command.Filtering.TheVariants.{Application, EachConflict, Session}
 use Rattle.cap_script.specs.declared.command.Spelled.{Spelled}
 use Rattle.cap_script.specs.declared.command.Spelled.TheVariants.{Filter, Whole}
 use Rattle.cap_script.specs.declared.line.Detail.{Detail}
@@ -299,6 +299,23 @@ module _ {A : Type 0} where
   unfoldable pub rollback : Grammar (Spelled A)
   rollback = do taken ← back; done (spelled_step taken)
 
+  -- ---- steps of an application that stops at each conflict
+
+  -- to all tables, or to those that a filter accepts
+  abbrev pub each_conflict : Contents A → Detail × Bool → Spelled A
+  each_conflict contents (detail, false) = spelled_step (step.ApplyEach contents None)
+  each_conflict contents (detail, true) = Filter (EachConflict contents)
+
+  unfoldable pub apply_each : Grammar (Spelled A)
+  apply_each = do
+    contents ← contents
+    behind ← filter_behind Counts
+    done (each_conflict contents behind)
+
+  -- a row that stands in place of a change
+  unfoldable pub put : Grammar (Spelled A)
+  put = do row ← values; done (spelled_step (step.Put row))
+
   -- ---- words
 
   -- the commands that are a word and the number of a session
@@ -320,6 +337,9 @@ module _ {A : Type 0} where
       ∷ (codes "begin", spelled_step step.Begin)
       ∷ (codes "savepoint", spelled_step (step.Call asked.Savepoint))
       ∷ (codes "end", spelled_step step.End)
+      ∷ (codes "omit", spelled_step (step.Answer Omit))
+      ∷ (codes "replace", spelled_step (step.Answer Replace))
+      ∷ (codes "abort", spelled_step (step.Answer Abort))
       ∷ []
 
   abbrev pub with_numbered : List (List ℕ × (ℕ → Spelled A)) → Words (Spelled A) → Words (Spelled A)
@@ -339,6 +359,7 @@ module _ {A : Type 0} where
       ∷ (codes "commitat", commit_at)
       ∷ (codes "apply", applying [])
       ∷ (codes "applyquiet", apply_quiet)
+      ∷ (codes "applyeach", apply_each)
       ∷ (codes "get", get)
       ∷ (codes "scan", scan)
       ∷ (codes "save", save)
@@ -356,6 +377,7 @@ module _ {A : Type 0} where
       ∷ (codes "delete", called (delete Direct))
       ∷ (codes "cascade", called cascaded)
       ∷ (codes "rollback", rollback)
+      ∷ (codes "put", put)
       ∷ with_numbered numbered (with_alone alone [])
 
   unfoldable pub command : Grammar (Spelled A)

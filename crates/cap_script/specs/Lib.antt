@@ -13,4 +13,5 @@ pub mod ReplyText
 pub mod RowText
 pub mod Script
 pub mod StepText
+pub mod StopText
 pub mod Words

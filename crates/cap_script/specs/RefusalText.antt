@@ -41,7 +41,7 @@ refusal_text (Stale base now (Some item)) =
     ++ codes " item " ++ decimal item
 refusal_text why = refusal_name why
 
--- ---- Refusals of steps of a transaction over several lines
+-- ---- Refusals of steps of a transaction or of an application over several lines
 
 -- no transaction is open
 abbrev pub no_transaction_text : List ℕ
@@ -50,3 +50,15 @@ no_transaction_text = codes "refused: E21 NoTransaction"
 -- a transaction is open already
 abbrev pub in_transaction_text : List ℕ
 in_transaction_text = codes "refused: E22 InTransaction"
+
+-- no application stands at a conflict
+abbrev pub no_conflict_text : List ℕ
+no_conflict_text = codes "refused: E23 NoConflict"
+
+-- the application stands at a conflict
+abbrev pub unanswered_text : List ℕ
+unanswered_text = codes "refused: E24 Unanswered"
+
+-- a row has another key than the change in whose place it is put
+abbrev pub other_key_text : List ℕ
+other_key_text = codes "refused: E25 OtherKey"

@@ -1,5 +1,5 @@
 -- The text of a reply, as it is printed.
-use Rattle.std.specs.Prelude.{ℕ, Bool, List, [], ◌∷◌, ◌++◌, Some, None, codes, decimal, length}
+use Rattle.std.specs.Prelude.{ℕ, Bool, List, [], ◌∷◌, ◌++◌, Option, Some, None, codes, decimal, length}
 use Rattle.std.specs.List.{flat_map}
 use Rattle.hex.specs.Hex.{encode_lower}
 use Rattle.cap_changes.specs.Group.{TableChanges}
@@ -30,7 +30,8 @@ use Rattle.cap_script.specs.declared.line.Detail.{Detail}
 use Rattle.cap_script.specs.declared.line.Detail.TheVariants as detail
 use Rattle.cap_script.specs.declared.line.Line.{Line}
 use Rattle.cap_script.specs.declared.line.Show.{Show}
-use Rattle.cap_script.specs.declared.line.Show.TheVariants.{Accepted, Buffer, Changeset, Patchset, Report}
+use Rattle.cap_script.specs.declared.line.Show.TheVariants.{Accepted, Buffer, Changeset, Decided, Patchset}
+use Rattle.cap_script.specs.declared.line.Show.TheVariants.{Report}
 
 -- lower case hex digits, or `-` where there are no bytes
 abbrev pub hex_or_dash : List ℕ → List ℕ
@@ -46,9 +47,14 @@ applied_text version report =
     ++ (codes ", skipped " ++ decimal (length report.skipped)))))))
 
 -- the same, and how many groups were passed over, since a filter does not accept their tables
-abbrev pub accepted_text : ℕ → NumberingState → ReportState → List ℕ
-accepted_text version numbering report =
-    applied_text version report ++ (codes ", passed " ++ decimal numbering.passed.groups)
+abbrev pub accepted_text : ℕ → ℕ → ReportState → List ℕ
+accepted_text version groups report =
+    applied_text version report ++ (codes ", passed " ++ decimal groups)
+
+-- the same of an application that stopped at each conflict, which may have a filter
+abbrev pub decided_text : ℕ → Option ℕ → ReportState → List ℕ
+decided_text version None report = applied_text version report
+decided_text version (Some groups) report = accepted_text version groups report
 
 -- the change that had a conflict, the conflict's kind, and the answer to it
 abbrev pub conflict_text : Conflict → List ℕ
@@ -88,7 +94,7 @@ module _ {A : Type 0} where
 
   abbrev pub accepted_shown : Detail → NumberingState → Command A → ℕ → ReportState → List ℕ
   accepted_shown detail numbering asked version report =
-      accepted_text version numbering report ++ accepted_detail detail numbering asked report
+      accepted_text version numbering.passed.groups report ++ accepted_detail detail numbering asked report
 
   -- the outcome of the command, an apply
   abbrev pub applied_shown : Show A → Command A → ℕ → ReportState → List ℕ
@@ -103,6 +109,11 @@ module _ {A : Type 0} where
   abbrev pub place_in : Show A → ℕ → ℕ
   place_in (Accepted detail numbering) place = number_in_blob numbering.changes place
   place_in show place = place
+
+  -- the version that was made, and what an application that was committed so did
+  abbrev pub written_text : Show A → ℕ → List ℕ
+  written_text (Decided report passed) version = decided_text version passed report
+  written_text show version = codes "ok version " ++ decimal version
 
   -- whether a session is empty is true or false, and a flag is on or off
   abbrev pub flag_text : Command A → Bool → List ℕ
@@ -124,7 +135,7 @@ module _ {A : Type 0} where
   -- the text of the reply to a line's command
   unfoldable pub reply_text : Line A → Reply A → List ℕ
   reply_text line Done = codes "ok"
-  reply_text line (Written version) = codes "ok version " ++ decimal version
+  reply_text line (Written version) = written_text line.show version
   reply_text line (Applied version report) = applied_shown line.show line.command version report
   reply_text line (Session number) = codes "session " ++ decimal number
   reply_text line (Databases names) = databases_text names

@@ -7,15 +7,16 @@ use Rattle.cap_filter.specs.Limits.{is_within_limits}
 use Rattle.cap_filter.specs.Rule.{Rule}
 use Rattle.cap_applier.specs.Chosen.{accepted_in, numbering_in}
 use Rattle.cap_core.specs.declared.command.Command.{Command}
-use Rattle.cap_core.specs.declared.command.Command.TheVariants.{Apply, SetFilter}
+use Rattle.cap_core.specs.declared.command.Command.TheVariants.{Apply, Read, SetFilter}
 use Rattle.cap_language.specs.Grammar.{Spells}
 use Rattle.cap_language.specs.Tokens.{begins, behind_blanks}
 use Rattle.cap_script.specs.Language.{Ended, Filtered, Opening, opening}
 use Rattle.cap_script.specs.declared.command.Filtering.{Filtering}
-use Rattle.cap_script.specs.declared.command.Filtering.TheVariants.{Application, Session}
+use Rattle.cap_script.specs.declared.command.Filtering.TheVariants.{Application, EachConflict, Session}
 use Rattle.cap_script.specs.declared.line.Line.{Line}
 use Rattle.cap_script.specs.declared.line.Show.{Show}
-use Rattle.cap_script.specs.declared.line.Show.TheVariants.{Accepted, Plain}
+use Rattle.cap_script.specs.declared.line.Show.TheVariants.{Accepted, Plain, Step}
+use Rattle.cap_script.specs.declared.step.Step.TheVariants.{ApplyEach}
 
 -- an ignored line: `#` and a comment, or only spaces
 abbrev pub is_ignored : List ℕ → Bool
@@ -42,12 +43,15 @@ module _ {A : Type 0} where
   filtered_command (Session session) filter = SetFilter session filter
   filtered_command (Application contents policy quiet detail) filter =
       Apply (accepted_in filter contents) policy quiet
+  filtered_command (EachConflict contents) filter = Read
 
-  -- what is accepted of a blob is printed with its numbers in the whole blob
+  -- What is accepted of a blob is printed with its numbers in the whole blob. An application that stops at each
+  -- conflict has the filter.
   abbrev pub filtered_show : Filtering A → Rule → Show A
   filtered_show (Session session) filter = Plain
   filtered_show (Application contents policy quiet detail) filter =
       Accepted detail (numbering_in filter contents)
+  filtered_show (EachConflict contents) filter = Step (ApplyEach contents (Some filter))
 
   -- the line with this filter
   abbrev pub filter_line : Option ℕ → Filtering A → Rule → Line A

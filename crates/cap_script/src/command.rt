@@ -2,16 +2,16 @@
 ghost use Rattle.std.specs.Prelude.{◌≡◌, None, Some, List, Bool, IfOk, MatchOption};
 ghost use Rattle.cap_language.specs.Forms.{natural, separated};
 ghost use Rattle.cap_language.specs.Grammar.{Reads, read, seen_items};
-ghost use Rattle.cap_script.specs.Language.{answer, application, apply_quiet, applying, command, commit};
-ghost use Rattle.cap_script.specs.Language.{commit_at, contents, create, drop_database, filter_behind, flags_in};
-ghost use Rattle.cap_script.specs.Language.{get, key_letter, numbers, policy, report, save, scan, schema};
-ghost use Rattle.cap_script.specs.Language.{show_of};
+ghost use Rattle.cap_script.specs.Language.{answer, application, apply_each, apply_quiet, applying, command};
+ghost use Rattle.cap_script.specs.Language.{commit, commit_at, contents, create, drop_database, each_conflict};
+ghost use Rattle.cap_script.specs.Language.{filter_behind, flags_in, get, key_letter, numbers, policy, report};
+ghost use Rattle.cap_script.specs.Language.{save, scan, schema, show_of};
 ghost use Rattle.cap_script.specs.declared.command.Spelled.TheVariants.{Whole};
 ghost use Rattle.cap_script.specs.declared.line.Show.TheVariants.{Plain};
 
 use crate::operation::{batch, row_ref};
 use crate::session_command::{attach, changeset, diff, dump, enable, indirect, patchset, restart};
-use crate::step::{Step, by_cascade, deleted, inserted, rollback, spelled_step, updated};
+use crate::step::{Step, by_cascade, deleted, inserted, put, rollback, spelled_step, updated};
 use crate::{Detail, Show};
 use cap_apply::{Answer, Policy};
 use cap_codec::{Contents, read_blob};
@@ -42,6 +42,8 @@ pub(crate) enum Filtering<A: AllocHandle> {
         quiet: QuietSessions<A>,
         detail: Detail,
     },
+    // The application of a blob that stops at each conflict.
+    EachConflict(Contents<A>),
 }
 
 // A command whose reply is printed alone.
@@ -70,6 +72,8 @@ pub(crate) fn command<A: AllocHandle>(
         applying(alloc, cursor, QuietSessions::none(alloc))
     } else if word.is("applyquiet") {
         apply_quiet(alloc, cursor)
+    } else if word.is("applyeach") {
+        apply_each(alloc, cursor)
     } else if word.is("get") {
         get(alloc, cursor)
     } else if word.is("scan") {
@@ -104,6 +108,8 @@ pub(crate) fn command<A: AllocHandle>(
         by_cascade(alloc, cursor)
     } else if word.is("rollback") {
         rollback(cursor)
+    } else if word.is("put") {
+        put(alloc, cursor)
     } else if word.is("drop") {
         let session = cursor.natural()?;
         Ok(plain(Command::DropSession { session }))
@@ -130,6 +136,12 @@ pub(crate) fn command<A: AllocHandle>(
         Ok(spelled_step(Step::Call(Asked::Savepoint)))
     } else if word.is("end") {
         Ok(spelled_step(Step::End))
+    } else if word.is("omit") {
+        Ok(spelled_step(Step::Answer(Answer::Omit)))
+    } else if word.is("replace") {
+        Ok(spelled_step(Step::Answer(Answer::Replace)))
+    } else if word.is("abort") {
+        Ok(spelled_step(Step::Answer(Answer::Abort)))
     } else {
         Err(word.misfit)
     }
@@ -209,6 +221,27 @@ fn apply_quiet<A: AllocHandle>(alloc: A, cursor: &mut Cursor<'_>) -> Result<Spel
 {
     let quiet = quiet_sessions(alloc, cursor)?;
     applying(alloc, cursor, quiet)
+}
+
+// Reads a blob, whose application stops at each conflict, and whether a filter follows: `x'..'`.
+#[tactic(auto, unfolding(crate::specs::Language::apply_each))]
+fn apply_each<A: AllocHandle>(alloc: A, cursor: &mut Cursor<'_>) -> Result<Spelled<A>, LineFault>
+    ensures reads { Reads result cursor.new.rest.now (read apply_each cursor.old.rest.now) }
+{
+    let blob = contents(alloc, cursor)?;
+    let behind = filter_behind(cursor, Detail::Counts)?;
+    Ok(each_conflict(blob, behind))
+}
+
+// Such an application to all tables, or to those that a filter accepts.
+fn each_conflict<A: AllocHandle>(blob: Contents<A>, behind: (Detail, bool)) -> Spelled<A>
+    ensures { result ≡ each_conflict blob behind }
+{
+    let (_, filtered) = behind;
+    if filtered {
+        return Spelled::Filter(Filtering::EachConflict(blob));
+    }
+    spelled_step(Step::ApplyEach(blob, None))
 }
 
 // Reads a blob, a policy, which is the answers to DATA, NOTFOUND and CONFLICT, how the outcome is printed, and

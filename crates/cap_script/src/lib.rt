@@ -19,6 +19,7 @@ mod row_text;
 mod session_command;
 mod step;
 mod step_text;
+mod stop_text;
 mod words;
 mod workload;
 
@@ -36,5 +37,6 @@ pub use refusal_text::refusal_name;
 pub use reply::{place_in, print_reply, write_reply};
 pub use step::Step;
 pub use step_text::print_answer;
+pub use stop_text::print_stop;
 pub use words::{answer_word, kind_word};
 pub use workload::{Workload, parse};

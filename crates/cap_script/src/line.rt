@@ -10,6 +10,7 @@ ghost use Rattle.cap_script.specs.Script.{SpellsLine, filter_line, is_ignored};
 use crate::command::{Filtering, Spelled, command};
 use crate::step::Step;
 use cap_applier::{Numbering, chosen_of};
+use cap_apply::Report;
 use cap_codec::KeyFlags;
 use cap_core::Command;
 use cap_filter::{TableFilter, read_is_spelled, spelled_is_read, unfit_place};
@@ -26,7 +27,7 @@ pub enum Show<A: AllocHandle> {
     Get(Name<A>, RowRef<A>),
     /// All rows of a table of a snapshot.
     Scan(Name<A>),
-    /// What a step of a transaction over several lines leads to.
+    /// What a step of a transaction or of an application over several lines leads to.
     Step(Step<A>),
     /// The changeset of a capture, with these key flags.
     Changeset(KeyFlags),
@@ -39,6 +40,9 @@ pub enum Show<A: AllocHandle> {
     /// So much of the outcome of an apply to the tables that a filter accepts, with these numbers in the whole
     /// blob.
     Accepted(Detail, Numbering<A>),
+    /// The counts of an application that stopped at each conflict, and how many groups it passed over, where it
+    /// has a filter. Its line is one that ends it.
+    Decided(Report<A>, Option<u64>),
 }
 
 /// How much of the outcome of an apply is printed.
@@ -133,6 +137,11 @@ fn with_filter<A: AllocHandle>(
                 show: Show::Accepted(detail, chosen.numbering),
             })
         }
+        Filtering::EachConflict(blob) => Ok(Line {
+            worker,
+            command: Command::Read,
+            show: Show::Step(Step::ApplyEach(blob, Some(filter))),
+        }),
     }
 }
 

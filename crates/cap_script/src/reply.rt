@@ -4,10 +4,10 @@ ghost use Rattle.cap_changes.specs.Patch.{patch_list_of};
 ghost use Rattle.cap_codec.specs.Changeset.{list_bytes_with};
 ghost use Rattle.cap_codec.specs.Patchset.{patch_list_bytes_with};
 ghost use Rattle.cap_script.specs.ReplyText.{accepted_detail, accepted_shown, accepted_text, applied_shown};
-ghost use Rattle.cap_script.specs.ReplyText.{applied_text, buffer_text, place_in};
+ghost use Rattle.cap_script.specs.ReplyText.{applied_text, buffer_text, decided_text, place_in};
 ghost use Rattle.cap_dump.specs.Dump.{dump_bytes};
 ghost use Rattle.cap_script.specs.ReplyText.{capture_text, dump_text, flag_text, hex_or_dash, reply_text};
-ghost use Rattle.cap_script.specs.ReplyText.{report_text};
+ghost use Rattle.cap_script.specs.ReplyText.{report_text, written_text};
 
 use crate::buffer_text::write_buffer;
 use crate::list_text::{databases_text, on_word, sessions_text, tables_text, true_word};
@@ -48,7 +48,7 @@ pub fn write_reply<A: AllocHandle>(
 {
     match reply {
         Reply::Done => out.push_str("ok"),
-        Reply::Written { version } => write_numbered("ok version ", *version, out),
+        Reply::Written { version } => write_written(alloc, &line.show, *version, out),
         Reply::Session(number) => write_numbered("session ", *number, out),
         Reply::Flag(flag) => out.push_str(flag_text(&line.command, *flag)),
         Reply::Applied { version, report } => {
@@ -100,6 +100,39 @@ pub fn place_in<A: AllocHandle>(show: &Show<A>, place: u64) -> u64
     }
 }
 
+// Appends the version that was made, and what an application that was committed so did.
+fn write_written<A: AllocHandle>(
+    alloc: A,
+    show: &Show<A>,
+    version: u64,
+    out: &mut String<A>,
+) -> Result<(), OutOfMemory>
+    ensures { OnOk result (string_bytes out.new ≡ string_bytes out.old ++ written_text show.now version) }
+{
+    match show {
+        Show::Decided(report, passed) => {
+            let text = decided_counts(alloc, version, *passed, report)?;
+            out.push_str(text.as_str())
+        }
+        _ => write_numbered("ok version ", version, out),
+    }
+}
+
+// The counts of an application that stopped at each conflict.
+fn decided_counts<A: AllocHandle>(
+    alloc: A,
+    version: u64,
+    passed: Option<u64>,
+    report: &Report<A>,
+) -> Result<String<A>, OutOfMemory>
+    ensures { IfOk result (λ text. string_bytes text ≡ decided_text version passed report.now) }
+{
+    match passed {
+        Some(groups) => accepted_counts(alloc, version, groups, report),
+        None => applied_counts(alloc, version, report),
+    }
+}
+
 // Appends a number behind some words.
 fn write_numbered<A: AllocHandle>(
     words: &str,
@@ -145,7 +178,8 @@ fn accepted_text<A: AllocHandle>(
     ensures { IfOk result (λ text. string_bytes text
         ≡ accepted_shown detail numbering.now command.now version report.now) }
 {
-    let mut text = accepted_counts(alloc, numbering, version, report)?;
+    let groups = numbering.passed().groups;
+    let mut text = accepted_counts(alloc, version, groups, report)?;
     write_accepted(alloc, detail, numbering, command, report, &mut text)?;
     Ok(text)
 }
@@ -171,15 +205,14 @@ fn write_accepted<A: AllocHandle>(
 
 fn accepted_counts<A: AllocHandle>(
     alloc: A,
-    numbering: &Numbering<A>,
     version: u64,
+    groups: u64,
     report: &Report<A>,
 ) -> Result<String<A>, OutOfMemory>
-    ensures { IfOk result (λ text. string_bytes text ≡ accepted_text version numbering.now report.now) }
+    ensures { IfOk result (λ text. string_bytes text ≡ accepted_text version groups report.now) }
 {
     let mut text = applied_counts(alloc, version, report)?;
-    let passed = numbering.passed().groups;
-    write_numbered(", passed ", passed, &mut text)?;
+    write_numbered(", passed ", groups, &mut text)?;
     Ok(text)
 }
 

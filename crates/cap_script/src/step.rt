@@ -1,19 +1,23 @@
-//! Steps of a transaction over several lines, and the readers of their words.
+//! Steps of a transaction or of an application over several lines, and the readers of their words.
 ghost use Rattle.std.specs.Prelude.{◌≡◌};
 ghost use Rattle.cap_language.specs.Grammar.{Reads, read};
-ghost use Rattle.cap_script.specs.Language.{back, called, cascaded, delete, insert, rollback, spelled_step};
-ghost use Rattle.cap_script.specs.Language.{update};
+ghost use Rattle.cap_script.specs.Language.{back, called, cascaded, delete, insert, put, rollback};
+ghost use Rattle.cap_script.specs.Language.{spelled_step, update};
 
 use crate::Show;
 use crate::command::Spelled;
 use crate::operation::{cascaded, delete, insert, update};
+use cap_apply::Answer;
+use cap_codec::Contents;
 use cap_core::Command;
 use cap_database::Cause;
-use cap_language::{Cursor, LineFault};
+use cap_filter::TableFilter;
+use cap_language::{Cursor, LineFault, values};
+use cap_row::Row;
 use cap_txn::{Asked, Mark};
 use cap_value::AllocHandle;
 
-/// A step of a transaction over several lines.
+/// A step of a transaction over several lines, or of an application that stops at each conflict.
 #[derive(Drop)]
 pub enum Step<A: AllocHandle> {
     /// Begins a transaction.
@@ -24,9 +28,15 @@ pub enum Step<A: AllocHandle> {
     Rollback,
     /// Ends it, and commits its batch.
     End,
+    /// Opens an application of a blob, to the tables that the filter accepts, where there is one.
+    ApplyEach(Contents<A>, Option<TableFilter<A>>),
+    /// Answers the conflict at which the open application stands.
+    Answer(Answer),
+    /// Puts a row in place of the change that met it.
+    Put(Row<A>),
 }
 
-// A step of a transaction. Where no transaction can be open, its line only reads.
+// A step. Where no transaction can be open, its line only reads.
 pub(crate) fn spelled_step<A: AllocHandle>(taken: Step<A>) -> Spelled<A>
     ensures { result ≡ spelled_step taken }
 {
@@ -101,4 +111,16 @@ fn back<A: AllocHandle>(cursor: &mut Cursor<'_>) -> Result<Step<A>, LineFault>
     cursor.keyword("to")?;
     let number = cursor.natural()?;
     Ok(Step::Call(Asked::BackTo(Mark { number })))
+}
+
+// Reads a row that stands in place of a change: `(V,..)`.
+#[tactic(auto, unfolding(crate::specs::Language::put))]
+pub(crate) fn put<A: AllocHandle>(
+    alloc: A,
+    cursor: &mut Cursor<'_>,
+) -> Result<Spelled<A>, LineFault>
+    ensures reads { Reads result cursor.new.rest.now (read put cursor.old.rest.now) }
+{
+    let row = Row::new(values(alloc, cursor)?)?;
+    Ok(spelled_step(Step::Put(row)))
 }

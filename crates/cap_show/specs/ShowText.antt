@@ -74,11 +74,15 @@ module _ {A : Type 0} where
   patch_text (patched.Delete indirect key) =
       codes "delete " ++ (flag_text indirect ++ (codes " " ++ (defined_text key ++ 10 ∷ [])))
 
+-- the line of a group: its table and its columns
+abbrev pub head_text : List ℕ → List Bool → List ℕ
+head_text table schema =
+    codes "group " ++ (table ++ (codes " " ++ (flat_map column_text schema ++ 10 ∷ [])))
+
 module _ {X : Type 0} (one : X → List ℕ) where
   -- a line with the table and its columns, and a line for each change
   abbrev pub group_text : TableEntries X → List ℕ
-  group_text group = codes "group " ++ (group.table ++ (codes " " ++ (flat_map column_text group.schema
-      ++ (10 ∷ flat_map one group.changes))))
+  group_text group = head_text group.table group.schema ++ flat_map one group.changes
 
   -- a line that says what it is, and its groups
   abbrev pub list_text : List ℕ → List (TableEntries X) → List ℕ

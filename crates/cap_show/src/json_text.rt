@@ -110,6 +110,32 @@ impl<A: AllocHandle> JsonEntry<A> for Patch<A> {
     }
 }
 
+/// Writes a change of a changeset to this table, as an object.
+pub fn write_change_json<A: AllocHandle>(
+    alloc: A,
+    writer: &mut Writer<A>,
+    table: &Name<A>,
+    schema: &Schema<A>,
+    change: &RowChange<A>,
+) -> Result<(), OutOfMemory>
+    ensures { Appends result writer.old writer.new (spec.change table.now schema.now change.now) }
+{
+    change.write_json(alloc, writer, table, schema)
+}
+
+/// Writes a change of a patchset to this table, as an object.
+pub fn write_patch_json<A: AllocHandle>(
+    alloc: A,
+    writer: &mut Writer<A>,
+    table: &Name<A>,
+    schema: &Schema<A>,
+    patch: &Patch<A>,
+) -> Result<(), OutOfMemory>
+    ensures { Appends result writer.old writer.new (spec.patch table.now schema.now patch.now) }
+{
+    patch.write_json(alloc, writer, table, schema)
+}
+
 // The text of a list.
 fn list_json<C: JsonEntry<A>, A: AllocHandle>(
     alloc: A,

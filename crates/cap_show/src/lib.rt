@@ -6,7 +6,10 @@ mod list;
 mod sql;
 mod text;
 
-pub use json_text::{changeset_json, patchset_json, write_json_value, write_text_member};
+pub use json_text::{
+    changeset_json, patchset_json, write_change_json, write_json_value, write_patch_json,
+    write_text_member,
+};
 pub use list::{changeset_text, patchset_text};
 pub use sql::{Identifier, changeset_sql, patchset_sql};
-pub use text::ValueText;
+pub use text::{ChangeText, GroupText, PatchText, ValueText};

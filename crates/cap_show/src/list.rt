@@ -4,7 +4,7 @@ ghost use Rattle.std.specs.Io.KnownBytes.{Appends};
 ghost use Rattle.std.specs.List.{flat_map};
 ghost use Rattle.cap_show.specs.ShowText as spec;
 
-use crate::text::{DefinedText, RecordText, SchemaText};
+use crate::text::{ChangeText, GroupText, PatchText};
 use cap_changes::{ChangeList, Entry, GroupList, Patch, PatchList, RowChange, TableGroup};
 use cap_value::{AllocHandle, OutOfMemory};
 use std::io;
@@ -53,32 +53,7 @@ impl<A: AllocHandle> TextEntry for RowChange<A> {
     ghost text = { change_text };
 
     fn write_text<W: Write>(&self, output: &mut W) -> io::Result<()> {
-        match self {
-            RowChange::Insert { indirect, new } => {
-                writeln!(
-                    output,
-                    "insert {} {}",
-                    flag_text(*indirect),
-                    RecordText(new)
-                )
-            }
-            RowChange::Update { indirect, old, new } => {
-                let (old, new) = (RecordText(old), RecordText(new));
-                writeln!(
-                    output,
-                    "update {} old {old} new {new}",
-                    flag_text(*indirect)
-                )
-            }
-            RowChange::Delete { indirect, old } => {
-                writeln!(
-                    output,
-                    "delete {} {}",
-                    flag_text(*indirect),
-                    RecordText(old)
-                )
-            }
-        }
+        write!(output, "{}", ChangeText(self))
     }
 }
 
@@ -88,39 +63,8 @@ impl<A: AllocHandle> TextEntry for Patch<A> {
     ghost text = { patch_text };
 
     fn write_text<W: Write>(&self, output: &mut W) -> io::Result<()> {
-        match self {
-            Patch::Insert { indirect, new } => {
-                writeln!(
-                    output,
-                    "insert {} {}",
-                    flag_text(*indirect),
-                    RecordText(new)
-                )
-            }
-            Patch::Update { indirect, new } => {
-                writeln!(
-                    output,
-                    "update {} {}",
-                    flag_text(*indirect),
-                    RecordText(new)
-                )
-            }
-            Patch::Delete { indirect, key } => {
-                writeln!(
-                    output,
-                    "delete {} {}",
-                    flag_text(*indirect),
-                    DefinedText(key)
-                )
-            }
-        }
+        write!(output, "{}", PatchText(self))
     }
-}
-
-fn flag_text(indirect: bool) -> &'static str
-    ensures { result.now ≡ spec.flag_text indirect }
-{
-    if indirect { "indirect" } else { "direct" }
 }
 
 fn list_text<C: TextEntry, A: AllocHandle>(
@@ -174,8 +118,8 @@ fn write_group<C: TextEntry, A: AllocHandle, W: Write>(
     ensures { OnOk result (Appends (W.contents output.old) (W.contents output.new)
         (spec.group_text C.text group.now)) }
 {
-    let columns = SchemaText(group.schema());
-    writeln!(output, "group {} {columns}", group.table().as_str())?;
+    let head = GroupText::of(group.table(), group.schema());
+    write!(output, "{head}")?;
     write_lines(group.changes(), output)
 }
 

@@ -7,10 +7,10 @@ ghost use Rattle.cap_field.specs.FieldReading.{value_of};
 ghost use Rattle.cap_show.specs.Code.DefinedFields.{comma_text, is_first_after, next_text};
 ghost use Rattle.cap_show.specs.ShowText as spec;
 
-use cap_changes::FieldRecord;
+use cap_changes::{FieldRecord, Patch, RowChange};
 use cap_field::ValueRef;
 use cap_row::Schema;
-use cap_value::{AllocHandle, Value};
+use cap_value::{AllocHandle, Name, Value};
 use std::fmt;
 use std::fmt::{Display, Formatter, Write};
 use std::marker::PhantomData;
@@ -311,4 +311,97 @@ pub(crate) fn write_comma<W: Write>(f: &mut Formatter<W>, is_first: bool) -> fmt
     ensures { WritesOnOk W.write_str_gives f.old result (comma_text is_first) f.new }
 {
     if is_first { Ok(()) } else { f.write_str(",") }
+}
+
+/// The line of a group as text: its table and its columns.
+#[derive(Drop)]
+pub struct GroupText<'a, A: AllocHandle> {
+    table: &'a Name<A>,
+    schema: &'a Schema<A>,
+}
+
+impl<'a, A: AllocHandle> GroupText<'a, A> {
+    /// The line of a group of this table.
+    pub fn of(table: &'a Name<A>, schema: &'a Schema<A>) -> Self
+        ensures table { result.table.now ≡ table.now }
+        ensures schema { result.schema.now ≡ schema.now }
+    {
+        GroupText { table, schema }
+    }
+}
+
+impl<'a, A: AllocHandle> Display for GroupText<'a, A> {
+    ghost use Rattle.std.specs.Prelude.{Some};
+    ghost use Rattle.cap_show.specs.ShowText.{head_text};
+
+    ghost output = { λ shown. Some (head_text shown.table.now shown.schema.now) };
+
+    fn fmt<W: Write>(&self, f: &mut Formatter<W>) -> fmt::Result {
+        let columns = SchemaText(self.schema);
+        write!(f, "group {} {columns}\n", self.table.as_str())
+    }
+}
+
+/// The line of a change of a changeset as text: its kind, `direct` or `indirect`, and its fields in
+/// parentheses, with `-` for each undefined field.
+#[derive(Drop)]
+pub struct ChangeText<'a, A: AllocHandle>(pub &'a RowChange<A>);
+
+impl<'a, A: AllocHandle> Display for ChangeText<'a, A> {
+    ghost use Rattle.std.specs.Prelude.{Some};
+    ghost use Rattle.cap_show.specs.ShowText.{change_text};
+
+    ghost output = { λ shown. Some (change_text shown.0.now) };
+
+    fn fmt<W: Write>(&self, f: &mut Formatter<W>) -> fmt::Result {
+        match self.0 {
+            RowChange::Insert { indirect, new } => {
+                let flag = flag_text(*indirect);
+                write!(f, "insert {flag} {}\n", RecordText(new))
+            }
+            RowChange::Update { indirect, old, new } => {
+                let flag = flag_text(*indirect);
+                let (old, new) = (RecordText(old), RecordText(new));
+                write!(f, "update {flag} old {old} new {new}\n")
+            }
+            RowChange::Delete { indirect, old } => {
+                let flag = flag_text(*indirect);
+                write!(f, "delete {flag} {}\n", RecordText(old))
+            }
+        }
+    }
+}
+
+/// The line of a change of a patchset as text: an update has its key and its new values, a delete its key.
+#[derive(Drop)]
+pub struct PatchText<'a, A: AllocHandle>(pub &'a Patch<A>);
+
+impl<'a, A: AllocHandle> Display for PatchText<'a, A> {
+    ghost use Rattle.std.specs.Prelude.{Some};
+    ghost use Rattle.cap_show.specs.ShowText.{patch_text};
+
+    ghost output = { λ shown. Some (patch_text shown.0.now) };
+
+    fn fmt<W: Write>(&self, f: &mut Formatter<W>) -> fmt::Result {
+        match self.0 {
+            Patch::Insert { indirect, new } => {
+                let flag = flag_text(*indirect);
+                write!(f, "insert {flag} {}\n", RecordText(new))
+            }
+            Patch::Update { indirect, new } => {
+                let flag = flag_text(*indirect);
+                write!(f, "update {flag} {}\n", RecordText(new))
+            }
+            Patch::Delete { indirect, key } => {
+                let flag = flag_text(*indirect);
+                write!(f, "delete {flag} {}\n", DefinedText(key))
+            }
+        }
+    }
+}
+
+fn flag_text(indirect: bool) -> &'static str
+    ensures { result.now ≡ spec.flag_text indirect }
+{
+    if indirect { "indirect" } else { "direct" }
 }

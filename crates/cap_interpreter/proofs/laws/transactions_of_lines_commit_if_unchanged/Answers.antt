@@ -7,10 +7,12 @@ use Rattle.cap_interpreter.proofs.laws.transactions_of_lines_commit_if_unchanged
 pub returns : goal.returns
 returns g c =
     let traced = c.transactions_are_traced.ensures in
+    let keeps = c.applications_keep_to_the_rows_that_they_look_at.ensures in
+    let on = open_on traced.call traced.begin keeps.first keeps.step keeps.merged in
     record {
-      base = open_on traced.call traced.begin;
+      base = on;
       commit = λ lines txn is fits.
           let h = (after_lines begin_course lines).history in
-          commits h txn (open_on traced.call traced.begin lines txn is) fits c.rows_stand_under_own_keys.ensures.rising c.fitting_histories_grow.ensures.begins traced.batch
+          commits h txn (on lines txn is) fits c.rows_stand_under_own_keys.ensures.rising c.fitting_histories_grow.ensures.begins traced.batch
           c.transactions_commit_if_unchanged.ensures (c.legal_histories_grow.ensures.reply h (Commit (batch_of txn)));
     }

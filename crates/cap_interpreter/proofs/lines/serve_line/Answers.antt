@@ -11,6 +11,6 @@ pub returns : goal.returns
 returns g c =
     let line = c.args.line.now in
     let run = c.serve.ensures in
-    ran_command line (holding c.args.core.now c.args.txn) (Serve line.line.command) line.line.command c.serve.new.core c.args.txn (λ h. reply_text line (reply_of h line.line.command))
+    ran_command line (holding c.args.core.now c.args.held) (Serve line.line.command) line.line.command c.serve.new.core c.args.held (λ h. reply_text line (reply_of h line.line.command))
     c.serve.result (string_bytes c.args.output.now) (string_bytes c.serve.new.output) c.requires.serves refl c.blob_fits.ensures
     (λ course at. at.txn) (λ h. refl) run.served run.left run.room run.fault run.unchanged run.same
