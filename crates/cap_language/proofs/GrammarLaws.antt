@@ -1,5 +1,5 @@
 -- Laws of all grammars.
-use Rattle.std.proofs.Common.{Vec, IsErrAnd, length-append, ◌≡◌, ◌≤◌, ◌<◌, ◌⊎◌, ℕ, zero, suc, List, [], ◌∷◌, length, Bool, true, false, ◌==◌, eqb, cond, Option, Some, None, Result, Ok, Err, arith, refl, ap, sym, subst, ◌∙◌, append_assoc, append-nil, ◌++◌, inl, inr, le_refl, eq-eqb}
+use Rattle.std.proofs.Common.{Vec, IsErrAnd, MatchResult, length-append, ◌≡◌, ◌≤◌, ◌<◌, ◌⊎◌, ℕ, zero, suc, List, [], ◌∷◌, length, Bool, true, false, ◌==◌, eqb, cond, Option, Some, None, Result, Ok, Err, arith, refl, ap, sym, subst, ◌∙◌, append_assoc, append-nil, ◌++◌, inl, inr, le_refl, eq-eqb}
 use Rattle.std.proofs.lemmas.Bool.{eqb-true}
 use Rattle.cap_value.specs.declared.refusal.Refusal.{Refusal}
 use Rattle.cap_language.specs.Forms.{separated}
@@ -463,6 +463,18 @@ pub item_less : {X : Type 0} (s : ℕ) (item : Grammar X) (here mid : List ℕ) 
 item_less s item here mid x behind sign is = omega (arith, blanks_shorter here, sign_less s (behind_blanks here) mid sign, shorter true item mid mid x behind is)
 
 -- ---- exits by `?`
+
+pub err_made : {T X : Type 0} (r : Result T LineFault) (Made : T → Type 0) (fault : LineFault) (answer other : Read X)
+    → IsErrAnd r (λ e. e ≡ fault) → answer ≡ other → Fails fault other → MatchResult r Made (λ fault. Fails fault answer)
+err_made (Ok x) Made fault answer other is same fails = absurd is
+err_made (Err why) Made fault answer other is same fails =
+    subst (λ why. Fails why answer) (sym is) (subst (λ r. Fails fault r) (sym same) fails)
+
+pub err_read : {X : Type 0} (r : Result X LineFault) (rest : List ℕ) (fault : LineFault) (answer other : Read X)
+    → IsErrAnd r (λ e. e ≡ fault) → answer ≡ other → Fails fault other → Reads r rest answer
+err_read (Ok x) rest fault answer other is same fails = absurd is
+err_read (Err why) rest fault answer other is same fails =
+    subst (λ why. Fails why answer) (sym is) (subst (λ r. Fails fault r) (sym same) fails)
 
 pub err_reads : {X A : Type 0} (r : Result (Vec X A) LineFault) (rest : List ℕ) (fault : LineFault) (answer other : Read (List X))
     → IsErrAnd r (λ e. e ≡ fault) → answer ≡ other → Fails fault other → Reads (seen_items r) rest answer

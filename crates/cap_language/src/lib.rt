@@ -8,5 +8,5 @@ mod token;
 
 pub use cursor::{Cursor, Word};
 pub use fault::LineFault;
-pub use literals::{name, value, values};
+pub use literals::{name, row, value, values};
 pub use token::after_blanks;

@@ -1,7 +1,9 @@
 -- The first line of a text.
-use Rattle.std.proofs.Common.{◌≡◌, ◌∙◌, ℕ, suc, ◌+◌, ◌<◌, Bool, true, false, cond, ◌||◌, ◌==◌, List, [], ◌∷◌, ◌++◌, length, get_or, take, drop, drop-cons, take-append-drop, ap, ap₂, refl, sym, arith}
+use Rattle.std.proofs.Common.{◌≡◌, ◌∙◌, ℕ, zero, suc, ◌+◌, ◌<◌, ◌≤◌, Bool, true, false, cond, ◌||◌, ◌==◌, List, [], ◌∷◌, ◌++◌, length, get_or, take, drop, drop-cons, take-append-drop, ap, ap₂, refl, sym, subst, arith, add-one, le_refl, take_all}
 use Rattle.std.specs.List.{list_any, onto_first}
+use Rattle.std.proofs.lemmas.Bool.{eqb-true}
 use Rattle.std.proofs.lemmas.List.Folds.{list_any_more}
+use Rattle.memchr.specs.Find.{NoneBefore, Nowhere, Passes, is_byte}
 use Rattle.cap_replies.specs.TextLines.{split_lines}
 
 abbrev pub has_line_feed : List ℕ → Bool
@@ -42,3 +44,26 @@ line_at text i d within feed clear =
 -- it does not
 pub line_more : (text : List ℕ) (i byte : ℕ) → i < length text → byte ≡ get_or text i byte → (byte == 10) ≡ false → has_line_feed (take i text) ≡ false → has_line_feed (take (i + 1) text) ≡ false
 line_more text i byte within is other clear = list_any_more (λ b. b == 10) text i byte within ∙ ap₂ (λ (x y : Bool). x || y) clear (ap (λ (b : ℕ). b == 10) (sym is) ∙ other)
+
+not_true : (b : Bool) → (b ≡ true → ⊥) → b ≡ false
+not_true true never = absurd (never refl)
+not_true false never = refl
+
+-- no line feed before a place
+clear_before : (text : List ℕ) (n : ℕ) → n ≤ length text → Nowhere (Passes (is_byte 10) text) 0 n → has_line_feed (take n text) ≡ false
+clear_before text zero le none = refl
+clear_before text (suc n) le none =
+    let before = clear_before text n (omega arith) (λ k low less. none k low (omega arith)) in
+    let other : (get_or text n 0 == 10) ≡ false = not_true (get_or text n 0 == 10) (none n (omega arith) (omega arith)) in
+    rw (← add-one n) (list_any_more (λ b. b == 10) text n 0 (omega arith) ∙ ap₂ (λ (x y : Bool). x || y) before other)
+
+-- the first line ends at the first line feed
+pub line_found : (text : List ℕ) (k : ℕ) → NoneBefore (Passes (is_byte 10) text) 0 (length text) k × Passes (is_byte 10) text k
+    → split_lines text ≡ take k text ∷ split_lines (drop (k + 1) text)
+line_found text k found =
+    line_at text k 0 found.0.high (eqb-true (get_or text k 0) 10 found.1) (clear_before text k (omega (arith, found.0.high)) found.0.before)
+
+-- there is none
+pub line_none : (text : List ℕ) → 0 < length text → Nowhere (Passes (is_byte 10) text) 0 (length text) → split_lines text ≡ text ∷ []
+line_none text some none =
+    line_alone text some (subst (λ (l : List ℕ). has_line_feed l ≡ false) (take_all (length text) text (le_refl (length text))) (clear_before text (length text) (le_refl (length text)) none))

@@ -1,4 +1,5 @@
 mod BatchLaws
+mod CommandLaws
 pub mod Crossing
 mod CutLemmas
 mod FilterSize

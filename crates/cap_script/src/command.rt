@@ -1,7 +1,8 @@
 //! Reads commands. Each function but the first reads a command behind its first word.
-ghost use Rattle.std.specs.Prelude.{◌≡◌, None, Some, List, Bool, IfOk, MatchOption};
-ghost use Rattle.cap_language.specs.Forms.{natural, separated};
-ghost use Rattle.cap_language.specs.Grammar.{Reads, read, seen_items};
+ghost use Rattle.std.specs.Prelude.{◌≡◌, None, Some, List, ℕ, Bool, true, codes, IfOk, IfSome, MatchOption};
+ghost use Rattle.cap_value.specs.Bytes.{bytes_eq};
+ghost use Rattle.cap_language.specs.Forms.{a_word, natural, separated};
+ghost use Rattle.cap_language.specs.Grammar.{Reads, next_at, read, seen_items};
 ghost use Rattle.cap_script.specs.Language.{answer, application, apply_each, apply_quiet, applying, command};
 ghost use Rattle.cap_script.specs.Language.{commit, commit_at, contents, create, drop_database, each_conflict};
 ghost use Rattle.cap_script.specs.Language.{filter_behind, flags_in, get, key_letter, numbers, policy, report};
@@ -53,12 +54,38 @@ pub(crate) fn plain<A: AllocHandle>(command: Command<A>) -> Spelled<A>
     Spelled::Whole(command, Show::Plain)
 }
 
-// Reads a command.
-#[tactic(auto, unfolding(crate::specs::Language::command))]
+// Reads a command. Commits are read in a function of their own, since one pays at its entry for all that is in it.
 pub(crate) fn command<A: AllocHandle>(
     alloc: A,
     cursor: &mut Cursor<'_>,
 ) -> Result<Spelled<A>, LineFault>
+    ensures reads { Reads result cursor.new.rest.now (read command cursor.old.rest.now) }
+{
+    match behind_commit(cursor) {
+        Some(rest) => {
+            cursor.rest = rest;
+            commit(alloc, cursor)
+        }
+        None => any_command(alloc, cursor),
+    }
+}
+
+// The line behind the word `commit`, where that is the next token.
+fn behind_commit<'a>(cursor: &Cursor<'a>) -> Option<&'a str>
+    ensures { IfSome result (λ rest. (word : List ℕ) × (bytes_eq word (codes "commit") ≡ true)
+        × (next_at a_word cursor.now.rest.now ≡ Some (word, rest.now))) }
+{
+    let mut ahead = Cursor { rest: cursor.rest };
+    match ahead.word() {
+        Ok(word) if word.is("commit") => Some(ahead.rest),
+        _ => None,
+    }
+}
+
+// Reads any command.
+#[inline(never)]
+#[tactic(auto, unfolding(crate::specs::Language::command))]
+fn any_command<A: AllocHandle>(alloc: A, cursor: &mut Cursor<'_>) -> Result<Spelled<A>, LineFault>
     ensures reads { Reads result cursor.new.rest.now (read command cursor.old.rest.now) }
 {
     let word = cursor.word()?;

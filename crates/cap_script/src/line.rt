@@ -106,6 +106,7 @@ impl<A: AllocHandle> Line<A> {
 }
 
 // The line with this filter.
+#[inline(never)]
 fn with_filter<A: AllocHandle>(
     alloc: A,
     worker: Option<u64>,
@@ -146,6 +147,7 @@ fn with_filter<A: AllocHandle>(
 }
 
 // Reads a filter, which is the rest of the line.
+#[inline(never)]
 fn filter<A: AllocHandle>(alloc: A, cursor: &Cursor<'_>) -> Result<TableFilter<A>, LineFault>
     ensures { MakesUnlessMemory result
         (filter_read cursor.now.rest.now (filter_of cursor.now.rest.now)) }

@@ -7,8 +7,8 @@ ghost use Rattle.cap_script.specs.Language.{batch, cascaded, delete, field, fiel
 ghost use Rattle.cap_script.specs.Language.{update};
 
 use cap_database::{Action, Assignments, Cause, Op};
-use cap_language::{Cursor, LineFault, name, value, values};
-use cap_row::{Key, Row};
+use cap_language::{Cursor, LineFault, name, row, value, values};
+use cap_row::Key;
 use cap_table::RowRef;
 use cap_txn::{Batch, OPS_MAX};
 use cap_value::{AllocHandle, Refusal, Value};
@@ -25,7 +25,7 @@ pub(crate) fn row_ref<A: AllocHandle>(
     let word = cursor.word()?;
     if word.is("key") {
         let values = values(alloc, cursor)?;
-        return match Key::new(alloc, values)? {
+        return match Key::of_values(alloc, values)? {
             Some(key) => Ok(RowRef::Key(key)),
             None => Ok(RowRef::Loose(0)),
         };
@@ -144,7 +144,7 @@ pub(crate) fn insert<A: AllocHandle>(
     ensures reads { Reads result cursor.new.rest.now (read (insert cause) cursor.old.rest.now) }
 {
     let table = name(alloc, cursor)?;
-    let action = Action::Insert(Row::new(values(alloc, cursor)?)?);
+    let action = Action::Insert(row(alloc, cursor)?);
     Ok(Op {
         table,
         cause,

@@ -12,7 +12,7 @@ use cap_codec::Contents;
 use cap_core::Command;
 use cap_database::Cause;
 use cap_filter::TableFilter;
-use cap_language::{Cursor, LineFault, values};
+use cap_language::{Cursor, LineFault, row};
 use cap_row::Row;
 use cap_txn::{Asked, Mark};
 use cap_value::AllocHandle;
@@ -121,6 +121,6 @@ pub(crate) fn put<A: AllocHandle>(
 ) -> Result<Spelled<A>, LineFault>
     ensures reads { Reads result cursor.new.rest.now (read put cursor.old.rest.now) }
 {
-    let row = Row::new(values(alloc, cursor)?)?;
+    let row = row(alloc, cursor)?;
     Ok(spelled_step(Step::Put(row)))
 }
