@@ -15,6 +15,8 @@ from sqlite_server import SqliteServer
 CAPTURE = re.compile(r"(changeset|patchset) ([0-9a-f]+|-)$")
 REPORTED = re.compile(r"(conflict|omitted|skipped) \d+ ?")
 BUFFER = re.compile(r"buffer (?:([0-9a-f]+)|none|-)$")
+# The first line of rows or tables, with how many there are.
+LISTED = re.compile(r"(?:rows|tables) ([0-9]+)")
 # What may stand behind the counts of an application.
 BEHIND = re.compile(f"{REPORTED.pattern}|{BUFFER.pattern}")
 REFUSED = re.compile(r"refused at \d+: E1[56] \w+")
@@ -30,12 +32,13 @@ class Case:
 
 
 def split(lines, commands):
-    """The lines of each command's reply: one, for all rows of a table one more for each row, and for an application
-    one more for each thing that is reported, or for the buffer. A text that has a line feed moves the replies after
-    it, on both sides alike."""
+    """The lines of each command's reply: one, for all rows of a table one more for each row, for all tables one more
+    for each table, and for an application one more for each thing that is reported, or for the buffer. A text that has
+    a line feed moves the replies after it, on both sides alike."""
     replies, at = [], 0
     for _ in commands:
-        more = int(lines[at][5:]) if at < len(lines) and lines[at].startswith("rows ") else 0
+        listed = LISTED.fullmatch(lines[at]) if at < len(lines) else None
+        more = int(listed[1]) if listed else 0
         while at + 1 + more < len(lines) and BEHIND.match(lines[at + 1 + more]):
             more += 1
         replies.append(lines[at:at + 1 + more])
