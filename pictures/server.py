@@ -115,8 +115,15 @@ class Server:
         self.version, self.tables, self.saved, self.sessions, self.numbers = 0, {}, {}, {}, 0
         self.changes, self.touched = [], []
 
+    @classmethod
+    def has(cls, command):
+        """Whether it has this command. Those of transactions over several lines it has not."""
+        return hasattr(cls, f"do_{command.word}")
+
     def make(self, command):
         """Carries out a command, and answers its reply."""
+        if not self.has(command):
+            raise ValueError(f"no picture has the command {command.word}")
         self.changes, self.touched = [], []
         try:
             return getattr(self, f"do_{command.word}")(*command.arguments)
