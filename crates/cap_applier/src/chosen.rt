@@ -4,9 +4,8 @@ ghost use Rattle.cap_applier.specs.Chosen.{accepted_groups, accepted_in, accepte
 ghost use Rattle.cap_applier.specs.Chosen.{groups_from, numbering_in, numbering_of, numbers_from, own_number};
 ghost use Rattle.cap_applier.specs.Chosen.{passed_changes, passed_groups, passed_of};
 
-use crate::copied::{Copied, copy_group};
 use crate::{Numbering, Passed};
-use cap_changes::{Entry, GroupList, TableGroup};
+use cap_changes::{Entries, Entry, GroupList, TableGroup};
 use cap_codec::Contents;
 use cap_filter::TableFilter;
 use cap_value::{AllocHandle, OutOfMemory};
@@ -55,7 +54,7 @@ fn numbering_of<C: Entry, A: AllocHandle>(
     })
 }
 
-fn accepted_groups<C: Copied<A> + Drop, A: AllocHandle>(
+fn accepted_groups<C: Entry + Drop, A: AllocHandle>(
     alloc: A,
     filter: &TableFilter<A>,
     groups: &[TableGroup<C, A>],
@@ -69,7 +68,7 @@ fn accepted_groups<C: Copied<A> + Drop, A: AllocHandle>(
     Ok(list)
 }
 
-fn put_accepted<C: Copied<A> + Drop, A: AllocHandle>(
+fn put_accepted<C: Entry + Drop, A: AllocHandle>(
     alloc: A,
     filter: &TableFilter<A>,
     group: &TableGroup<C, A>,
@@ -78,7 +77,7 @@ fn put_accepted<C: Copied<A> + Drop, A: AllocHandle>(
     ensures { OnOk result (list.new ≡ list.old ++ accepted_groups filter.now (group.now ∷ [])) }
 {
     if filter.accepts(group.table()) {
-        list.push(copy_group(alloc, group)?)
+        list.push(group.copy()?)
     } else {
         Ok(())
     }
@@ -122,12 +121,12 @@ fn put_accepted_numbers<C: Entry, A: AllocHandle>(
 }
 
 // Puts a number for each change, from the first on.
-fn put_numbers<C, A: AllocHandle>(
+fn put_numbers<C: Entry, A: AllocHandle>(
     first: u64,
-    changes: &[C],
+    changes: Entries<'_, C>,
     numbers: &mut Vec<u64, A>,
 ) -> Result<(), OutOfMemory>
-    ensures { OnOk result (numbers.new.items ≡ numbers.old.items ++ each_number first changes.now) }
+    ensures { OnOk result (numbers.new.items ≡ numbers.old.items ++ each_number first changes.entry) }
 {
     let mut number = first;
     for _change in changes {

@@ -215,14 +215,14 @@ impl<A: AllocHandle> Applied<A> {
         requires there { IsTrue (is_some (table_of self.old.database table.now)) }
         requires own { (row : Fields A) → IsOwnRow self.old.database table.now key.now row
             → IsOwnRow self.old.database table.now key.now
-            (set_fields (update_record update.flags.now update.key.now update.new.now) row) }
+            (set_fields (update_record update.flags.now update.key update.new) row) }
         requires unknown { update.conflict ≡ Some NotFound }
-        ensures conflict { IfOk result (λ conflict. missed update.entry.flags.now update.entry.old.now
+        ensures conflict { IfOk result (λ conflict. missed update.entry.flags.now update.entry.old
             (row_at self.old.database table.now key.now) ≡ conflict) }
         ensures state { IfOk result (λ conflict. self.new ≡ placed_if_made
             (is_made update.entry.decision.policy update.entry.decision.number conflict) table.now key.now
-            (option_map (set_fields (update_record update.entry.flags.now update.entry.key.now
-            update.entry.new.now)) (row_at self.old.database table.now key.now)) self.old) }
+            (option_map (set_fields (update_record update.entry.flags.now update.entry.key
+            update.entry.new)) (row_at self.old.database table.now key.now)) self.old) }
     {
         let mut step = update;
         match self.database.replace_row(table, key, &mut step) {

@@ -76,12 +76,12 @@ fn apply_group<C: BlobChange<A>, A: AllocHandle>(
         (map (C.requested group.now.schema) group.now.changes) applied.old) applied.new }
 {
     let (table, columns) = (group.table(), group.schema());
-    for (place, change) in group.changes().iter().enumerate() {
+    for (place, change) in group.changes().enumerate() {
         let decision = Decision {
             number: number + place as u64,
             policy,
         };
-        change.apply_to(applied, decision, table, columns)?;
+        C::apply_to(&change, applied, decision, table, columns)?;
     }
     Ok(())
 }

@@ -19,8 +19,9 @@ use crate::replace::RowUpdate;
 use crate::row_conflict::missed;
 use crate::target::width_of;
 use crate::{Applied, ConflictKind};
+use cap_changes::RecordRef;
 use cap_row::Schema;
-use cap_value::{AllocHandle, Fault, Name, Refusal, Value};
+use cap_value::{AllocHandle, Fault, Name, Refusal};
 
 impl<A: AllocHandle> Applied<A> {
     // An insert. The row is put at once, and the row that it replaced is put back where the change is
@@ -30,7 +31,7 @@ impl<A: AllocHandle> Applied<A> {
         decision: Decision,
         table: &Name<A>,
         columns: &Schema<A>,
-        new: &[Option<Value<A>>],
+        new: &RecordRef<'_, A>,
     ) -> Result<(), Fault<Refusal>>
         requires keyed { IsTrue (has_key columns.now) }
         requires fits { IsTrue (satisfy (requirements record_kinds.Full columns.now) new.now) }
@@ -63,9 +64,9 @@ impl<A: AllocHandle> Applied<A> {
         decision: Decision,
         table: &Name<A>,
         columns: &Schema<A>,
-        old: &[Option<Value<A>>],
-        key: &[Option<Value<A>>],
-        new: &[Option<Value<A>>],
+        old: &RecordRef<'_, A>,
+        key: &RecordRef<'_, A>,
+        new: &RecordRef<'_, A>,
     ) -> Result<(), Fault<Refusal>>
         requires keyed { IsTrue (has_key columns.now) }
         requires fits { IsTrue (satisfy (requirements record_kinds.Keyed columns.now)
@@ -84,9 +85,9 @@ impl<A: AllocHandle> Applied<A> {
             alloc: &alloc,
             decision,
             flags,
-            old,
-            key,
-            new,
+            old: old.copy(),
+            key: key.copy(),
+            new: new.copy(),
             conflict: Some(ConflictKind::NotFound),
         };
         let conflict = self.replace_present_row(table, &under, update)?;
@@ -104,8 +105,8 @@ impl<A: AllocHandle> Applied<A> {
         decision: Decision,
         table: &Name<A>,
         columns: &Schema<A>,
-        old: &[Option<Value<A>>],
-        key: &[Option<Value<A>>],
+        old: &RecordRef<'_, A>,
+        key: &RecordRef<'_, A>,
     ) -> Result<(), Fault<Refusal>>
         requires key { IsTrue (is_key (key_values columns.now key.now)) }
         requires target { IsTrue (is_some (target self.old.database table.now columns.now)) }

@@ -6,9 +6,10 @@ use crate::ConflictKind;
 use crate::decision::Decision;
 use crate::fields::updated;
 use crate::row_conflict::missed;
+use cap_changes::RecordRef;
 use cap_row::Row;
 use cap_tree::Remake;
-use cap_value::{AllocHandle, Value};
+use cap_value::AllocHandle;
 
 // Makes the row after an update of the row that is there, where the policy applies the update to it. The key
 // fields are in the one record, and the fields to set in the other.
@@ -17,9 +18,9 @@ pub(crate) struct RowUpdate<'a, A: AllocHandle> {
     pub(crate) alloc: &'a A,
     pub(crate) decision: Decision,
     pub(crate) flags: &'a [bool],
-    pub(crate) old: &'a [Option<Value<A>>],
-    pub(crate) key: &'a [Option<Value<A>>],
-    pub(crate) new: &'a [Option<Value<A>>],
+    pub(crate) old: RecordRef<'a, A>,
+    pub(crate) key: RecordRef<'a, A>,
+    pub(crate) new: RecordRef<'a, A>,
     // The conflict with the row, once there is one.
     pub(crate) conflict: Option<ConflictKind>,
 }
@@ -41,14 +42,14 @@ impl<'a, A: AllocHandle> Remake<Row<A>> for RowUpdate<'a, A> {
     ghost can_remake = { λ update row. Unit {0} };
 
     ghost gives = { λ update row answer after. GivesUpdated update.decision.policy update.decision.number
-        update.flags.now update.old.now (update_record update.flags.now update.key.now update.new.now)
+        update.flags.now update.old (update_record update.flags.now update.key update.new)
         row answer after.conflict };
 
     fn remake(&mut self, present: &Row<A>) -> Result<Row<A>, NotUpdated> {
-        let conflict = missed(self.flags, self.old, Some(present));
+        let conflict = missed(self.flags, &self.old, Some(present));
         self.conflict = conflict;
         match self.decision.is_made(conflict) {
-            Ok(true) => match updated(*self.alloc, self.flags, self.key, self.new, present) {
+            Ok(true) => match updated(*self.alloc, self.flags, &self.key, &self.new, present) {
                 Ok(row) => Ok(row),
                 Err(_) => Err(NotUpdated::OutOfMemory),
             },

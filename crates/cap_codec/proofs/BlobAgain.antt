@@ -19,18 +19,25 @@ use Rattle.cap_codec.specs.declared.key_flags.KeyFlags.{KeyFlags}
 use Rattle.cap_codec.specs.declared.key_flags.KeyFlags.TheVariants.{Ones}
 use Rattle.cap_codec.specs.declared.read.Contents.{Contents}
 use Rattle.cap_codec.specs.declared.read.Contents.TheVariants.{Changes, Patches}
-use Rattle.cap_codec.specs.Changeset.{flag_byte, flags_bytes, header_bytes, change_bytes, changes_under, group_bytes}
-use Rattle.cap_codec.specs.HeaderReading.{is_zero, is_set, count_at, flags_at, name_at, header_at}
-use Rattle.cap_codec.specs.Patchset.{patch_bytes, patch_group_bytes, patch_list_bytes_with}
+use Rattle.cap_changes.specs.ChangeBytes.{flag_byte, change_bytes}
+use Rattle.cap_codec.specs.Changeset.{flags_bytes, header_bytes, changes_under, group_bytes}
+use Rattle.cap_codec.specs.HeaderReading.{is_zero, count_at, flags_at, name_at, header_at}
+use Rattle.cap_changes.specs.ChangeReading.{is_set}
+use Rattle.cap_changes.specs.ChangeBytes.{patch_bytes}
+use Rattle.cap_codec.specs.Patchset.{patch_group_bytes, patch_list_bytes_with}
 use Rattle.cap_field.specs.Varint.{varint_bytes}
-use Rattle.cap_codec.specs.BlobReading.{is_operation, change_at, patch_at, group_at, patch_group_at, groups_at, blob_at}
-use Rattle.cap_codec.specs.Spelling.{SpellsEach, SpellsGroup, SpellsChange, SpellsPatch, SpellsChanges, SpellsPatches, Spells}
-use Rattle.cap_codec.specs.Writable.{IsTable, HasValues, PatchHasValues, IsGroup, IsPatchGroup, IsWritable, has_some, blob_bytes, blob_bytes_with, of_patches, with_some, HasNoEmptyGroup}
+use Rattle.cap_changes.specs.Operation.{is_operation}
+use Rattle.cap_changes.specs.ChangeReading.{change_at, patch_at}
+use Rattle.cap_codec.specs.BlobReading.{group_at, patch_group_at, groups_at, blob_at}
+use Rattle.cap_changes.specs.Spelling.{SpellsEach, SpellsChange, SpellsPatch}
+use Rattle.cap_codec.specs.Spelling.{SpellsGroup, SpellsChanges, SpellsPatches, Spells}
+use Rattle.cap_codec.specs.Writable.{IsTable, IsGroup, IsPatchGroup, IsWritable, has_some, blob_bytes, blob_bytes_with, of_patches, with_some, HasNoEmptyGroup}
+use Rattle.cap_changes.specs.HasValues.{HasValues, PatchHasValues}
 use Rattle.cap_field.proofs.Binds.{ok_is}
 use Rattle.cap_codec.proofs.HeaderLemmas.{key_is_set}
 use Rattle.cap_codec.proofs.KeyFlagLemmas.{set_is, flags_set}
 use Rattle.cap_field.proofs.FieldAgain.{varint_again, bytes_again}
-use Rattle.cap_codec.proofs.ChangeAgain.{NoChange, change_again, patch_again, each_again}
+use Rattle.cap_changes.proofs.ChangeAgain.{NoChange, change_again, patch_again, each_again}
 
 -- ---- headers
 

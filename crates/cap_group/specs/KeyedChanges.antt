@@ -8,6 +8,7 @@ use Rattle.cap_row.specs.Key.{fields_cmp}
 use Rattle.cap_row.specs.Schema.{has_key}
 use Rattle.cap_tree.specs.Tree.{get, put_entry, take_entry}
 use Rattle.cap_changes.specs.Entries.{TableEntries}
+use Rattle.cap_changes.specs.Stored.{IsEntry}
 
 -- the table's name, its key flags, and at most one change for each key, in the order of the keys
 pub record KeyedChanges (A X : Type 0) : Type 0 where
@@ -20,6 +21,16 @@ module _ {A X : Type 0} where
   pub record IsKeyed (fits : List Bool → X → Bool) (keyed : KeyedChanges A X) : Type 0 where
     pub keyed_schema : IsTrue (has_key keyed.schema)
     pub fit : AllByRecursion (λ change. IsTrue (fits keyed.schema change.1)) keyed.changes
+
+  -- the changes with these bytes, of a table with these columns
+  abbrev pub stored_changes : (List Bool → List ℕ → X) → List Bool → List (Fields A × List ℕ) → List (Fields A × X)
+  stored_changes stored flags entries = map (λ entry. (entry.0, stored flags entry.1)) entries
+
+  -- the bytes are those of changes
+  abbrev pub AreStored : (List Bool → X → Bool) → (X → Type 0) → (X → List ℕ) → (List Bool → List ℕ → X) →
+      List Bool → List (Fields A × List ℕ) → Type 0
+  AreStored fits values bytes_of stored flags entries = AllByRecursion
+      (λ entry. IsEntry fits values bytes_of flags (stored flags entry.1) entry.1) entries
 
   -- a table without changes
   abbrev pub no_changes : List ℕ → List Bool → KeyedChanges A X

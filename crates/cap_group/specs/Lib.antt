@@ -5,3 +5,4 @@ pub mod KeyedChanges
 pub mod ChangeGroup
 pub mod Rows
 pub mod Bytes
+pub mod Put

@@ -1,12 +1,16 @@
 //! Two changes of one row in changesets.
-ghost use Rattle.std.specs.Prelude.{◌≡◌, IfOk};
+ghost use Rattle.std.specs.Prelude.{◌≡◌, Bool, List, IfOk};
+ghost use Rattle.cap_changes.specs.ChangeRef.{change_of};
 ghost use Rattle.cap_changes.specs.declared.row_change.RowChange.TheVariants.{Insert, Update, Delete};
 ghost use Rattle.cap_group.specs.Combined.{combined};
+ghost use Rattle.cap_group.specs.Put.{IsPut};
 
 use crate::change_key::record_key;
 use crate::combine::Combine;
-use crate::record::{copy_record, record_over, update_between};
-use cap_changes::{FieldRecord, RowChange};
+use crate::record::{RecordOver, push_over, push_update_between};
+use cap_changes::{
+    ChangeRef, EntryRef, Operation, RecordRef, RowChange, push_operation, push_record,
+};
 use cap_row::{Key, Schema};
 use cap_value::{AllocHandle, OutOfMemory};
 
@@ -18,139 +22,125 @@ impl<A: AllocHandle> Combine<A> for RowChange<A> {
 
     ghost combined = { λ flags present added. combined flags present added };
 
-    fn key(&self, alloc: A, schema: &Schema<A>) -> Result<Key<A>, OutOfMemory> {
-        match self {
-            RowChange::Insert { new, .. } => record_key(alloc, schema, new),
-            RowChange::Update { old, .. } => record_key(alloc, schema, old),
-            RowChange::Delete { old, .. } => record_key(alloc, schema, old),
-        }
-    }
-
-    fn copy(&self, alloc: A) -> Result<Self, OutOfMemory> {
-        copy_change(alloc, self)
-    }
-
-    fn combined(
-        &self,
+    fn key(
+        change: &EntryRef<'_, Self>,
         alloc: A,
         schema: &Schema<A>,
-        added: &Self,
-    ) -> Result<Option<Self>, OutOfMemory> {
-        match self {
-            RowChange::Insert { indirect, new } => after_insert(
-                alloc, schema, *indirect, new, added,
-            ),
-            RowChange::Update { indirect, old, new } => after_update(
-                alloc, schema, *indirect, old, new, added,
-            ),
-            RowChange::Delete { indirect, old } => after_delete(
-                alloc, schema, *indirect, old, added,
-            ),
+    ) -> Result<Key<A>, OutOfMemory> {
+        match change.read() {
+            ChangeRef::Insert { new, .. } => record_key(alloc, schema, &new),
+            ChangeRef::Update { old, .. } => record_key(alloc, schema, &old),
+            ChangeRef::Delete { old, .. } => record_key(alloc, schema, &old),
         }
     }
-}
 
-fn copy_change<A: AllocHandle>(alloc: A, change: &RowChange<A>) -> Result<RowChange<A>, OutOfMemory>
-    ensures { IfOk result (λ copy. copy ≡ change.now) }
-{
-    match change {
-        RowChange::Insert { indirect, new } => Ok(RowChange::Insert {
-            indirect: *indirect,
-            new: copy_record(alloc, new)?,
-        }),
-        RowChange::Update { indirect, old, new } => Ok(RowChange::Update {
-            indirect: *indirect,
-            old: copy_record(alloc, old)?,
-            new: copy_record(alloc, new)?,
-        }),
-        RowChange::Delete { indirect, old } => Ok(RowChange::Delete {
-            indirect: *indirect,
-            old: copy_record(alloc, old)?,
-        }),
+    fn push_combined(
+        out: &mut Vec<u8, A>,
+        flags: &[bool],
+        present: &EntryRef<'_, Self>,
+        added: &EntryRef<'_, Self>,
+    ) -> Result<bool, OutOfMemory> {
+        match present.read() {
+            ChangeRef::Insert { indirect, new } => after_insert(out, indirect, new, added.read()),
+            ChangeRef::Update { indirect, old, new } => {
+                after_update(out, flags, indirect, old, new, added.read())
+            }
+            ChangeRef::Delete { indirect, old } => {
+                after_delete(out, flags, indirect, old, added.read())
+            }
+        }
     }
 }
 
 fn after_insert<A: AllocHandle>(
-    alloc: A,
-    schema: &Schema<A>,
+    out: &mut Vec<u8, A>,
     indirect: bool,
-    new: &FieldRecord<A>,
-    added: &RowChange<A>,
-) -> Result<Option<RowChange<A>>, OutOfMemory>
-    ensures { IfOk result (λ change. change
-        ≡ combined schema.now (Insert indirect new.now) added.now) }
+    new: RecordRef<'_, A>,
+    added: ChangeRef<'_, A>,
+) -> Result<bool, OutOfMemory>
+    ensures { (flags : List Bool) → IfOk result (λ some. IsPut some out.old.items out.new.items
+        (combined flags (Insert indirect new.entry) (change_of added.entry))) }
 {
     match added {
-        RowChange::Insert { .. } => Ok(Some(RowChange::Insert {
-            indirect,
-            new: copy_record(alloc, new)?,
-        })),
-        RowChange::Update {
+        ChangeRef::Insert { .. } => {
+            push_operation(out, Operation::Insert, indirect)?;
+            push_record(out, new)?;
+            Ok(true)
+        }
+        ChangeRef::Update {
             indirect: added,
             new: last,
             ..
-        } => Ok(Some(RowChange::Insert {
-            indirect: indirect && *added,
-            new: record_over(alloc, new, last)?,
-        })),
-        RowChange::Delete { .. } => Ok(None),
+        } => {
+            push_operation(out, Operation::Insert, indirect && added)?;
+            push_over(out, RecordOver::new(new, last))?;
+            Ok(true)
+        }
+        ChangeRef::Delete { .. } => Ok(false),
     }
 }
 
 fn after_update<A: AllocHandle>(
-    alloc: A,
-    schema: &Schema<A>,
+    out: &mut Vec<u8, A>,
+    flags: &[bool],
     indirect: bool,
-    old: &FieldRecord<A>,
-    new: &FieldRecord<A>,
-    added: &RowChange<A>,
-) -> Result<Option<RowChange<A>>, OutOfMemory>
-    ensures { IfOk result (λ change. change
-        ≡ combined schema.now (Update indirect old.now new.now) added.now) }
+    old: RecordRef<'_, A>,
+    new: RecordRef<'_, A>,
+    added: ChangeRef<'_, A>,
+) -> Result<bool, OutOfMemory>
+    ensures { IfOk result (λ some. IsPut some out.old.items out.new.items
+        (combined flags.now (Update indirect old.entry new.entry) (change_of added.entry))) }
 {
     match added {
-        RowChange::Insert { .. } => Ok(Some(RowChange::Update {
-            indirect,
-            old: copy_record(alloc, old)?,
-            new: copy_record(alloc, new)?,
-        })),
-        RowChange::Update {
+        ChangeRef::Insert { .. } => {
+            push_operation(out, Operation::Update, indirect)?;
+            push_record(out, old)?;
+            push_record(out, new)?;
+            Ok(true)
+        }
+        ChangeRef::Update {
             indirect: added,
             old: then,
             new: last,
         } => {
-            let first = record_over(alloc, then, old)?;
-            let last = record_over(alloc, new, last)?;
-            update_between(alloc, schema.flags(), indirect && *added, &first, &last)
+            let first = RecordOver::new(then, old);
+            let last = RecordOver::new(new, last);
+            push_update_between(out, flags, indirect && added, &first, &last)
         }
-        RowChange::Delete {
+        ChangeRef::Delete {
             indirect: added,
             old: then,
-        } => Ok(Some(RowChange::Delete {
-            indirect: indirect && *added,
-            old: record_over(alloc, then, old)?,
-        })),
+        } => {
+            push_operation(out, Operation::Delete, indirect && added)?;
+            push_over(out, RecordOver::new(then, old))?;
+            Ok(true)
+        }
     }
 }
 
 fn after_delete<A: AllocHandle>(
-    alloc: A,
-    schema: &Schema<A>,
+    out: &mut Vec<u8, A>,
+    flags: &[bool],
     indirect: bool,
-    old: &FieldRecord<A>,
-    added: &RowChange<A>,
-) -> Result<Option<RowChange<A>>, OutOfMemory>
-    ensures { IfOk result (λ change. change
-        ≡ combined schema.now (Delete indirect old.now) added.now) }
+    old: RecordRef<'_, A>,
+    added: ChangeRef<'_, A>,
+) -> Result<bool, OutOfMemory>
+    ensures { IfOk result (λ some. IsPut some out.old.items out.new.items
+        (combined flags.now (Delete indirect old.entry) (change_of added.entry))) }
 {
     match added {
-        RowChange::Insert {
+        ChangeRef::Insert {
             indirect: added,
             new,
-        } => update_between(alloc, schema.flags(), indirect && *added, old, new),
-        _ => Ok(Some(RowChange::Delete {
-            indirect,
-            old: copy_record(alloc, old)?,
-        })),
+        } => {
+            let first = RecordOver::alone(old);
+            let last = RecordOver::alone(new);
+            push_update_between(out, flags, indirect && added, &first, &last)
+        }
+        _ => {
+            push_operation(out, Operation::Delete, indirect)?;
+            push_record(out, old)?;
+            Ok(true)
+        }
     }
 }

@@ -3,24 +3,27 @@ ghost use Rattle.std.specs.Prelude.{◌≡◌, IfOk, IfSome, IsTrue, OnOk};
 ghost use Rattle.cap_row.specs.Key.{fields_cmp};
 ghost use Rattle.cap_row.specs.Schema.{has_key};
 ghost use Rattle.cap_tree.specs.Tree.{get};
+ghost use Rattle.std.specs.Option.{option_map};
 ghost use Rattle.cap_changes.specs.Entries.{AllFit};
+ghost use Rattle.cap_changes.specs.Stored.{IsEntry};
 ghost use Rattle.cap_codec.specs.Writable.{has_some};
 ghost use Rattle.cap_group.specs.KeyedChanges.{change_after, entries_of, no_changes};
 ghost use Rattle.cap_group.specs.KeyedChanges.{with_change, with_changes};
 
 use crate::combine::Combine;
 use crate::shared::Shared;
-use cap_changes::TableGroup;
+use cap_changes::{Entries, EntryRef, TableGroup};
 use cap_row::{Key, Schema};
 use cap_tree::Tree;
 use cap_value::{AllocHandle, Name, OutOfMemory};
-use std::marker::Model;
+use std::marker::{Model, PhantomData};
 
 // The changes of one table, at most one for each key.
 pub(crate) struct KeyedChanges<C: Combine<A> + Drop, A: AllocHandle> {
     table: Name<A>,
     schema: Schema<A>,
-    changes: Tree<Key<A>, Shared<C, A>, A>,
+    changes: Tree<Key<A>, Shared<A>, A>,
+    marker: PhantomData<C>,
 }
 
 impl<C: Combine<A> + Drop, A: AllocHandle> Model for KeyedChanges<C, A> {
@@ -28,10 +31,18 @@ impl<C: Combine<A> + Drop, A: AllocHandle> Model for KeyedChanges<C, A> {
 
     ghost Value = { keyed.KeyedChanges A C };
 
-    ghost view = { λ k. record { table = k.table; schema = k.schema; changes = k.changes } };
+    ghost view = { λ k. record {
+      table = k.table;
+      schema = k.schema;
+      changes = keyed.stored_changes C.stored k.schema k.changes;
+    } };
 
-    ghost invariant = { λ k. keyed.IsKeyed C.fits_in
-        (record { table = k.table; schema = k.schema; changes = k.changes }) };
+    ghost invariant = { λ k. keyed.IsKeyed C.fits_in (record {
+      table = k.table;
+      schema = k.schema;
+      changes = keyed.stored_changes C.stored k.schema k.changes;
+    })
+        × keyed.AreStored C.fits_in C.has_values C.bytes_of C.stored k.schema k.changes };
 }
 
 // A derived `Drop` would be opened in each caller's loop.
@@ -41,6 +52,7 @@ impl<C: Combine<A> + Drop, A: AllocHandle> Drop for KeyedChanges<C, A> {
             table: _,
             schema: _,
             changes: _,
+            marker: _,
         } = self;
     }
 }
@@ -55,6 +67,7 @@ impl<C: Combine<A> + Drop, A: AllocHandle> KeyedChanges<C, A> {
             table,
             schema,
             changes: Tree::empty(alloc),
+            marker: PhantomData,
         }
     }
 
@@ -85,47 +98,61 @@ impl<C: Combine<A> + Drop, A: AllocHandle> KeyedChanges<C, A> {
             table: self.table.copy()?,
             schema: self.schema.copy()?,
             changes: self.changes.snapshot()?,
+            marker: PhantomData,
         })
     }
 
     // Adds changes, one after the other.
-    pub(crate) fn add_all(&mut self, alloc: A, changes: &[C]) -> Result<(), OutOfMemory>
-        requires { AllFit C.fits_in self.old.schema changes.now }
-        ensures { OnOk result (self.new ≡ with_changes C.key C.combined self.old changes.now) }
+    pub(crate) fn add_all(&mut self, alloc: A, changes: Entries<'_, C>) -> Result<(), OutOfMemory>
+        requires { AllFit C.fits_in self.old.schema changes }
+        ensures { OnOk result (self.new ≡ with_changes C.key C.combined self.old changes.entry) }
     {
         for change in changes {
-            self.add(alloc, change)?;
+            self.add(alloc, &change)?;
         }
         Ok(())
     }
 
-    fn add(&mut self, alloc: A, change: &C) -> Result<(), OutOfMemory>
+    fn add(&mut self, alloc: A, change: &EntryRef<'_, C>) -> Result<(), OutOfMemory>
         requires { IsTrue (C.fits_in self.old.schema change.now) }
         ensures { OnOk result (self.new ≡ with_change C.key C.combined self.old change.now) }
     {
-        let key = change.key(alloc, &self.schema)?;
+        let key = C::key(change, alloc, &self.schema)?;
         match self.change_after(alloc, &key, change)? {
             None => {
                 self.changes.remove(&key)?;
             }
             Some(change) => {
-                self.changes.insert(key, Shared::new(alloc, change)?)?;
+                self.changes.insert(key, change)?;
             }
         }
         Ok(())
     }
 
-    // What becomes of the change at the key, if there is one.
-    fn change_after(&self, alloc: A, key: &Key<A>, added: &C) -> Result<Option<C>, OutOfMemory>
+    // The bytes of what becomes of the change at the key, if there is one.
+    fn change_after(
+        &self,
+        alloc: A,
+        key: &Key<A>,
+        added: &EntryRef<'_, C>,
+    ) -> Result<Option<Shared<A>>, OutOfMemory>
         requires { IsTrue (C.fits_in self.now.schema added.now) }
-        ensures change { IfOk result (λ change. change ≡ change_after C.combined self.now.schema
+        ensures change { IfOk result (λ change. option_map (C.stored self.now.schema) change
+            ≡ change_after C.combined self.now.schema
             (get fields_cmp self.now.changes key.now) added.now) }
-        ensures fits { IfOk result (λ change. IfSome change
-            (λ one. IsTrue (C.fits_in self.now.schema one))) }
+        ensures entry { IfOk result (λ change. IfSome change (λ bytes. IsEntry C.fits_in C.has_values
+            C.bytes_of self.now.schema (C.stored self.now.schema bytes) bytes)) }
     {
-        match self.changes.get(key) {
-            None => Ok(Some(added.copy(alloc)?)),
-            Some(present) => present.get().combined(alloc, &self.schema, added),
+        let Some(present) = self.changes.get(key) else {
+            return Ok(Some(Shared::new(alloc, added.as_bytes())?));
+        };
+        let flags = self.schema.flags();
+        let present = EntryRef::of(flags, present.get());
+        let mut bytes = Vec::new(alloc);
+        if C::push_combined(&mut bytes, flags, &present, added)? {
+            Ok(Some(Shared::new(alloc, bytes.as_slice())?))
+        } else {
+            Ok(None)
         }
     }
 
@@ -135,7 +162,7 @@ impl<C: Combine<A> + Drop, A: AllocHandle> KeyedChanges<C, A> {
     {
         let mut group = TableGroup::new(alloc, self.table.copy()?, self.schema.copy()?);
         for (_, change) in &self.changes {
-            group.push(change.get().copy(alloc)?)?;
+            group.push(change.get())?;
         }
         Ok(group)
     }

@@ -1,61 +1,62 @@
-//! A change that copies share.
+//! The bytes of a change that copies share.
 ghost use Rattle.std.specs.Prelude.{◌≡◌, IfOk};
 
 use cap_value::{AllocHandle, Exact, OutOfMemory};
+use smallvec::SmallVec;
 use std::marker::Model;
 use std::sync::Arc;
 
-// A change of a changegroup. A copy counts one owner more.
-pub(crate) struct Shared<C, A: AllocHandle> {
-    change: Arc<C, A>,
+// The bytes of a change of a changegroup. A copy counts one owner more. As many as this fit inline, so that
+// most changes are one allocation.
+pub(crate) struct Shared<A: AllocHandle> {
+    bytes: Arc<SmallVec<u8, 48, A>, A>,
 }
 
-impl<C, A: AllocHandle> Model for Shared<C, A> {
+impl<A: AllocHandle> Model for Shared<A> {
     ghost use Rattle.std.specs.Arc.{arc_value};
+    ghost use Rattle.std.specs.Prelude.{List, ℕ};
 
-    ghost Value = { C };
+    ghost Value = { List ℕ };
 
-    ghost view = { λ s. arc_value s.change };
+    ghost view = { λ s. (arc_value s.bytes).items };
 }
 
 // A derived `Drop` would be opened in each caller's loop.
-impl<C: Drop, A: AllocHandle> Drop for Shared<C, A> {
+impl<A: AllocHandle> Drop for Shared<A> {
     fn drop(self) {
-        let Shared { change: _ } = self;
+        let Shared { bytes: _ } = self;
     }
 }
 
-impl<C, A: AllocHandle> Shared<C, A> {
-    pub(crate) fn new(alloc: A, change: C) -> Result<Self, OutOfMemory>
-    where
-        C: Drop,
-        ensures { IfOk result (λ shared. shared ≡ change) }
+impl<A: AllocHandle> Shared<A> {
+    pub(crate) fn new(alloc: A, bytes: &[u8]) -> Result<Self, OutOfMemory>
+        ensures { IfOk result (λ shared. shared ≡ bytes.now) }
     {
-        match Arc::new(alloc, change) {
-            Ok(change) => Ok(Shared { change }),
+        match Arc::new(alloc, SmallVec::from_slice(alloc, bytes)?) {
+            Ok(bytes) => Ok(Shared { bytes }),
             Err(_) => Err(OutOfMemory),
         }
     }
 
-    pub(crate) fn get(&self) -> &C
+    pub(crate) fn get(&self) -> &[u8]
         ensures { result.now ≡ self.now }
     {
-        &self.change
+        self.bytes.as_slice()
     }
 }
 
-impl<C: Drop, A: AllocHandle> Clone for Shared<C, A> {
+impl<A: AllocHandle> Clone for Shared<A> {
     ghost use Rattle.std.specs.Prelude.{◌≡◌};
 
     ghost is_clone = { λ change clone. clone ≡ change };
 
     fn clone(&self) -> Result<Self, OutOfMemory> {
         Ok(Shared {
-            change: Arc::try_clone(&self.change)?,
+            bytes: Arc::try_clone(&self.bytes)?,
         })
     }
 }
 
-impl<C: Drop, A: AllocHandle> Exact for Shared<C, A> {
+impl<A: AllocHandle> Exact for Shared<A> {
     ghost exact = { λ change clone same. same };
 }

@@ -4,6 +4,8 @@ ghost use Rattle.std.specs.Io.KnownBytes.{Appends};
 ghost use Rattle.std.specs.List.{flat_map};
 ghost use Rattle.std.specs.Prelude.{◌≡◌, ◌++◌, Bool, List, IfOk, OnOk, false, option_copied, ℕ};
 ghost use Rattle.std.specs.Prelude.{slice_get};
+ghost use Rattle.cap_field.specs.FieldReading.{value_of};
+ghost use Rattle.cap_changes.specs.FieldReading.{field_of};
 ghost use Rattle.cap_show.specs.Code.DefinedFields.{is_first_after, next_text};
 ghost use Rattle.cap_show.specs.Code.Equations.{asked_value, next_equation, separator_before};
 ghost use Rattle.cap_show.specs.Code.Equations as code;
@@ -11,12 +13,15 @@ ghost use Rattle.cap_show.specs.Sql as spec;
 
 use crate::text::{write_blob, write_comma, write_quoted};
 use cap_changes::{
-    ChangeList, Entry, FieldRecord, GroupList, Patch, PatchList, RowChange, TableGroup,
+    ChangeList, ChangeRef, Entry, EntryRef, GroupList, Patch, PatchList, PatchRef, RecordRef,
+    RowChange, TableGroup,
 };
+use cap_field::ValueRef;
 use cap_row::Schema;
-use cap_value::{AllocHandle, Name, OutOfMemory, Value};
+use cap_value::{AllocHandle, Name, OutOfMemory};
 use std::fmt::{Display, Formatter};
 use std::io::Write;
+use std::marker::PhantomData;
 use std::{fmt, io};
 
 /// A changeset as SQL, as SQLite's program `changeset` does it: a statement for each change, between `BEGIN`
@@ -50,13 +55,15 @@ trait SqlEntry<A: AllocHandle>: Entry {
 
     // Writes it.
     fn write_sql<W: Write>(
-        &self,
+        change: &EntryRef<'_, Self>,
         table: &Name<A>,
         schema: &Schema<A>,
         output: &mut W,
     ) -> io::Result<()>
+    where
+        Self: Sized,
         ensures { OnOk result (Appends (W.contents output.old) (W.contents output.new)
-            (sql table.now schema.now self.now)) };
+            (sql table.now schema.now change.now)) };
 }
 
 impl<A: AllocHandle> SqlEntry<A> for RowChange<A> {
@@ -65,15 +72,15 @@ impl<A: AllocHandle> SqlEntry<A> for RowChange<A> {
     ghost sql = { change_sql };
 
     fn write_sql<W: Write>(
-        &self,
+        change: &EntryRef<'_, Self>,
         table: &Name<A>,
         schema: &Schema<A>,
         output: &mut W,
     ) -> io::Result<()> {
-        match self {
-            RowChange::Insert { new, .. } => write_insert(table, new, output),
-            RowChange::Update { old, new, .. } => write_update(table, schema, old, new, output),
-            RowChange::Delete { old, .. } => write_delete(table, schema, old, output),
+        match change.read() {
+            ChangeRef::Insert { new, .. } => write_insert(table, &new, output),
+            ChangeRef::Update { old, new, .. } => write_update(table, schema, &old, &new, output),
+            ChangeRef::Delete { old, .. } => write_delete(table, schema, &old, output),
         }
     }
 }
@@ -84,15 +91,15 @@ impl<A: AllocHandle> SqlEntry<A> for Patch<A> {
     ghost sql = { patch_sql };
 
     fn write_sql<W: Write>(
-        &self,
+        change: &EntryRef<'_, Self>,
         table: &Name<A>,
         schema: &Schema<A>,
         output: &mut W,
     ) -> io::Result<()> {
-        match self {
-            Patch::Insert { new, .. } => write_insert(table, new, output),
-            Patch::Update { new, .. } => write_update(table, schema, new, new, output),
-            Patch::Delete { key, .. } => write_delete(table, schema, key, output),
+        match change.read() {
+            PatchRef::Insert { new, .. } => write_insert(table, &new, output),
+            PatchRef::Update { new, .. } => write_update(table, schema, &new, &new, output),
+            PatchRef::Delete { key, .. } => write_delete(table, schema, &key, output),
         }
     }
 }
@@ -145,14 +152,14 @@ fn write_group<C: SqlEntry<A>, A: AllocHandle, W: Write>(
 {
     let (table, schema) = (group.table(), group.schema());
     for change in group.changes() {
-        change.write_sql(table, schema, output)?;
+        C::write_sql(&change, table, schema, output)?;
     }
     Ok(())
 }
 
 fn write_insert<A: AllocHandle, W: Write>(
     table: &Name<A>,
-    new: &FieldRecord<A>,
+    new: &RecordRef<'_, A>,
     output: &mut W,
 ) -> io::Result<()>
     ensures { OnOk result (Appends (W.contents output.old) (W.contents output.new)
@@ -166,14 +173,14 @@ fn write_insert<A: AllocHandle, W: Write>(
 fn write_update<A: AllocHandle, W: Write>(
     table: &Name<A>,
     schema: &Schema<A>,
-    key: &FieldRecord<A>,
-    new: &FieldRecord<A>,
+    key: &RecordRef<'_, A>,
+    new: &RecordRef<'_, A>,
     output: &mut W,
 ) -> io::Result<()>
     ensures { OnOk result (Appends (W.contents output.old) (W.contents output.new)
         (spec.update_text table.now schema.now key.now new.now)) }
 {
-    if modifies_nothing(schema.flags(), new.fields()) {
+    if modifies_nothing(schema.flags(), new) {
         return Ok(());
     }
     write_set(table, schema, key, new, output)
@@ -182,8 +189,8 @@ fn write_update<A: AllocHandle, W: Write>(
 fn write_set<A: AllocHandle, W: Write>(
     table: &Name<A>,
     schema: &Schema<A>,
-    key: &FieldRecord<A>,
-    new: &FieldRecord<A>,
+    key: &RecordRef<'_, A>,
+    new: &RecordRef<'_, A>,
     output: &mut W,
 ) -> io::Result<()>
     ensures { OnOk result (Appends (W.contents output.old) (W.contents output.new)
@@ -206,7 +213,7 @@ fn write_set<A: AllocHandle, W: Write>(
 fn write_delete<A: AllocHandle, W: Write>(
     table: &Name<A>,
     schema: &Schema<A>,
-    key: &FieldRecord<A>,
+    key: &RecordRef<'_, A>,
     output: &mut W,
 ) -> io::Result<()>
     ensures { OnOk result (Appends (W.contents output.old) (W.contents output.new)
@@ -222,11 +229,11 @@ fn write_delete<A: AllocHandle, W: Write>(
 }
 
 // Whether no field outside the key is defined.
-fn modifies_nothing<A: AllocHandle>(flags: &[bool], fields: &[Option<Value<A>>]) -> bool
+fn modifies_nothing<A: AllocHandle>(flags: &[bool], fields: &RecordRef<'_, A>) -> bool
     ensures { result ≡ code.is_empty (spec.equations false 0 flags.now fields.now) }
 {
-    for (column, field) in fields.iter().enumerate() {
-        if asked_value(false, flags, column, field).is_some() {
+    for (column, field) in fields.copy().enumerate() {
+        if asked_value::<A>(false, flags, column, field).is_some() {
             return false;
         }
     }
@@ -238,12 +245,13 @@ fn asked_value<'a, A: AllocHandle>(
     of_key: bool,
     flags: &[bool],
     column: usize,
-    field: &'a Option<Value<A>>,
-) -> Option<&'a Value<A>>
-    ensures { option_copied result ≡ code.asked_value of_key (slice_get flags.now column) field.now }
+    field: Option<ValueRef<'a>>,
+) -> Option<ValueRef<'a>>
+    ensures { field_of result
+        ≡ code.asked_value {A = A} of_key (slice_get flags.now column) (field_of field.entry) }
 {
     match flags.get(column) {
-        Some(is_key) if *is_key == of_key => field.as_ref(),
+        Some(is_key) if *is_key == of_key => field,
         _ => None,
     }
 }
@@ -265,20 +273,35 @@ impl<'a> Display for Identifier<'a> {
 
 // A value as a literal.
 #[derive(Drop)]
-struct Literal<'a, A: AllocHandle>(&'a Value<A>);
+struct Literal<'a, A: AllocHandle> {
+    value: ValueRef<'a>,
+    marker: PhantomData<A>,
+}
+
+impl<'a, A: AllocHandle> Literal<'a, A> {
+    fn of(value: ValueRef<'a>) -> Self
+        ensures { value_of {A = A} result.value ≡ value_of value.entry }
+    {
+        Literal {
+            value,
+            marker: PhantomData,
+        }
+    }
+}
 
 impl<'a, A: AllocHandle> Display for Literal<'a, A> {
     ghost use Rattle.std.specs.Prelude.{Some};
     ghost use Rattle.cap_show.specs.Sql.{literal};
+    ghost use Rattle.cap_field.specs.FieldReading.{value_of};
 
-    ghost output = { λ shown. Some (literal shown.0.now) };
+    ghost output = { λ shown. Some (literal {A = A} (value_of shown.value)) };
 
     fn fmt<W: fmt::Write>(&self, f: &mut Formatter<W>) -> fmt::Result {
-        match self.0 {
-            Value::Null => f.write_str("NULL"),
-            Value::Int(number) => write!(f, "{number}"),
-            Value::Text(text) => write_text(f, text.as_str()),
-            Value::Blob(blob) => write_blob(f, blob.as_slice()),
+        match self.value {
+            ValueRef::Null => f.write_str("NULL"),
+            ValueRef::Int(number) => write!(f, "{number}"),
+            ValueRef::Text(text) => write_text(f, text),
+            ValueRef::Blob(blob) => write_blob(f, blob),
         }
     }
 }
@@ -304,7 +327,7 @@ fn write_cast<W: fmt::Write>(f: &mut Formatter<W>, bytes: &[u8]) -> fmt::Result
 
 // The defined fields of a record, with commas between them.
 #[derive(Drop)]
-struct ValueList<'a, A: AllocHandle>(&'a FieldRecord<A>);
+struct ValueList<'a, A: AllocHandle>(&'a RecordRef<'a, A>);
 
 impl<'a, A: AllocHandle> Display for ValueList<'a, A> {
     ghost use Rattle.std.specs.Prelude.{Some};
@@ -313,20 +336,20 @@ impl<'a, A: AllocHandle> Display for ValueList<'a, A> {
     ghost output = { λ shown. Some (values shown.0.now) };
 
     fn fmt<W: fmt::Write>(&self, f: &mut Formatter<W>) -> fmt::Result {
-        write_values(f, self.0.fields())
+        write_values(f, self.0)
     }
 }
 
 // Writes the defined fields with commas between them.
 fn write_values<A: AllocHandle, W: fmt::Write>(
     f: &mut Formatter<W>,
-    fields: &[Option<Value<A>>],
+    fields: &RecordRef<'_, A>,
 ) -> fmt::Result
     ensures { WritesOnOk W.write_str_gives f.old result (spec.values fields.now) f.new }
 {
     let mut is_first = true;
-    for field in fields {
-        write_if_defined(f, &mut is_first, field)?;
+    for field in fields.copy() {
+        write_if_defined::<A, W>(f, &mut is_first, field)?;
     }
     Ok(())
 }
@@ -335,18 +358,18 @@ fn write_values<A: AllocHandle, W: fmt::Write>(
 fn write_if_defined<A: AllocHandle, W: fmt::Write>(
     f: &mut Formatter<W>,
     is_first: &mut bool,
-    field: &Option<Value<A>>,
+    field: Option<ValueRef<'_>>,
 ) -> fmt::Result
     ensures text { WritesOnOk W.write_str_gives f.old result
-        (next_text spec.literal is_first.old field.now) f.new }
-    ensures first { is_first.new ≡ is_first_after is_first.old field.now }
+        (next_text (spec.literal {A = A}) is_first.old (field_of field.entry)) f.new }
+    ensures first { is_first.new ≡ is_first_after {A = A} is_first.old (field_of field.entry) }
 {
     match field {
         Some(value) => {
             let is_first_value = *is_first;
             *is_first = false;
             write_comma(f, is_first_value)?;
-            Literal(value).fmt(f)
+            Literal::<A>::of(value).fmt(f)
         }
         None => Ok(()),
     }
@@ -356,7 +379,7 @@ fn write_if_defined<A: AllocHandle, W: fmt::Write>(
 #[derive(Drop)]
 struct Equations<'a, A: AllocHandle> {
     schema: &'a Schema<A>,
-    fields: &'a FieldRecord<A>,
+    fields: &'a RecordRef<'a, A>,
     of_key: bool,
 }
 
@@ -367,7 +390,7 @@ impl<'a, A: AllocHandle> Display for Equations<'a, A> {
     ghost output = { λ shown. Some (joined shown.of_key shown.schema.now shown.fields.now) };
 
     fn fmt<W: fmt::Write>(&self, f: &mut Formatter<W>) -> fmt::Result {
-        write_equations(f, self.of_key, self.schema.flags(), self.fields.fields())
+        write_equations(f, self.of_key, self.schema.flags(), self.fields)
     }
 }
 
@@ -375,14 +398,14 @@ fn write_equations<A: AllocHandle, W: fmt::Write>(
     f: &mut Formatter<W>,
     of_key: bool,
     flags: &[bool],
-    fields: &[Option<Value<A>>],
+    fields: &RecordRef<'_, A>,
 ) -> fmt::Result
     ensures { WritesOnOk W.write_str_gives f.old result (spec.joined of_key flags.now fields.now) f.new }
 {
     let mut is_first = true;
-    for (column, field) in fields.iter().enumerate() {
-        let value = asked_value(of_key, flags, column, field);
-        write_next_equation(f, &mut is_first, of_key, column, value)?;
+    for (column, field) in fields.copy().enumerate() {
+        let value = asked_value::<A>(of_key, flags, column, field);
+        write_next_equation::<A, W>(f, &mut is_first, of_key, column, value)?;
     }
     Ok(())
 }
@@ -393,18 +416,18 @@ fn write_next_equation<A: AllocHandle, W: fmt::Write>(
     is_first: &mut bool,
     of_key: bool,
     column: usize,
-    value: Option<&Value<A>>,
+    value: Option<ValueRef<'_>>,
 ) -> fmt::Result
     ensures text { WritesOnOk W.write_str_gives f.old result
-        (next_equation is_first.old of_key column (option_copied value.entry)) f.new }
-    ensures first { is_first.new ≡ is_first_after is_first.old (option_copied value.entry) }
+        (next_equation {A = A} is_first.old of_key column (field_of value.entry)) f.new }
+    ensures first { is_first.new ≡ is_first_after {A = A} is_first.old (field_of value.entry) }
 {
     match value {
         Some(value) => {
             let is_first_value = *is_first;
             *is_first = false;
             write_separator(f, is_first_value, of_key)?;
-            write!(f, "c{column}={}", Literal(value))
+            write!(f, "c{column}={}", Literal::<A>::of(value))
         }
         None => Ok(()),
     }
