@@ -14,4 +14,5 @@ pub mod OperationLemmas
 pub mod OrderLemmas
 pub mod RowLemmas
 pub mod RunLemmas
+pub mod StayLemmas
 pub mod TransactionLemmas

@@ -43,12 +43,12 @@ impl<A: AllocHandle> Applied<A> {
         let row = new_row(self.alloc(), width_of(self.database(), table), new)?;
         let key = key_of_fields(self.alloc(), columns.flags(), new)?;
         let Some(taken) = self.put(table, key.copy()?, row)? else {
-            self.add_change(table, key)?;
+            self.add_change(table, key, None)?;
             self.count()?;
             return Ok(());
         };
         if self.judge(decision, Some(ConflictKind::Conflict))? {
-            self.add_replacement(table, key)?;
+            self.add_replacement(table, key, Some(taken))?;
             self.count()?;
             return Ok(());
         }
@@ -89,11 +89,11 @@ impl<A: AllocHandle> Applied<A> {
             new,
             conflict: Some(ConflictKind::NotFound),
         };
-        let conflict = self.replace_present_row(table, &under, update)?;
+        let (before, conflict) = self.replace_present_row(table, &under, update)?;
         if !self.judge(decision, conflict)? {
             return Ok(());
         }
-        self.add_replacement(table, under)?;
+        self.add_replacement(table, under, before)?;
         self.count()?;
         Ok(())
     }
@@ -118,7 +118,7 @@ impl<A: AllocHandle> Applied<A> {
         let gone = self.take(table, &under)?;
         let conflict = missed(columns.flags(), old, gone.as_ref());
         if self.judge(decision, conflict)? {
-            self.add_change(table, under)?;
+            self.add_change(table, under, gone)?;
             self.count()?;
             return Ok(());
         }
