@@ -27,7 +27,7 @@ use Rattle.cap_apply.specs.Row as applied
 use Rattle.cap_apply.proofs.RowLemmas.{record_key, update_key}
 use Rattle.cap_group.specs.ChangeKey.{change_key, key_values}
 use Rattle.cap_group.specs.Rows.{IsRowUnder, changes_of_row}
-use Rattle.cap_group.proofs.KeyLemmas.{key_is}
+use Rattle.cap_convergence.proofs.KeyedRecordLemmas.{key_is}
 use Rattle.cap_rebase.specs.Flag.{flagged}
 use Rattle.cap_captures.specs.Rows.{row_changes}
 

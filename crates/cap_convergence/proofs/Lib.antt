@@ -1,3 +1,4 @@
+pub mod KeyedRecordLemmas
 pub mod KeyLemmas
 pub mod StepLemmas
 pub mod AppliedLemmas

@@ -1,6 +1,7 @@
 //! The commands that write: a new table, a transaction, and a blob that is applied.
 ghost use Rattle.std.specs.Prelude.{◌≡◌, ◌+◌, ◌∷◌, [], Ok, OnErr, OnOk, Some};
 ghost use Rattle.cap_table.specs.WithHook.{LeavesOnceAllowed};
+ghost use Rattle.cap_database.specs.Carried.{CarryFirstRows};
 ghost use Rattle.cap_database.specs.KeptKey.{kept_key};
 ghost use Rattle.cap_database.specs.Operation.{changes, run, step};
 ghost use Rattle.cap_database.specs.Tables.{Tables, create};
@@ -21,7 +22,7 @@ use cap_apply::{Applied, Policy, applied_blobs_keep_columns};
 use cap_codec::Contents;
 use cap_database::{Change, Database, Op, Outcome, run_ops, tables_keep_columns};
 use cap_row::{Key, Schema};
-use cap_session::{Sessions, changes_of_a_key_are_one_touch};
+use cap_session::Sessions;
 use cap_table::NotMade;
 use cap_txn::Batch;
 use cap_value::{AllocHandle, Fault, Name, Refusal};
@@ -190,6 +191,7 @@ impl<A: AllocHandle> Core<A> {
     ) -> Result<Reply<A>, Fault<C::Refusal>>
         requires room { HasRoom self.old.events }
         requires kept { KeepsColumns self.old.main outcome.database }
+        requires carried { CarryFirstRows self.old.main outcome.changes }
         requires can_ask { C.can_ask hook.old (write_reply self.old (made (Ok outcome))) }
         ensures { Reports C.gives (write_reply self.old (made (Ok outcome)))
             (after_write self.old [] (made (Ok outcome)))
@@ -262,6 +264,7 @@ impl<A: AllocHandle> Core<A> {
     ) -> Result<Reply<A>, Fault<C::Refusal>>
         requires room { HasRoom self.old.events }
         requires kept { KeepsColumns self.old.main blob.database }
+        requires carried { CarryFirstRows self.old.main blob.changes }
         requires can_ask { C.can_ask hook.old (write_reply self.old (applied (Ok blob))) }
         ensures { Reports C.gives (write_reply self.old (applied (Ok blob)))
             (after_write self.old quiet.now (applied (Ok blob)))
@@ -290,12 +293,13 @@ impl<A: AllocHandle> Core<A> {
     ) -> Result<Reply<A>, Fault<C::Refusal>>
         requires room { HasRoom self.old.events }
         requires kept { KeepsColumns self.old.main tables }
+        requires carried { CarryFirstRows self.old.main changes.now }
         requires can_ask { C.can_ask hook.old reply }
         ensures { Reports C.gives reply (written self.old tables changes.now quiet.now)
             self.old self.new hook.old hook.new result }
     {
         self.main.rows_stand();
-        self.sessions.stage_commit(&self.main, changes, quiet)?;
+        self.sessions.stage_commit(changes, quiet)?;
         ask(hook, &reply)?;
         self.sessions.publish();
         self.main = tables;
@@ -322,9 +326,8 @@ fn reserve_and_step<A: AllocHandle, C: CommitHook<A>>(
     ensures kept { OnErr result (main.new ≡ main.old) }
     ensures live { sessions.new.live ≡ sessions.old.live }
     ensures staged { OnOk result (sessions.new.staged
-        ≡ record_commit_each main.old (changes main.old op.now) [] sessions.old.live) }
+        ≡ record_commit_each (changes main.old op.now) [] sessions.old.live) }
 {
-    changes_of_a_key_are_one_touch::<A>();
     let mut recording = RecordingHook {
         sessions,
         op,

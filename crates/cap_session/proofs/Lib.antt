@@ -1,12 +1,13 @@
 mod CommitLemmas
 pub mod Crossing
 mod LatestLemmas
-mod KeyLemmas
+pub mod KeyLemmas
 mod ListLemmas
 mod RecordingLemmas
+mod NoteLemmas
 mod NumberLemmas
 mod PlaceLemmas
-mod RecordLemmas
+pub mod RecordLemmas
 mod TableLemmas
 mod StageLemmas
 mod StagedLemmas

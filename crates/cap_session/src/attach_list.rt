@@ -4,16 +4,18 @@ ghost use Rattle.std.specs.List.{IsDistinct, position};
 ghost use Rattle.std.specs.Map.{keys_of};
 ghost use Rattle.std.specs.Option.{option_copied};
 ghost use Rattle.cap_value.specs.Bytes.{bytes_eq};
-ghost use Rattle.cap_session.specs.Code.AttachList.{IsWhole, attached_of, staged_of};
-ghost use Rattle.cap_session.specs.Code.Staging.{touches_by};
-ghost use Rattle.cap_session.specs.Recording.{attach_by, attach_by_rule, touch_table, touch_tables};
-ghost use Rattle.cap_session.specs.Session.{forget, records_of, stored};
+ghost use Rattle.cap_session.specs.Code.AttachList.{IsWhole, attached_of, changed_at, staged_of};
+ghost use Rattle.cap_session.specs.Recording.{attach_by, attach_by_rule, is_cascade, touch_table};
+ghost use Rattle.cap_session.specs.Recording.{touch_tables, touches_found, touches_of};
+ghost use Rattle.cap_session.specs.Records.{touch, with_touches};
+ghost use Rattle.cap_session.specs.Session.{attach, forget, records_of, stored};
 
 use crate::attached::Attached;
 use crate::staged_records::{StagedRecords, Tables, stage_at};
-use crate::touch::Touches;
 use crate::{AutomaticRule, Records};
-use cap_database::{Change, Database};
+use cap_compare::Difference;
+use cap_database::{Cause, Change};
+use cap_row::{Key, Row};
 use cap_value::{AllocHandle, Name, OutOfMemory};
 use indexmap::IndexMap;
 
@@ -88,51 +90,152 @@ impl<A: AllocHandle> AttachList<A> {
         clear_each(self.alloc, &mut self.tables);
     }
 
-    // Stages the changes of one commit after what is staged. `before` is the database before it. Tables that
-    // the rule accepts are attached.
+    // Stages the changes of one commit after what is staged. Tables that the rule accepts are attached.
     pub(crate) fn stage_changes(
         &mut self,
         rule: &AutomaticRule<A>,
         indirect: bool,
-        before: &Database<A>,
         changes: &[Change<A>],
     ) -> Result<(), OutOfMemory>
         requires whole { IsWhole self.old }
         ensures kept { attached_of self.new ≡ attached_of self.old }
-        ensures staged { OnOk result (staged_of self.new ≡ touch_tables before.now indirect changes.now
+        ensures staged { OnOk result (staged_of self.new ≡ touch_tables indirect changes.now
             (attach_by_rule rule.now changes.now (staged_of self.old))) }
         ensures whole { IsWhole self.new }
     {
         for change in changes {
-            let touches = Touches::OfChange(before, change);
-            self.stage_touches(rule, indirect, &change.table, touches)?;
+            self.stage_change(rule, indirect, change)?;
         }
         Ok(())
     }
 
-    // Stages touches of a table after what is staged. The table is looked up once, and attached where the
-    // rule accepts it.
-    pub(crate) fn stage_touches(
+    // Stages a change after what is staged. Its table is looked up once, and attached where the rule accepts
+    // it.
+    fn stage_change(
         &mut self,
         rule: &AutomaticRule<A>,
         indirect: bool,
-        name: &Name<A>,
-        touches: Touches<'_, A>,
+        change: &Change<A>,
     ) -> Result<(), OutOfMemory>
         requires whole { IsWhole self.old }
         ensures kept { attached_of self.new ≡ attached_of self.old }
         ensures staged { OnOk result (staged_of self.new
-            ≡ touch_table name.now (touches_by indirect touches.entry)
-            (attach_by rule.now (staged_of self.old) name.now)) }
+            ≡ touch_table change.now.table (touches_of indirect change.now.table (change.now ∷ []))
+            (attach_by rule.now (staged_of self.old) change.now.table)) }
         ensures whole { IsWhole self.new }
     {
-        match self.place_by(rule, name)? {
-            Some(place) => {
-                move_latest_at(&mut self.tables, place)?;
-                stage_at(&self.tables, &mut self.staged, place, indirect, touches)
+        match self.place_by(rule, &change.table)? {
+            Some(place) => self.note_change(place, indirect, change),
+            None => Ok(()),
+        }
+    }
+
+    // Stages the touch by a change of the table at this place, if its row has a key.
+    fn note_change(
+        &mut self,
+        place: usize,
+        indirect: bool,
+        change: &Change<A>,
+    ) -> Result<(), OutOfMemory>
+        requires whole { IsWhole self.old }
+        requires there { place < length self.old.tables.entries }
+        ensures kept { attached_of self.new ≡ attached_of self.old }
+        ensures staged { OnOk result (staged_of self.new ≡ changed_at place (λ records. with_touches records
+            (touches_of indirect change.now.table (change.now ∷ []))) (staged_of self.old)) }
+        ensures whole { IsWhole self.new }
+    {
+        match &change.key {
+            Some(key) => {
+                let indirect = indirect || is_cascade(change.cause);
+                self.note(place, key, change.before.as_ref(), indirect)
             }
             None => Ok(()),
         }
+    }
+
+    // Stages a diff of a table after what is staged. The table is attached whatever the rule.
+    pub(crate) fn stage_diff(
+        &mut self,
+        indirect: bool,
+        name: &Name<A>,
+        differences: &[Difference<A>],
+    ) -> Result<(), OutOfMemory>
+        requires whole { IsWhole self.old }
+        ensures kept { attached_of self.new ≡ attached_of self.old }
+        ensures staged { OnOk result (staged_of self.new
+            ≡ touch_table name.now (touches_found indirect differences.now)
+            (attach name.now (staged_of self.old))) }
+        ensures whole { IsWhole self.new }
+    {
+        match self.place_by(&AutomaticRule::All, name)? {
+            Some(place) => self.note_each(place, indirect, differences),
+            None => Ok(()),
+        }
+    }
+
+    // Stages a touch of each key that differs in the table at this place.
+    fn note_each(
+        &mut self,
+        place: usize,
+        indirect: bool,
+        differences: &[Difference<A>],
+    ) -> Result<(), OutOfMemory>
+        requires whole { IsWhole self.old }
+        requires there { place < length self.old.tables.entries }
+        ensures kept { attached_of self.new ≡ attached_of self.old }
+        ensures staged { OnOk result (staged_of self.new ≡ changed_at place
+            (λ records. with_touches records (touches_found indirect differences.now)) (staged_of self.old)) }
+        ensures whole { IsWhole self.new }
+    {
+        for difference in differences {
+            self.note_difference(place, indirect, difference)?;
+        }
+        Ok(())
+    }
+
+    fn note_difference(
+        &mut self,
+        place: usize,
+        indirect: bool,
+        difference: &Difference<A>,
+    ) -> Result<(), OutOfMemory>
+        requires whole { IsWhole self.old }
+        requires there { place < length self.old.tables.entries }
+        ensures kept { attached_of self.new ≡ attached_of self.old }
+        ensures staged { OnOk result (staged_of self.new ≡ changed_at place
+            (λ records. touch records (record {
+              key = difference.now.key;
+              image = difference.now.image;
+              indirect = indirect;
+            })) (staged_of self.old)) }
+        ensures long { length self.new.tables.entries ≡ length self.old.tables.entries }
+        ensures whole { IsWhole self.new }
+    {
+        self.note(place, &difference.key, difference.image.as_ref(), indirect)
+    }
+
+    // Stages a touch of a key of the table at this place, with the row before it.
+    fn note(
+        &mut self,
+        place: usize,
+        key: &Key<A>,
+        image: Option<&Row<A>>,
+        indirect: bool,
+    ) -> Result<(), OutOfMemory>
+        requires whole { IsWhole self.old }
+        requires there { place < length self.old.tables.entries }
+        ensures kept { attached_of self.new ≡ attached_of self.old }
+        ensures staged { OnOk result (staged_of self.new ≡ changed_at place
+            (λ records. touch records (record {
+              key = key.now;
+              image = option_copied image.entry;
+              indirect = indirect;
+            })) (staged_of self.old)) }
+        ensures long { length self.new.tables.entries ≡ length self.old.tables.entries }
+        ensures whole { IsWhole self.new }
+    {
+        move_latest_at(&mut self.tables, place)?;
+        stage_at(&self.tables, &mut self.staged, place, key, image, indirect)
     }
 
     // The index of the table of this name, which is appended where the rule accepts it, unless it is there.
@@ -268,4 +371,13 @@ fn move_latest_at<A: AllocHandle>(tables: &mut Tables<A>, place: usize) -> Resul
     ensures { tables.new.entries ≡ tables.old.entries }
 {
     tables[place].move_latest()
+}
+
+fn is_cascade(cause: Cause) -> bool
+    ensures { result ≡ is_cascade cause }
+{
+    match cause {
+        Cause::Direct => false,
+        Cause::Cascade => true,
+    }
 }

@@ -12,10 +12,9 @@ use crate::attach_list::AttachList;
 use crate::attached::Attached;
 use crate::ending::Ending;
 use crate::staging::Staging;
-use crate::touch::Touches;
 use crate::{AutomaticRule, Record, Records, SessionChange};
 use cap_compare::Difference;
-use cap_database::{Change, Database};
+use cap_database::Change;
 use cap_filter::TableFilter;
 use cap_row::Key;
 use cap_value::{AllocHandle, Name, OutOfMemory};
@@ -162,17 +161,12 @@ impl<A: AllocHandle> Session<A> {
         self.list.clear();
     }
 
-    /// Records the changes of one commit. `before` is the database before it.
-    pub fn record_commit(
-        &mut self,
-        before: &Database<A>,
-        changes: &[Change<A>],
-    ) -> Result<(), OutOfMemory>
-        ensures recorded { OnOk result
-            (self.new ≡ settled (record_commit before.now changes.now self.old.live)) }
+    /// Records the changes of one commit.
+    pub fn record_commit(&mut self, changes: &[Change<A>]) -> Result<(), OutOfMemory>
+        ensures recorded { OnOk result (self.new ≡ settled (record_commit changes.now self.old.live)) }
         ensures err { OnErr result (self.new ≡ settled self.old.live) }
     {
-        self.stage_and_publish(&Staging::Changes(before, changes))
+        self.stage_and_publish(&Staging::Changes(changes))
     }
 
     /// Records a diff of a table (SQLite's sqlite3session_diff): attaches the table unless it is attached,
@@ -217,19 +211,12 @@ impl<A: AllocHandle> Session<A> {
                 self.list.place_by(&AutomaticRule::All, name)?;
                 Ok(())
             }
-            Staging::Changes(_, _) | Staging::Key(_, _, _, _) if !self.enabled => Ok(()),
-            Staging::Changes(before, changes) => self
+            Staging::Changes(_) if !self.enabled => Ok(()),
+            Staging::Changes(changes) => self
                 .list
-                .stage_changes(&self.rule, self.indirect, before, changes),
-            Staging::Key(name, key, cause, image) => {
-                let touches = Touches::OfKey(key, cause, image);
-                self.list
-                    .stage_touches(&self.rule, self.indirect, name, touches)
-            }
+                .stage_changes(&self.rule, self.indirect, changes),
             Staging::Diff(name, differences) => {
-                let touches = Touches::OfDiff(differences);
-                self.list
-                    .stage_touches(&AutomaticRule::All, self.indirect, name, touches)
+                self.list.stage_diff(self.indirect, name, differences)
             }
         }
     }

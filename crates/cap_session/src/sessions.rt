@@ -1,13 +1,13 @@
 //! All sessions of a core, by number.
 ghost use Rattle.std.specs.Prelude.{◌≡◌, [], ◌∷◌, ◌++◌, Ok, Err, Some, None, IfOk, IfErr, OnOk, OnErr};
 ghost use Rattle.std.specs.Prelude.{length, map};
-ghost use Rattle.std.specs.Option.{option_copied, option_map};
+ghost use Rattle.std.specs.Option.{option_map};
 ghost use Rattle.cap_value.specs.Memory.{MatchFault};
 ghost use Rattle.cap_session.specs.Code.Numbered.{made_of};
 ghost use Rattle.cap_session.specs.Code.Staging.{staged_by};
 ghost use Rattle.cap_session.specs.Recording.{record_diff};
 ghost use Rattle.cap_session.specs.Session.{attached, changed_by, new_session, settled};
-ghost use Rattle.cap_session.specs.Sessions.{record_commit_each, record_key_each, session_numbered};
+ghost use Rattle.cap_session.specs.Sessions.{record_commit_each, session_numbered};
 ghost use Rattle.cap_session.specs.Sessions.{with_session_if};
 ghost use Rattle.cap_session.specs.Sessions.{without_session};
 
@@ -17,8 +17,7 @@ use crate::staging::Staging;
 use crate::which::Which;
 use crate::{Session, SessionChange};
 use cap_compare::Difference;
-use cap_database::{Cause, Change, Database};
-use cap_row::{Key, Row};
+use cap_database::Change;
 use cap_tree::Hook;
 use cap_value::{AllocHandle, Fault, Name, OutOfMemory};
 use std::marker::Model;
@@ -126,36 +125,14 @@ impl<A: AllocHandle> Sessions<A> {
         }
     }
 
-    /// Stages the changes of one commit in each session but the quiet ones, whose numbers these are. `before`
-    /// is the database before it.
-    pub fn stage_commit(
-        &mut self,
-        before: &Database<A>,
-        changes: &[Change<A>],
-        quiet: &[u64],
-    ) -> Result<(), OutOfMemory>
+    /// Stages the changes of one commit in each session but the quiet ones, whose numbers these are.
+    pub fn stage_commit(&mut self, changes: &[Change<A>], quiet: &[u64]) -> Result<(), OutOfMemory>
         ensures kept { self.new.live ≡ self.old.live }
         ensures staged { OnOk result
-            (self.new.staged ≡ record_commit_each before.now changes.now quiet.now self.old.live) }
+            (self.new.staged ≡ record_commit_each changes.now quiet.now self.old.live) }
         ensures nothing_staged { OnErr result (self.new.staged ≡ self.new.live) }
     {
-        self.stage(Which::AllBut(quiet), &Staging::Changes(before, changes))
-    }
-
-    /// Stages a commit that changes the row of this key alone in each session. `image` is the row before it.
-    pub fn stage_key(
-        &mut self,
-        table: &Name<A>,
-        key: &Key<A>,
-        cause: Cause,
-        image: Option<&Row<A>>,
-    ) -> Result<(), OutOfMemory>
-        ensures kept { self.new.live ≡ self.old.live }
-        ensures staged { OnOk result (self.new.staged
-            ≡ record_key_each table.now key.now cause (option_copied image.entry) self.old.live) }
-        ensures nothing_staged { OnErr result (self.new.staged ≡ self.new.live) }
-    {
-        self.stage(Which::AllBut(&[]), &Staging::Key(table, key, cause, image))
+        self.stage(Which::AllBut(quiet), &Staging::Changes(changes))
     }
 
     /// Stages attaching a table to the session with this number, if any.

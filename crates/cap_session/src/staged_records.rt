@@ -2,11 +2,12 @@
 ghost use Rattle.std.specs.Prelude.{◌≡◌, ◌<◌, length, nat_eq, OnOk};
 ghost use Rattle.std.specs.List.{position};
 ghost use Rattle.cap_session.specs.Code.AttachList.{AreWithin, changed_at, with_staged};
-ghost use Rattle.cap_session.specs.Code.Staging.{touches_by};
-ghost use Rattle.cap_session.specs.Records.{with_touches};
+ghost use Rattle.std.specs.Option.{option_copied};
+ghost use Rattle.cap_session.specs.Records.{touch};
 
 use crate::Records;
-use crate::touch::{Touches, touch_all};
+use crate::touch::touch;
+use cap_row::{Key, Row};
 use cap_value::{AllocHandle, Name, OutOfMemory};
 use indexmap::IndexMap;
 use std::hash::{BuildHasherDefault, FoldHasher};
@@ -21,26 +22,30 @@ pub(crate) struct StagedRecords<A: AllocHandle> {
     pub(crate) records: Records<A>,
 }
 
-// Stages touches of the table at this place after what is staged. On an error some may be staged.
+// Stages a touch of the table at this place after what is staged.
 pub(crate) fn stage_at<A: AllocHandle>(
     tables: &Tables<A>,
     staged: &mut Vec<StagedRecords<A>, A>,
     place: usize,
+    key: &Key<A>,
+    image: Option<&Row<A>>,
     indirect: bool,
-    touches: Touches<'_, A>,
 ) -> Result<(), OutOfMemory>
     requires there { place < length tables.now.entries }
     requires within { AreWithin staged.old.items tables.now.entries }
     ensures staged { OnOk result (with_staged tables.now.entries staged.new.items
-        ≡ changed_at place (λ records. with_touches records (touches_by indirect touches.entry))
-        (with_staged tables.now.entries staged.old.items)) }
+        ≡ changed_at place (λ records. touch records (record {
+          key = key.now;
+          image = option_copied image.entry;
+          indirect = indirect;
+        })) (with_staged tables.now.entries staged.old.items)) }
     ensures within { AreWithin staged.new.items tables.now.entries }
 {
     match index_of(staged, place) {
-        Some(index) => touch_all(&mut staged[index].records, indirect, touches),
+        Some(index) => touch(&mut staged[index].records, key, image, indirect),
         None => {
             let mut records = tables[place].copy()?;
-            touch_all(&mut records, indirect, touches)?;
+            touch(&mut records, key, image, indirect)?;
             staged.push(StagedRecords { place, records })?;
             Ok(())
         }

@@ -167,13 +167,13 @@ module _ {A : Type 0} where
         | false ↦ λ e. ap (λ b. is_some (cond b (Some session.1) (session_numbered (with_session sessions number new) number))) e ∙ numbered-with sessions number new
       ] refl
 
-  numbered-recorded : (before : Tables A) (changes : List (Change A)) (sessions : NumberedSessions A) (number : ℕ)
-      → is_some (session_numbered (record_commit_each before changes [] sessions) number) ≡ is_some (session_numbered sessions number)
-  numbered-recorded before changes [] number = refl
-  numbered-recorded before changes (session ∷ sessions) number =
-      elim (nat_eq number session.0) as (λ b. is_some (cond b (Some (record_commit before changes session.1)) (session_numbered (record_commit_each before changes [] sessions) number)) ≡ is_some (cond b (Some session.1) (session_numbered sessions number))) [
+  numbered-recorded : (changes : List (Change A)) (sessions : NumberedSessions A) (number : ℕ)
+      → is_some (session_numbered (record_commit_each changes [] sessions) number) ≡ is_some (session_numbered sessions number)
+  numbered-recorded changes [] number = refl
+  numbered-recorded changes (session ∷ sessions) number =
+      elim (nat_eq number session.0) as (λ b. is_some (cond b (Some (record_commit changes session.1)) (session_numbered (record_commit_each changes [] sessions) number)) ≡ is_some (cond b (Some session.1) (session_numbered sessions number))) [
         | true ↦ refl
-        | false ↦ numbered-recorded before changes sessions number
+        | false ↦ numbered-recorded changes sessions number
       ]
 
   abbrev is_live : State A → ℕ → Bool

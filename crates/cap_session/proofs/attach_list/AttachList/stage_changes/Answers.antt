@@ -11,12 +11,12 @@ loop-change-preserved g c =
     let changes = c.args.changes.now in
     let place = c.loop-change.change-index in
     let change = c.change-item.result in (
-      c.stage_touches.ensures.kept ∙ c.loop-change.invariant.0,
-      changes-later c.args.before.now c.args.indirect c.args.rule.now change (drop (place + 1) changes) (staged_of c.loop-change.self) (staged_of c.stage_touches.new.self)
-          (c.in_ok-stage_touches.ensures.staged ∙ one-table c.args.before.now c.args.indirect change (attach_by c.args.rule.now (staged_of c.loop-change.self) change.table))
-          ∙ ap (λ rest. touch_tables c.args.before.now c.args.indirect rest (attach_by_rule c.args.rule.now rest (staged_of c.loop-change.self))) (sym (drop-item changes place change c.loop-change-test.true c.change-item.is))
+      c.stage_change.ensures.kept ∙ c.loop-change.invariant.0,
+      changes-later c.args.indirect c.args.rule.now change (drop (place + 1) changes) (staged_of c.loop-change.self) (staged_of c.stage_change.new.self)
+          (c.in_ok-stage_change.ensures.staged ∙ one-table c.args.indirect change (attach_by c.args.rule.now (staged_of c.loop-change.self) change.table))
+          ∙ ap (λ rest. touch_tables c.args.indirect rest (attach_by_rule c.args.rule.now rest (staged_of c.loop-change.self))) (sym (drop-item changes place change c.loop-change-test.true c.change-item.is))
           ∙ c.loop-change.invariant.1,
-      c.stage_touches.ensures.whole,
+      c.stage_change.ensures.whole,
     )
 
 pub loop-change-init : goal.loop-change-init
@@ -24,6 +24,6 @@ loop-change-init g c = (refl, refl, c.requires.whole)
 
 pub returns-clause-staged : goal.returns-clause-staged
 returns-clause-staged g c =
-    sym (ap (λ rest. touch_tables c.args.before.now c.args.indirect rest (attach_by_rule c.args.rule.now rest (staged_of c.loop-change.self))) (drop_all c.loop-change.change-index c.args.changes.now c.loop-change-test.false)
-    ∙ no-change c.args.before.now c.args.indirect (staged_of c.loop-change.self))
+    sym (ap (λ rest. touch_tables c.args.indirect rest (attach_by_rule c.args.rule.now rest (staged_of c.loop-change.self))) (drop_all c.loop-change.change-index c.args.changes.now c.loop-change-test.false)
+    ∙ no-change c.args.indirect (staged_of c.loop-change.self))
     ∙ c.loop-change.invariant.1
