@@ -47,17 +47,17 @@ impl<A: AllocHandle> Model for Capture<A> {
 
     ghost view = { λ c. record {
       version = c.version;
-      changes = session_changes c.main c.session.live;
+      changes = session_changes c.main c.session;
     } };
 
-    ghost invariant = { λ c. IsTrue (session_stands c.main c.session.live) };
+    ghost invariant = { λ c. IsTrue (session_stands c.main c.session) };
 }
 
 impl<A: AllocHandle> Capture<A> {
     // What the session captures against the tables of this version.
     pub(crate) fn new(version: u64, session: Session<A>, main: Database<A>) -> Self
-        requires { IsTrue (session_stands main session.live) }
-        ensures { result ≡ record { version = version; changes = session_changes main session.live } }
+        requires { IsTrue (session_stands main session) }
+        ensures { result ≡ record { version = version; changes = session_changes main session } }
     {
         Capture {
             version,

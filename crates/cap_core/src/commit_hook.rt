@@ -8,7 +8,7 @@ ghost use Rattle.cap_value.specs.Memory.{MatchFault};
 use crate::Reply;
 use cap_database::{Change, Op};
 use cap_row::{Key, Row};
-use cap_session::Sessions;
+use cap_session::{Delta, Sessions};
 use cap_tree::Hook;
 use cap_value::{AllocHandle, Fault, OutOfMemory};
 
@@ -91,19 +91,20 @@ impl<'a, 'b, V, A: AllocHandle, C: CommitHook<A>> Hook<V> for ReplyHook<'a, 'b, 
     }
 }
 
-// The commit hook as a row's tree asks it about one operation: the change that carries the row before it is
-// staged in each session first.
+// The commit hook as a row's tree asks it about one operation: what the change that carries the row before it
+// adds to the sessions is reserved first.
 #[derive(Drop)]
-pub(crate) struct RecordingHook<'a, 'b, 'c, A: AllocHandle, C: CommitHook<A>> {
+pub(crate) struct RecordingHook<'a, 'b, 'c, 'd, A: AllocHandle, C: CommitHook<A>> {
     pub(crate) sessions: &'a mut Sessions<A>,
+    pub(crate) delta: &'d mut Option<Delta<A>>,
     pub(crate) op: &'b Op<A>,
     pub(crate) key: &'b Key<A>,
     pub(crate) reply: &'b Reply<A>,
     pub(crate) hook: &'c mut C,
 }
 
-impl<'a, 'b, 'c, A: AllocHandle, C: CommitHook<A>> Hook<Row<A>>
-    for RecordingHook<'a, 'b, 'c, A, C> {
+impl<'a, 'b, 'c, 'd, A: AllocHandle, C: CommitHook<A>> Hook<Row<A>>
+    for RecordingHook<'a, 'b, 'c, 'd, A, C> {
     type Refusal = Fault<C::Refusal>;
 
     ghost use Rattle.std.specs.Prelude.{◌≡◌, [], ◌∷◌};
@@ -115,9 +116,10 @@ impl<'a, 'b, 'c, A: AllocHandle, C: CommitHook<A>> Hook<Row<A>>
 
     ghost gives = { λ old present next answer new. (new.hook.ghost_name ≡ old.hook.ghost_name)
         × (new.sessions.ghost_name ≡ old.sessions.ghost_name)
-        × GivesRecorded C.gives old.reply.now old.sessions.now.live
-        (record_commit_each (change_of old.op.now old.key.now present ∷ []) [] old.sessions.now.live)
-        new.sessions.now old.hook.now new.hook.now answer };
+        × (new.delta.ghost_name ≡ old.delta.ghost_name) × (new.sessions.now ≡ old.sessions.now)
+        × GivesRecorded C.gives old.reply.now old.sessions.now
+        (record_commit_each (change_of old.op.now old.key.now present ∷ []) [] old.sessions.now)
+        new.delta.now old.hook.now new.hook.now answer };
 
     fn before_change(
         &mut self,
@@ -125,7 +127,7 @@ impl<'a, 'b, 'c, A: AllocHandle, C: CommitHook<A>> Hook<Row<A>>
         _next: Option<&Row<A>>,
     ) -> Result<(), Fault<C::Refusal>> {
         let change = change_of(self.op, self.key, present)?;
-        self.sessions.stage_commit(&[change], &[])?;
+        *self.delta = Some(self.sessions.reserve(&[change], &[])?);
         ask(self.hook, self.reply)
     }
 }

@@ -172,9 +172,8 @@ impl<A: AllocHandle> Core<A> {
         let reply = Reply::Written {
             version: self.version + 1,
         };
-        match reserve_and_step(&mut self.main, &mut self.sessions, op, key, &reply, hook) {
+        match step_and_record(&mut self.main, &mut self.sessions, op, key, &reply, hook) {
             Ok(()) => {
-                self.sessions.publish();
                 self.version += 1;
                 self.events += 1;
                 Ok(reply)
@@ -299,9 +298,9 @@ impl<A: AllocHandle> Core<A> {
             self.old self.new hook.old hook.new result }
     {
         self.main.rows_stand();
-        self.sessions.stage_commit(changes, quiet)?;
+        let delta = self.sessions.reserve(changes, quiet)?;
         ask(hook, &reply)?;
-        self.sessions.publish();
+        self.sessions.publish(delta);
         self.main = tables;
         self.version += 1;
         self.events += 1;
@@ -309,9 +308,9 @@ impl<A: AllocHandle> Core<A> {
     }
 }
 
-// Reserves what memory one operation on a row that keeps this key still needs, asks the hook, and makes it in
-// place. It is staged in each session.
-fn reserve_and_step<A: AllocHandle, C: CommitHook<A>>(
+// Reserves what memory one operation on a row that keeps this key still needs, asks the hook, makes it in
+// place, and records it in each session.
+fn step_and_record<A: AllocHandle, C: CommitHook<A>>(
     main: &mut Database<A>,
     sessions: &mut Sessions<A>,
     op: &Op<A>,
@@ -324,19 +323,26 @@ fn reserve_and_step<A: AllocHandle, C: CommitHook<A>>(
     ensures tables { LeavesOnceAllowed result (step main.old op.now) main.new
         (hook.new ≡ hook.old) (λ answer. C.gives hook.old reply.now answer hook.new) }
     ensures kept { OnErr result (main.new ≡ main.old) }
-    ensures live { sessions.new.live ≡ sessions.old.live }
-    ensures staged { OnOk result (sessions.new.staged
-        ≡ record_commit_each (changes main.old op.now) [] sessions.old.live) }
+    ensures recorded { OnOk result (sessions.new
+        ≡ record_commit_each (changes main.old op.now) [] sessions.old) }
+    ensures unrecorded { OnErr result (sessions.new ≡ sessions.old) }
 {
+    let mut delta = None;
     let mut recording = RecordingHook {
-        sessions,
+        sessions: &mut *sessions,
+        delta: &mut delta,
         op,
         key,
         reply,
         hook,
     };
     match main.step_keyed(op, key, &mut recording) {
-        Ok(()) => Ok(()),
+        Ok(()) => {
+            if let Some(delta) = delta {
+                sessions.publish(delta);
+            }
+            Ok(())
+        }
         Err(NotMade::Refused(why)) => Err(NotMade::Refused(why)),
         Err(NotMade::OutOfMemory) => Err(NotMade::OutOfMemory),
         Err(NotMade::Vetoed(fault)) => Err(not_made(fault)),

@@ -2,6 +2,8 @@
 use Rattle.std.proofs.Common.{◌≡◌, ℕ, Bool, true, false, cond, Option, Some, None, List, [], ◌∷◌, ◌++◌, ◌&&◌, ◌||◌, refl, ap, ap₂, ◌∙◌}
 use Rattle.std.specs.List.{cons_option}
 use Rattle.std.specs.Option.{option_map}
+use Rattle.std.proofs.Math.Bool.{or-true}
+use Rattle.std.specs.Cmp.Lexicographic.{bytes_decides}
 use Rattle.cap_value.specs.Bytes.{bytes_eq}
 use Rattle.cap_row.specs.Fields.{Fields}
 use Rattle.cap_row.specs.Key.{fields_cmp, fields_cmp_total}
@@ -12,10 +14,9 @@ use Rattle.cap_session.specs.declared.record.Record.{Record}
 use Rattle.cap_session.specs.declared.rule.AutomaticRule.{AutomaticRule}
 use Rattle.cap_session.specs.Recording.{attach_by, is_cascade, record_commit, touch_of, touch_tables}
 use Rattle.cap_session.specs.Records.{Records, Touch, record_after, touch, with_touches}
-use Rattle.cap_session.specs.Session.{AttachedTables, SessionState, accepts_by, attach}
+use Rattle.cap_session.specs.Session.{AttachedTables, SessionState, accepts_by, attach, is_listed}
 use Rattle.cap_session.specs.Sessions.{NumberedSessions, is_one_of, record_commit_each}
 use Rattle.cap_session.proofs.RecordLemmas.{and_twice, found-touched}
-use Rattle.cap_session.proofs.StageLemmas.{listed-attached}
 
 and_same : (b : Bool) → (b && b) ≡ b
 and_same true = refl
@@ -35,10 +36,21 @@ module _ {A : Type 0} where
       ∙ ap (put_entry fields_cmp (touch records t) t.key) (after_twice (get fields_cmp records t.key) t.image other t.indirect)
       ∙ again fields_cmp fields_cmp_total records t.key made made
 
+  listed-last : (name : List ℕ) (tables : AttachedTables A) → is_listed name (tables ++ (name, []) ∷ []) ≡ true
+  listed-last name [] = ap (λ b. b || false) ((bytes_decides name name).1 refl)
+  listed-last name (t ∷ ts) = ap (λ b. bytes_eq name t.0 || b) (listed-last name ts) ∙ or-true (bytes_eq name t.0)
+
+  listed-attached : (name : List ℕ) (tables : AttachedTables A) → is_listed name (attach name tables) ≡ true
+  listed-attached name tables =
+      elim (is_listed name tables) as (λ b. is_listed name tables ≡ b → is_listed name (cond b tables (tables ++ (name, []) ∷ [])) ≡ true) [
+        | true ↦ λ there. there
+        | false ↦ λ _. listed-last name tables
+      ] refl
+
   attach-twice : (rule : AutomaticRule A) (name : List ℕ) (tables : AttachedTables A) → attach_by rule (attach_by rule tables name) name ≡ attach_by rule tables name
   attach-twice rule name tables =
       elim (accepts_by rule name) as (λ b. cond b (attach name (cond b (attach name tables) tables)) (cond b (attach name tables) tables) ≡ cond b (attach name tables) tables) [
-        | true ↦ ap (λ b. cond b (attach name tables) (attach name tables ++ (name, []) ∷ [])) (listed-attached [] name tables)
+        | true ↦ ap (λ b. cond b (attach name tables) (attach name tables ++ (name, []) ∷ [])) (listed-attached name tables)
         | false ↦ refl
       ]
 

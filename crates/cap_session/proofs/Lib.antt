@@ -1,13 +1,13 @@
 mod CommitLemmas
 pub mod Crossing
-mod LatestLemmas
+mod DeltaLemmas
+mod EachLemmas
 pub mod KeyLemmas
+mod LatestLemmas
 mod ListLemmas
-mod RecordingLemmas
 mod NoteLemmas
 mod NumberLemmas
 mod PlaceLemmas
 pub mod RecordLemmas
+mod RecordingLemmas
 mod TableLemmas
-mod StageLemmas
-mod StagedLemmas

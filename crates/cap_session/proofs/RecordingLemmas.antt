@@ -61,7 +61,7 @@ module _ {A : Type 0} where
   found_or-there None b is = cc
   found_or-there (Some records) b is = refl
 
-  listed : (name : List ℕ) (tables : AttachedTables A) → is_listed name tables ≡ is_some (records_of tables name)
+  pub listed : (name : List ℕ) (tables : AttachedTables A) → is_listed name tables ≡ is_some (records_of tables name)
   listed name [] = refl
   listed name (t ∷ tables) =
       elim (bytes_eq name t.0) as (λ b. (b || is_listed name tables) ≡ is_some (cond b (Some t.1) (records_of tables name))) [

@@ -14,11 +14,6 @@ is_one_of numbers number = list_any (nat_eq number) numbers
 abbrev pub NumberedSessions : Type 0 → Type 0
 NumberedSessions A = List (ℕ × SessionState A)
 
--- The live sessions, and the staged ones, which are live once they are published.
-pub record SessionsState (A : Type 0) : Type 0 where
-  pub live : NumberedSessions A
-  pub staged : NumberedSessions A
-
 module _ {A : Type 0} where
   abbrev pub session_numbered : NumberedSessions A → ℕ → Option (SessionState A)
   session_numbered sessions number = lookup (nat_eq number) sessions

@@ -1,6 +1,6 @@
 //! The records after a touch.
 ghost use Rattle.std.specs.Prelude.{◌≡◌, IsTrue, IfOk, OnOk};
-ghost use Rattle.std.specs.Option.{option_copied};
+ghost use Rattle.std.specs.Option.{option_copied, unwrap_or};
 ghost use Rattle.cap_row.specs.Key.{fields_cmp};
 ghost use Rattle.cap_tree.specs.Tree.{IsOrdered, get};
 ghost use Rattle.cap_session.specs.Records.{Records, Touch, record_after, touch};
@@ -9,7 +9,7 @@ use crate::{Record, Records};
 use cap_row::{Key, Row};
 use cap_value::{AllocHandle, OutOfMemory};
 
-// Records a touch of a key, with the row before it. The key is searched once.
+// Touches a key, with the row before it.
 pub(crate) fn touch<A: AllocHandle>(
     records: &mut Records<A>,
     key: &Key<A>,
@@ -22,12 +22,33 @@ pub(crate) fn touch<A: AllocHandle>(
       indirect = indirect;
     })) }
 {
+    if let Some(after) = touched(records, key, image, indirect)? {
+        *records = after;
+    }
+    Ok(())
+}
+
+// The records after a touch of a key, with the row before it, or none where they stay as they are. The key is
+// searched once.
+pub(crate) fn touched<A: AllocHandle>(
+    records: &mut Records<A>,
+    key: &Key<A>,
+    image: Option<&Row<A>>,
+    indirect: bool,
+) -> Result<Option<Records<A>>, OutOfMemory>
+    ensures kept { records.new ≡ records.old }
+    ensures touched { IfOk result (λ after. unwrap_or after records.old ≡ touch records.old (record {
+      key = key.now;
+      image = option_copied image.entry;
+      indirect = indirect;
+    })) }
+{
     let found = records.get(key);
     if changes_nothing(found, indirect) {
-        return Ok(());
+        return Ok(None);
     }
     let record = record_after(found, image, indirect)?;
-    records.put(key.copy()?, record)
+    Ok(Some(records.with(key.copy()?, record)?))
 }
 
 // Whether a touch of a key with this record leaves the records as they are, whatever its image: the record is
