@@ -4,9 +4,8 @@ ghost use Rattle.cap_applier.specs.Chosen.{accepted_groups, accepted_in, accepte
 ghost use Rattle.cap_applier.specs.Chosen.{groups_from, numbering_in, numbering_of, numbers_from, own_number};
 ghost use Rattle.cap_applier.specs.Chosen.{passed_changes, passed_groups, passed_of};
 
-use crate::copied::{Copied, copy_group};
 use crate::{Numbering, Passed};
-use cap_changes::{Entry, GroupList, TableGroup};
+use cap_changes::{Entries, Entry, GroupList, TableGroup};
 use cap_codec::Contents;
 use cap_filter::TableFilter;
 use cap_value::{AllocHandle, OutOfMemory};
@@ -20,7 +19,7 @@ pub struct Chosen<A: AllocHandle> {
     pub numbering: Numbering<A>,
 }
 
-/// What the filter leaves of the blob, whose changes share their values.
+/// What the filter leaves of the blob, with bytes of its own.
 pub fn chosen_of<A: AllocHandle>(
     alloc: A,
     filter: &TableFilter<A>,
@@ -55,7 +54,7 @@ fn numbering_of<C: Entry, A: AllocHandle>(
     })
 }
 
-fn accepted_groups<C: Copied<A> + Drop, A: AllocHandle>(
+fn accepted_groups<C: Entry + Drop, A: AllocHandle>(
     alloc: A,
     filter: &TableFilter<A>,
     groups: &[TableGroup<C, A>],
@@ -64,13 +63,12 @@ fn accepted_groups<C: Copied<A> + Drop, A: AllocHandle>(
 {
     let mut list = GroupList::new(alloc);
     for group in groups {
-        put_accepted(alloc, filter, group, &mut list)?;
+        put_accepted(filter, group, &mut list)?;
     }
     Ok(list)
 }
 
-fn put_accepted<C: Copied<A> + Drop, A: AllocHandle>(
-    alloc: A,
+fn put_accepted<C: Entry + Drop, A: AllocHandle>(
     filter: &TableFilter<A>,
     group: &TableGroup<C, A>,
     list: &mut GroupList<C, A>,
@@ -78,7 +76,7 @@ fn put_accepted<C: Copied<A> + Drop, A: AllocHandle>(
     ensures { OnOk result (list.new ≡ list.old ++ accepted_groups filter.now (group.now ∷ [])) }
 {
     if filter.accepts(group.table()) {
-        list.push(copy_group(alloc, group)?)
+        list.push(group.copy()?)
     } else {
         Ok(())
     }
@@ -122,12 +120,12 @@ fn put_accepted_numbers<C: Entry, A: AllocHandle>(
 }
 
 // Puts a number for each change, from the first on.
-fn put_numbers<C, A: AllocHandle>(
+fn put_numbers<C: Entry, A: AllocHandle>(
     first: u64,
-    changes: &[C],
+    changes: Entries<'_, C>,
     numbers: &mut Vec<u64, A>,
 ) -> Result<(), OutOfMemory>
-    ensures { OnOk result (numbers.new.items ≡ numbers.old.items ++ each_number first changes.now) }
+    ensures { OnOk result (numbers.new.items ≡ numbers.old.items ++ each_number first changes.entry) }
 {
     let mut number = first;
     for _change in changes {

@@ -4,7 +4,6 @@
 mod application;
 mod applier;
 mod chosen;
-mod copied;
 mod laws;
 mod looked;
 mod merge;

@@ -41,7 +41,7 @@ fn push_rows<C: BlobChange<A>, A: AllocHandle>(
 {
     let (table, columns) = (group.table(), group.schema());
     for change in group.changes() {
-        let key = change.key(alloc, columns)?;
+        let key = C::key(&change, alloc, columns)?;
         rows.push((table.copy()?, key))?;
     }
     Ok(())

@@ -15,7 +15,7 @@ ghost use Rattle.cap_applier.specs.Step.{one_further, passed_over, skipped_over}
 
 use crate::RowConflict;
 use cap_apply::{Answer, Applied, BlobChange, Decision, Policy};
-use cap_changes::TableGroup;
+use cap_changes::{EntryRef, TableGroup};
 use cap_database::Database;
 use cap_filter::TableFilter;
 use cap_row::{Key, Row};
@@ -142,7 +142,7 @@ impl<A: AllocHandle> Progress<A> {
             return Ok(None);
         }
         match group.changes().get(self.change) {
-            Some(change) => self.met_by(group, change),
+            Some(change) => self.met_by(group, &change),
             None => Ok(None),
         }
     }
@@ -150,16 +150,16 @@ impl<A: AllocHandle> Progress<A> {
     fn met_by<C: BlobChange<A>>(
         &self,
         group: &TableGroup<C, A>,
-        change: &C,
+        change: &EntryRef<'_, C>,
     ) -> Result<Option<RowConflict<A>>, OutOfMemory>
         requires { IsTrue (C.fits_in group.now.schema change.now) }
         ensures { IfOk result (λ met. met ≡ met_by self.now.applied.database group.now.table
             group.now.schema (C.requested group.now.schema change.now)) }
     {
         let (table, columns) = (group.table(), group.schema());
-        let key = change.key(self.alloc, columns)?;
+        let key = C::key(change, self.alloc, columns)?;
         let row = copy_of(row_under(self.applied.database(), table, &key))?;
-        match change.conflict(columns, row.as_ref()) {
+        match C::conflict(change, columns, row.as_ref()) {
             Some(kind) => Ok(Some(RowConflict {
                 kind,
                 table: table.copy()?,
@@ -191,7 +191,7 @@ impl<A: AllocHandle> Progress<A> {
             return Ok(self.skip(count)?);
         }
         match group.changes().get(self.change) {
-            Some(change) => self.make(answer, group, change),
+            Some(change) => self.make(answer, group, &change),
             None => Ok(self.leave_behind(count)?),
         }
     }
@@ -200,7 +200,7 @@ impl<A: AllocHandle> Progress<A> {
         &mut self,
         answer: Answer,
         group: &TableGroup<C, A>,
-        change: &C,
+        change: &EntryRef<'_, C>,
     ) -> Result<(), Fault<Refusal>>
         requires fits { IsTrue (C.fits_in group.now.schema change.now) }
         requires target { IsTrue (is_some
@@ -213,7 +213,13 @@ impl<A: AllocHandle> Progress<A> {
             number: self.number,
             policy: Policy::always(answer),
         };
-        match change.apply_to(&mut self.applied, decision, group.table(), group.schema()) {
+        match C::apply_to(
+            change,
+            &mut self.applied,
+            decision,
+            group.table(),
+            group.schema(),
+        ) {
             Ok(()) => Ok(self.go_one_further()?),
             Err(fault) => Err(fault),
         }

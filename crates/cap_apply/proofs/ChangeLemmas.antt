@@ -15,7 +15,7 @@ use Rattle.cap_tree.specs.Tree.{get, put_entry}
 use Rattle.cap_table.specs.Table.{TableState}
 use Rattle.cap_table.specs.Operation.{with_key, without}
 use Rattle.cap_table.specs.declared.row_ref.RowRef.TheVariants.{Key}
-use Rattle.cap_database.specs.Operation.{changes_to}
+use Rattle.cap_database.specs.Operation.{Changed, changes_to}
 use Rattle.cap_database.specs.Tables.{Tables, table_of}
 use Rattle.cap_database.specs.declared.cause.Cause.TheVariants.{Direct}
 use Rattle.cap_database.specs.declared.op.Action.TheVariants.{Insert, Update, Delete}
@@ -85,14 +85,14 @@ module _ {A : Type 0} where
   -- ---- operations under a key of a table that is there
 
   module _ (state : AppliedState A) (name : List ℕ) (table : TableState A) (there : table_of state.database name ≡ Some table) (key : Fields A) where
-    abbrev with_keys : TableState A → List (Option (Fields A)) → Result (AppliedState A) Refusal
-    with_keys next keys = Ok (record state { database = put_entry bytes_cmp state.database name next; changes = state.changes ++ changes_to name Direct keys })
+    abbrev with_rows : TableState A → List (Changed A) → Result (AppliedState A) Refusal
+    with_rows next rows = Ok (record state { database = put_entry bytes_cmp state.database name next; changes = state.changes ++ changes_to name Direct rows })
 
     pub insert_is : (row : Fields A) → length row ≡ length table.schema → key_of table.schema row ≡ Some key → get fields_cmp table.keyed key ≡ None →
         operated state (directly name (Insert row)) ≡ Ok (with_row_in name table key None (Some row) state)
     insert_is row wide is none =
         operated_ok state name table there (Insert row) (with_key table key row) (act_insert_new table key row wide is none)
-        ∙ ap (λ (k : Option (Fields A)). with_keys (with_key table key row) (k ∷ [])) is
+        ∙ ap (λ (k : Option (Fields A)). with_rows (with_key table key row) ((k, None) ∷ [])) is
 
     pub insert_refused : (row before : Fields A) → length row ≡ length table.schema → key_of table.schema row ≡ Some key → get fields_cmp table.keyed key ≡ Some before →
         operated state (directly name (Insert row)) ≡ Err Duplicate
@@ -105,11 +105,13 @@ module _ {A : Type 0} where
         let set = row_with-assigned fields before ∙ becomes in
         operated_ok state name table there (Update (Key key) (assigned_from 0 fields)) (with_key table key row)
         (act_update table key row (assigned_from 0 fields) before (are_columns-assigned (length table.schema) fields few) found set is)
-        ∙ ap (with_keys (with_key table key row)) (keys_update table key row (assigned_from 0 fields) before found set is)
+        ∙ ap (with_rows (with_key table key row)) (keys_update table key row (assigned_from 0 fields) before found set is)
 
     pub delete_is : (before : Fields A) → get fields_cmp table.keyed key ≡ Some before →
         operated state (directly name (Delete (Key key))) ≡ Ok (with_row_in name table key (Some before) None state)
-    delete_is before found = operated_ok state name table there (Delete (Key key)) (without table (Key key)) (act_delete table key before found)
+    delete_is before found =
+        operated_ok state name table there (Delete (Key key)) (without table (Key key)) (act_delete table key before found)
+        ∙ ap (λ (row : Option (Fields A)). with_rows (without table (Key key)) ((Some key, row) ∷ [])) found
 
 -- ---- a change as the code makes it
 

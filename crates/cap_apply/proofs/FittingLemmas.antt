@@ -20,7 +20,8 @@ use Rattle.cap_changes.specs.declared.row_change.RowChange.{RowChange}
 use Rattle.cap_changes.specs.declared.row_change.RowChange.TheVariants.{Delete, Insert, Update}
 use Rattle.cap_changes.proofs.ChangeLemmas.{full_fits, update_fits}
 use Rattle.cap_changes.proofs.PatchLemmas.{patch_of-fits}
-use Rattle.cap_codec.specs.Spelling.{Spells, SpellsChange, SpellsChanges, SpellsEach, SpellsPatch, SpellsPatches}
+use Rattle.cap_codec.specs.Spelling.{Spells, SpellsChanges, SpellsPatches}
+use Rattle.cap_changes.specs.Spelling.{SpellsChange, SpellsEach, SpellsPatch}
 use Rattle.cap_codec.specs.Writable.{has_some}
 use Rattle.cap_codec.specs.declared.read.Contents.{Contents}
 use Rattle.cap_codec.specs.declared.read.Contents.TheVariants.{Changes, Patches}

@@ -5,13 +5,10 @@ use Rattle.std.specs.Cmp.{tied_itself}
 use Rattle.std.proofs.lemmas.Cmp.{nat_list_cmp_total}
 use Rattle.std.proofs.lemmas.List.{length-map}
 use Rattle.cap_value.specs.Bytes.{bytes_cmp}
-use Rattle.cap_value.specs.declared.memory.Fault.{Fault}
-use Rattle.cap_value.specs.declared.memory.Fault.TheVariants.{Refused, OutOfMemory}
 use Rattle.cap_value.specs.declared.refusal.Refusal.{Refusal}
 use Rattle.cap_row.specs.Fields.{Fields}
 use Rattle.cap_row.specs.Key.{fields_cmp}
 use Rattle.cap_tree.specs.Tree.{get, put_entry}
-use Rattle.cap_value.specs.Memory.{LeavesUnlessMemory}
 use Rattle.cap_table.specs.Table.{TableState}
 use Rattle.cap_database.specs.Tables.{Tables}
 use Rattle.cap_changes.specs.Entries.{TableEntries}
@@ -25,12 +22,6 @@ use Rattle.cap_apply.specs.declared.conflict.ConflictKind.{ConflictKind}
 use Rattle.cap_apply.specs.declared.policy.Policy.{Policy}
 use Rattle.cap_apply.proofs.ChangeLemmas.{applied_at, has_target}
 use Rattle.cap_apply.proofs.EntryLemmas.{get_put}
-
--- what is refused for the same reason, whatever was left
-pub still_refused : (X Y : Type 0) {S T E : Type 0} (fault : Fault E) (a : Result S E) (s : S) (b : Result T E) (t : T) → ((why : E) → a ≡ Err why → b ≡ Err why) →
-    LeavesUnlessMemory {X = X} (Err fault) a s → LeavesUnlessMemory {X = Y} (Err fault) b t
-still_refused X Y (Refused why) a s b t f h = f why h
-still_refused X Y OutOfMemory a s b t f h = tt
 
 drop_here : {X : Type 0} (xs : List X) (i : ℕ) (x : X) → i < length xs → x ≡ get_or xs i x → drop i xs ≡ x ∷ drop (i + 1) xs
 drop_here xs i x within is =
@@ -81,21 +72,12 @@ module _ {A : Type 0} where
 
   -- ---- changes
 
-  module _ {X : Type 0} (policy : Policy) (name : List ℕ) (flags : List Bool) (number : ℕ) (f : X → Requested A) (xs : List X) (i : ℕ) (x : X) (within : i < length xs) (is : x ≡ get_or xs i x) (state : AppliedState A) where
-    changes_from : changes_applied policy (number + i) name flags (map f (drop i xs)) state
-        ≡ and_then (change_applied policy (number + i) name flags (f x) state) (λ next. changes_applied policy (number + i + 1) name flags (map f (drop (i + 1) xs)) next)
-    changes_from = ap (λ l. changes_applied policy (number + i) name flags (map f l) state) (drop_here xs i x within is)
-
-    pub changes_more : (next : AppliedState A) → change_applied policy (number + i) name flags (f x) state ≡ Ok next →
-        changes_applied policy (number + i) name flags (map f (drop i xs)) state ≡ changes_applied policy (number + (i + 1)) name flags (map f (drop (i + 1) xs)) next
-    changes_more next ok =
-        let n : number + i + 1 ≡ number + (i + 1) = omega arith in
-        changes_from ∙ ap (λ r. and_then r (λ s. changes_applied policy (number + i + 1) name flags (map f (drop (i + 1) xs)) s)) ok
-        ∙ ap (λ m. changes_applied policy m name flags (map f (drop (i + 1) xs)) next) n
-
-    pub changes_end : (why : Refusal) → change_applied policy (number + i) name flags (f x) state ≡ Err why →
-        changes_applied policy (number + i) name flags (map f (drop i xs)) state ≡ Err why
-    changes_end why err = changes_from ∙ ap (λ r. and_then r (λ s. changes_applied policy (number + i + 1) name flags (map f (drop (i + 1) xs)) s)) err
+  pub changes_more : {X : Type 0} (policy : Policy) (name : List ℕ) (flags : List Bool) (number : ℕ) (f : X → Requested A) (xs others : List X) (x : X) (state next : AppliedState A) → xs ≡ x ∷ others →
+      change_applied policy number name flags (f x) state ≡ Ok next →
+      changes_applied policy number name flags (map f xs) state ≡ changes_applied policy (number + 1) name flags (map f others) next
+  changes_more policy name flags number f xs others x state next is ok =
+      ap (λ l. changes_applied policy number name flags (map f l) state) is
+      ∙ ap (λ r. and_then r (λ s. changes_applied policy (number + 1) name flags (map f others) s)) ok
 
   -- the changes of a skipped group do nothing
   pub changes_skipped : (policy : Policy) (name : List ℕ) (flags : List Bool) (number : ℕ) (asks : List (Requested A)) (state : AppliedState A) →
@@ -131,8 +113,3 @@ module _ {A : Type 0} where
       groups_more next ok =
           groups_from ∙ ap (λ r. and_then r (λ s. groups_applied policy (i + 1) (number + length (map (f group.schema) group.changes)) (map (requested_in f) (drop (i + 1) groups)) s)) ok
           ∙ ap (λ n. groups_applied policy (i + 1) (number + n) (map (requested_in f) (drop (i + 1) groups)) next) (length-map group.changes (f group.schema))
-
-      pub groups_end : (why : Refusal) → group_applied policy i number (requested_in f group) state ≡ Err why →
-          groups_applied policy i number (map (requested_in f) (drop i groups)) state ≡ Err why
-      groups_end why err =
-          groups_from ∙ ap (λ r. and_then r (λ s. groups_applied policy (i + 1) (number + length (map (f group.schema) group.changes)) (map (requested_in f) (drop (i + 1) groups)) s)) err

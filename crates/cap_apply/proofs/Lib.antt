@@ -5,6 +5,7 @@ pub mod ColumnLemmas
 pub mod CountLemmas
 pub mod DifferenceLemmas
 pub mod EntryLemmas
+pub mod FieldLemmas
 pub mod FittingLemmas
 pub mod GroupLemmas
 pub mod KeyLemmas
@@ -14,4 +15,5 @@ pub mod OperationLemmas
 pub mod OrderLemmas
 pub mod RowLemmas
 pub mod RunLemmas
+pub mod StayLemmas
 pub mod TransactionLemmas

@@ -11,7 +11,7 @@ use Rattle.cap_tree.specs.Tree.{get, put_entry}
 use Rattle.cap_table.specs.Table.{TableState}
 use Rattle.cap_database.specs.Keyed.{GoesBack, IsOwnRow, row_set, set_in}
 use Rattle.cap_database.specs.Keyed as keyed_in
-use Rattle.cap_database.specs.Operation.{changes_to}
+use Rattle.cap_database.specs.Operation.{Changed, changes_to}
 use Rattle.cap_database.specs.Read.{row_at}
 use Rattle.cap_database.specs.Tables.{Tables, table_of}
 use Rattle.cap_database.specs.declared.cause.Cause.TheVariants.{Direct}
@@ -20,7 +20,7 @@ use Rattle.cap_changes.specs.FieldRecord.{RecordFields}
 use Rattle.cap_changes.specs.declared.patch.Patch.TheVariants as patched
 use Rattle.cap_changes.specs.declared.record_kind.RecordKind.TheVariants as record_kinds
 use Rattle.cap_apply.specs.Applied.{AppliedState}
-use Rattle.cap_apply.specs.Apply.{change_applied, concluded, counted, keys_with, left_out, noted, with_row, with_row_in}
+use Rattle.cap_apply.specs.Apply.{change_applied, concluded, counted, left_out, noted, row_comes, row_goes, with_row, with_row_in}
 use Rattle.cap_apply.specs.Requested.{Requested}
 use Rattle.cap_apply.specs.Policy.{is_made}
 use Rattle.cap_apply.specs.Row.{conflict_of, key_record_of, key_values, missed, new_row, row_after, set_fields}
@@ -73,9 +73,9 @@ module _ {A : Type 0} where
 
     -- the steps of a change that is made
     made_is : (s : AppliedState A) → table_of s.database name ≡ Some h.table → (key : Fields A) (before after : Option (Fields A)) →
-        with_changes name (keys_with key before ++ keys_with key after) (placed name key after s) ≡ with_row_in name h.table key before after s
+        with_changes name (row_goes key before ++ row_comes key after) (placed name key after s) ≡ with_row_in name h.table key before after s
     made_is s there key before after =
-        ap (λ (d : Tables A). record s { database = d; changes = s.changes ++ changes_to name Direct (keys_with key before ++ keys_with key after) })
+        ap (λ (d : Tables A). record s { database = d; changes = s.changes ++ changes_to name Direct (row_goes key before ++ row_comes key after) })
         (ap (set_in s.database name key after) there ∙ ap (put_entry bytes_cmp s.database name) (same_row h.table key after))
 
     module _ (requested : Requested A) (before : Option (Fields A)) (conflict : Option ConflictKind)
@@ -93,12 +93,12 @@ module _ {A : Type 0} where
           ∙ ap (λ m. concluded m (counted (with_row_in name h.table key_is before after_is (noted policy number conflict state))) (left_out number (noted policy number conflict state))) e
 
       -- it is made by its steps
-      makes : is_made policy number conflict ≡ Ok true → (keys : List (Option (Fields A))) (after : Option (Fields A)) (next : AppliedState A) → keys ≡ keys_with key_is before ++ keys_with key_is after_is →
-          after ≡ after_is → next ≡ counted (with_changes name keys (placed name key_is after (noted policy number conflict state))) → change_applied policy number name flags requested state ≡ Ok next
-      makes e keys after next keys_are after_are is =
+      makes : is_made policy number conflict ≡ Ok true → (rows : List (Changed A)) (after : Option (Fields A)) (next : AppliedState A) → rows ≡ row_goes key_is before ++ row_comes key_is after_is →
+          after ≡ after_is → next ≡ counted (with_changes name rows (placed name key_is after (noted policy number conflict state))) → change_applied policy number name flags requested state ≡ Ok next
+      makes e rows after next rows_are after_are is =
           concludes true e
           ∙ ap (λ (s : AppliedState A). Ok (counted s)) (sym (made_is (noted policy number conflict state) (noted_there policy number conflict state name h.table h.there) key_is before after_is))
-          ∙ (λ i. Ok (counted (with_changes name (sym keys_are i) (placed name key_is (sym after_are i) (noted policy number conflict state)))))
+          ∙ (λ i. Ok (counted (with_changes name (sym rows_are i) (placed name key_is (sym after_are i) (noted policy number conflict state)))))
           ∙ ap Ok (sym is)
 
       -- it is left out, and what was under its key is back
@@ -121,21 +121,21 @@ module _ {A : Type 0} where
       pub insert_found : (before : Option (Fields A)) → before ≡ row_at state.database name key → get fields_cmp h.table.keyed (key_values flags new) ≡ before
       insert_found before is = ap (get fields_cmp h.table.keyed) (sym key_is) ∙ sym (at_is key) ∙ sym is
 
-      pub insert_free : (put told_it next : AppliedState A) → None ≡ row_at state.database name key → put ≡ placed name key (Some row) state → told_it ≡ with_changes name (Some key ∷ []) put → next ≡ counted told_it →
+      pub insert_free : (put told_it next : AppliedState A) → None ≡ row_at state.database name key → put ≡ placed name key (Some row) state → told_it ≡ with_changes name ((Some key, None) ∷ []) put → next ≡ counted told_it →
           change_applied policy number name flags inserts state ≡ Ok next
       insert_free put told_it next none put_is told_is is =
-          makes inserts None None (insert_found None none) refl refl (Some (key_values flags new) ∷ []) (Some (new_row (length h.table.schema) new)) next refl refl
-          (is ∙ ap counted (told_is ∙ ap (with_changes name (Some key ∷ [])) put_is ∙ (λ i. with_changes name (Some (key_is i) ∷ []) (placed name (key_is i) (Some (row_is i)) state))))
+          makes inserts None None (insert_found None none) refl refl ((Some (key_values flags new), None) ∷ []) (Some (new_row (length h.table.schema) new)) next refl refl
+          (is ∙ ap counted (told_is ∙ ap (with_changes name ((Some key, None) ∷ [])) put_is ∙ (λ i. with_changes name ((Some (key_is i), None) ∷ []) (placed name (key_is i) (Some (row_is i)) state))))
 
       module _ (taken : Fields A) (at : Some taken ≡ row_at state.database name key) (put judged : AppliedState A) (made : Bool) (put_is : put ≡ placed name key (Some row) state)
           (judged_is : judged ≡ judged_on put (Some Conflict) made) (e : is_made policy number (Some Conflict) ≡ Ok made) where
-        pub insert_over : (told_it next : AppliedState A) → made ≡ true → told_it ≡ with_changes name (Some key ∷ Some key ∷ []) judged → next ≡ counted told_it →
+        pub insert_over : (told_it next : AppliedState A) → made ≡ true → told_it ≡ with_changes name ((Some key, Some taken) ∷ (Some key, None) ∷ []) judged → next ≡ counted told_it →
             change_applied policy number name flags inserts state ≡ Ok next
         insert_over told_it next agreed told_is is =
-            makes inserts (Some taken) (Some Conflict) (insert_found (Some taken) at) refl (e ∙ ap Ok agreed) (Some (key_values flags new) ∷ Some (key_values flags new) ∷ []) (Some (new_row (length h.table.schema) new)) next refl refl
+            makes inserts (Some taken) (Some Conflict) (insert_found (Some taken) at) refl (e ∙ ap Ok agreed) ((Some (key_values flags new), Some taken) ∷ (Some (key_values flags new), None) ∷ []) (Some (new_row (length h.table.schema) new)) next refl refl
             (is ∙ ap counted (told_is
-            ∙ ap (with_changes name (Some key ∷ Some key ∷ [])) (judged_is ∙ ap (judged_on put (Some Conflict)) agreed ∙ ap (noted policy number (Some Conflict)) put_is)
-            ∙ (λ i. with_changes name (Some (key_is i) ∷ Some (key_is i) ∷ []) (noted policy number (Some Conflict) (placed name (key_is i) (Some (row_is i)) state)))))
+            ∙ ap (with_changes name ((Some key, Some taken) ∷ (Some key, None) ∷ [])) (judged_is ∙ ap (judged_on put (Some Conflict)) agreed ∙ ap (noted policy number (Some Conflict)) put_is)
+            ∙ (λ i. with_changes name ((Some (key_is i), Some taken) ∷ (Some (key_is i), None) ∷ []) (noted policy number (Some Conflict) (placed name (key_is i) (Some (row_is i)) state)))))
 
         pub insert_left : (next : AppliedState A) → made ≡ false → GoesBack state.database put.database name key taken → next ≡ placed name key (Some taken) judged →
             change_applied policy number name flags inserts state ≡ Ok next
@@ -166,17 +166,17 @@ module _ {A : Type 0} where
       update_refused why e = change_refused policy number name flags state h updates (row_at state.database name key) conflict update_found met why e
 
       module _ (judged : AppliedState A) (made : Bool) (judged_is : judged ≡ judged_on put conflict made) (e : is_made policy number conflict ≡ Ok made) where
-        pub update_made : (told_it next : AppliedState A) → made ≡ true → told_it ≡ with_changes name (Some key ∷ Some key ∷ []) judged → next ≡ counted told_it →
+        pub update_made : (gone : Option (Fields A)) (told_it next : AppliedState A) → gone ≡ row_at state.database name key → made ≡ true → told_it ≡ with_changes name ((Some key, gone) ∷ (Some key, None) ∷ []) judged → next ≡ counted told_it →
             change_applied policy number name flags updates state ≡ Ok next
-        update_made told_it next agreed told_is is =
+        update_made gone told_it next was agreed told_is is =
             let present = missed_made policy number flags old (row_at state.database name key) (ap (is_made policy number) met ∙ e ∙ ap Ok agreed) in
             let row = set_fields new present.0 in
             let stands = put_is ∙ ap (λ m. placed_if_made m name key (option_map (set_fields new) (row_at state.database name key)) state) (e ∙ ap Ok agreed)
             ∙ ap (λ (r : Option (Fields A)). placed name key (option_map (set_fields new) r) state) present.1 in
-            makes updates (Some present.0) conflict (update_found ∙ present.1) (ap (missed flags old) (sym present.1) ∙ met) (e ∙ ap Ok agreed) (Some (key_values flags new) ∷ Some (key_values flags new) ∷ []) (Some row) next refl refl
+            makes updates (Some present.0) conflict (update_found ∙ present.1) (ap (missed flags old) (sym present.1) ∙ met) (e ∙ ap Ok agreed) ((Some (key_values flags new), Some present.0) ∷ (Some (key_values flags new), None) ∷ []) (Some row) next refl refl
             (is ∙ ap counted (told_is
-            ∙ ap (with_changes name (Some key ∷ Some key ∷ [])) (judged_is ∙ ap (judged_on put conflict) agreed ∙ ap (noted policy number conflict) stands ∙ noted_placed policy number conflict name key (Some row) state)
-            ∙ (λ i. with_changes name (Some (key_is i) ∷ Some (key_is i) ∷ []) (placed name (key_is i) (Some row) (noted policy number conflict state)))))
+            ∙ ap (with_changes name ((Some key, gone) ∷ (Some key, None) ∷ [])) (judged_is ∙ ap (judged_on put conflict) agreed ∙ ap (noted policy number conflict) stands ∙ noted_placed policy number conflict name key (Some row) state)
+            ∙ (λ i. with_changes name ((Some (key_is i), (was ∙ present.1) i) ∷ (Some (key_is i), None) ∷ []) (placed name (key_is i) (Some row) (noted policy number conflict state)))))
 
         pub update_left : made ≡ false → change_applied policy number name flags updates state ≡ Ok judged
         update_left agreed =
@@ -196,14 +196,14 @@ module _ {A : Type 0} where
 
       module _ (taken judged : AppliedState A) (made : Bool) (taken_is : taken ≡ placed name key None state) (judged_is : judged ≡ judged_on taken conflict made)
           (e : is_made policy number conflict ≡ Ok made) where
-        pub delete_gone : (told_it next : AppliedState A) → made ≡ true → told_it ≡ with_changes name (Some key ∷ []) judged → next ≡ counted told_it →
+        pub delete_gone : (told_it next : AppliedState A) → made ≡ true → told_it ≡ with_changes name ((Some key, before) ∷ []) judged → next ≡ counted told_it →
             change_applied policy number name flags deletes state ≡ Ok next
         delete_gone told_it next agreed told_is is =
             let present = missed_made policy number flags old before (ap (is_made policy number) met ∙ e ∙ ap Ok agreed) in
-            makes deletes (Some present.0) conflict (delete_found ∙ present.1) (ap (missed flags old) (sym present.1) ∙ met) (e ∙ ap Ok agreed) (Some (key_values flags fields) ∷ []) None next refl refl
+            makes deletes (Some present.0) conflict (delete_found ∙ present.1) (ap (missed flags old) (sym present.1) ∙ met) (e ∙ ap Ok agreed) ((Some (key_values flags fields), Some present.0) ∷ []) None next refl refl
             (is ∙ ap counted (told_is
-            ∙ ap (with_changes name (Some key ∷ [])) (judged_is ∙ ap (judged_on taken conflict) agreed ∙ ap (noted policy number conflict) taken_is ∙ noted_placed policy number conflict name key None state)
-            ∙ (λ i. with_changes name (Some (key_is i) ∷ []) (placed name (key_is i) None (noted policy number conflict state)))))
+            ∙ ap (with_changes name ((Some key, before) ∷ [])) (judged_is ∙ ap (judged_on taken conflict) agreed ∙ ap (noted policy number conflict) taken_is ∙ noted_placed policy number conflict name key None state)
+            ∙ (λ i. with_changes name ((Some (key_is i), present.1 i) ∷ []) (placed name (key_is i) None (noted policy number conflict state)))))
 
         judged_left : made ≡ false → judged ≡ left_out number (noted policy number conflict (placed name key None state))
         judged_left agreed = judged_is ∙ ap (judged_on taken conflict) agreed ∙ ap (λ (s : AppliedState A). left_out number (noted policy number conflict s)) taken_is

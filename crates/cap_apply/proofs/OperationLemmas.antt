@@ -14,7 +14,7 @@ use Rattle.cap_table.specs.Table.{TableState}
 use Rattle.cap_table.specs.Operation.{moved, placed, under_key, updated, with_key, without}
 use Rattle.cap_table.specs.declared.row_ref.RowRef.TheVariants.{Key}
 use Rattle.cap_database.specs.Assigned.{Assigned}
-use Rattle.cap_database.specs.Operation.{act, changed_keys, changes_in, changes_to, in_place, stepped, updated_keys}
+use Rattle.cap_database.specs.Operation.{act, changed_rows, changes_in, changes_to, in_place, stepped, updated_rows}
 use Rattle.cap_database.specs.Tables.{table_of}
 use Rattle.cap_database.specs.declared.cause.Cause.TheVariants.{Direct}
 use Rattle.cap_database.specs.declared.op.Action.{Action}
@@ -31,7 +31,7 @@ module _ {A : Type 0} where
     pub operated_ok : (action : Action A) (next : TableState A) → act table action ≡ Ok next → operated state (directly name action)
         ≡ Ok (record state {
           database = put_entry bytes_cmp state.database name next;
-          changes = state.changes ++ changes_to name Direct (changed_keys table action);
+          changes = state.changes ++ changes_to name Direct (changed_rows table action);
         })
     operated_ok action next is =
         ap (λ found. operated_by state (directly name action) (stepped state.database found (directly name action))) there
@@ -68,11 +68,11 @@ module _ {A : Type 0} where
         ∙ ap (λ b. cond b (Ok (with_key table key row)) (under_key (is_some (get fields_cmp table.keyed key)) (without table (Key key)) key row)) own
 
     pub keys_update : (fields : Assigned A) (before : Fields A) → get fields_cmp table.keyed key ≡ Some before → row_with fields before ≡ row → key_of table.schema row ≡ Some key →
-        changed_keys table (Update (Key key) fields) ≡ Some key ∷ Some key ∷ []
+        changed_rows table (Update (Key key) fields) ≡ (Some key, Some before) ∷ (Some key, None) ∷ []
     keys_update fields before found becomes is =
-        ap (updated_keys table (Key key) fields) found
-        ∙ ap (λ (r : Fields A). Some key ∷ key_of table.schema r ∷ []) becomes
-        ∙ ap (λ (k : Option (Fields A)). Some key ∷ k ∷ []) is
+        ap (updated_rows table (Key key) fields) found
+        ∙ ap (λ (r : Fields A). (Some key, Some before) ∷ (key_of table.schema r, None) ∷ []) becomes
+        ∙ ap (λ (k : Option (Fields A)). (Some key, Some before) ∷ (k, None) ∷ []) is
 
   pub act_delete : (table : TableState A) (key before : Fields A) → get fields_cmp table.keyed key ≡ Some before → act table (Delete (Key key)) ≡ Ok (without table (Key key))
   act_delete table key before found = ap (λ (r : Option (Fields A)). cond (is_some r) (Ok (without table (Key key))) (Err NoRow)) found

@@ -213,9 +213,10 @@ module _ {A : Type 0} where
 
       replaces : AreRun (inserts name key row (Some taken)) state (with_row_in name h.table key (Some taken) (Some row) state)
       replaces =
-          let both : List (Change A) = changes_to name Direct (Some key ∷ []) in
+          let goes : List (Change A) = changes_to name Direct ((Some key, Some taken) ∷ []) in
+          let comes : List (Change A) = changes_to name Direct ((Some key, None) ∷ []) in
           let same : with_row_in name gone key None (Some row) deleted ≡ with_row_in name h.table key (Some taken) (Some row) state =
-          λ i. record state { database = one-table i; changes = append_assoc state.changes both both i } in
+          λ i. record state { database = one-table i; changes = append_assoc state.changes goes comes i } in
           subst (λ (after : AppliedState A). AreRun (inserts name key row (Some taken)) state after) same
           (run-then (deletes name key) (directly name (Insert row)) state deleted (with_row_in name gone key None (Some row) deleted) after-delete after-insert)
 

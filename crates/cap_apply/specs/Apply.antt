@@ -9,7 +9,7 @@ use Rattle.cap_tree.specs.Tree.{get, put_entry}
 use Rattle.cap_table.specs.Table.{TableState}
 use Rattle.cap_table.specs.Operation.{with_key, without}
 use Rattle.cap_table.specs.declared.row_ref.RowRef.TheVariants.{Key}
-use Rattle.cap_database.specs.Operation.{changes_to}
+use Rattle.cap_database.specs.Operation.{Changed, changes_to}
 use Rattle.cap_database.specs.Tables.{Tables}
 use Rattle.cap_database.specs.declared.cause.Cause.TheVariants.{Direct}
 use Rattle.cap_changes.specs.Entries.{TableEntries}
@@ -35,17 +35,22 @@ module _ {A : Type 0} where
   with_row table key None = without table (Key key)
   with_row table key (Some row) = with_key table key row
 
-  -- one change under the key, where there is a row
-  abbrev pub keys_with : Fields A → Option (Fields A) → List (Option (Fields A))
-  keys_with key None = []
-  keys_with key (Some row) = Some key ∷ []
+  -- the row goes from under the key, where there is one
+  abbrev pub row_goes : Fields A → Option (Fields A) → List (Changed A)
+  row_goes key None = []
+  row_goes key (Some row) = (Some key, Some row) ∷ []
+
+  -- the row comes under the key, where there is one
+  abbrev pub row_comes : Fields A → Option (Fields A) → List (Changed A)
+  row_comes key None = []
+  row_comes key (Some row) = (Some key, None) ∷ []
 
   -- the row under a key is replaced: one change for the old row, and one for the new row
   abbrev pub with_row_in : List ℕ → TableState A → Fields A → Option (Fields A) → Option (Fields A) →
       AppliedState A → AppliedState A
   with_row_in name table key before after state = record state {
     database = put_entry bytes_cmp state.database name (with_row table key after);
-    changes = state.changes ++ changes_to name Direct (keys_with key before ++ keys_with key after);
+    changes = state.changes ++ changes_to name Direct (row_goes key before ++ row_comes key after);
   }
 
   abbrev pub counted : AppliedState A → AppliedState A

@@ -3,7 +3,7 @@ use Rattle.std.specs.Prelude.{ℕ, Some, List, [], ◌∷◌, ◌++◌}
 use Rattle.cap_row.specs.Fields.{Fields}
 use Rattle.cap_database.specs.Read.{row_at}
 use Rattle.cap_apply.specs.Applied.{AppliedState}
-use Rattle.cap_apply.specs.Apply.{keys_with, left_out}
+use Rattle.cap_apply.specs.Apply.{left_out, row_comes, row_goes}
 use Rattle.cap_apply.specs.Steps.{placed, with_changes}
 use Rattle.cap_apply.specs.declared.conflict.ConflictKind.{ConflictKind}
 use Rattle.cap_apply.specs.declared.policy.Answer.{Answer}
@@ -21,7 +21,7 @@ module _ {A : Type 0} where
   -- the row stands under the key: one change for the row that was there, and one for this one
   abbrev pub row_put : List ℕ → Fields A → Fields A → AppliedState A → AppliedState A
   row_put name key row state =
-      with_changes name (keys_with key (row_at state.database name key) ++ keys_with key (Some row))
+      with_changes name (row_goes key (row_at state.database name key) ++ row_comes key (Some row))
       (placed name key (Some row) state)
 
   -- the row stands under the key in place of the change, which is omitted

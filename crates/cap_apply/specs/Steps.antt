@@ -3,7 +3,7 @@ use Rattle.std.specs.Prelude.{ℕ, ◌++◌, Bool, true, false, Option, Result, 
 use Rattle.cap_value.specs.declared.refusal.Refusal.{Refusal}
 use Rattle.cap_row.specs.Fields.{Fields}
 use Rattle.cap_database.specs.Keyed.{row_set}
-use Rattle.cap_database.specs.Operation.{changes_to}
+use Rattle.cap_database.specs.Operation.{Changed, changes_to}
 use Rattle.cap_database.specs.declared.cause.Cause.TheVariants.{Direct}
 use Rattle.cap_apply.specs.Applied.{AppliedState}
 
@@ -19,6 +19,6 @@ module _ {A : Type 0} where
   placed_if_made (Ok false) name key row state = state
   placed_if_made (Err why) name key row state = state
 
-  -- the changes of these keys are added
-  abbrev pub with_changes : List ℕ → List (Option (Fields A)) → AppliedState A → AppliedState A
-  with_changes name keys state = record state { changes = state.changes ++ changes_to name Direct keys }
+  -- the changes of these rows are added
+  abbrev pub with_changes : List ℕ → List (Changed A) → AppliedState A → AppliedState A
+  with_changes name rows state = record state { changes = state.changes ++ changes_to name Direct rows }

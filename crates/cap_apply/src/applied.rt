@@ -1,6 +1,6 @@
 //! The result of applying a blob, and its steps.
-ghost use Rattle.std.specs.Prelude.{◌≡◌, [], ◌∷◌, Some, None, IfOk, IfSome, IfNone, IsTrue, OnOk, is_some};
-ghost use Rattle.std.specs.Prelude.{if◌then◌else◌};
+ghost use Rattle.std.specs.Prelude.{◌≡◌, [], ◌∷◌, Some, None, Ok, IfOk, IfSome, IfNone, IsTrue, OnOk};
+ghost use Rattle.std.specs.Prelude.{if◌then◌else◌, is_some, true};
 ghost use Rattle.std.specs.Option.{option_map};
 ghost use Rattle.cap_value.specs.Memory.{AnswersUnlessMemory};
 ghost use Rattle.cap_row.specs.Fields.{Fields};
@@ -182,8 +182,8 @@ impl<A: AllocHandle> Applied<A> {
         ensures { OnOk result (self.new ≡ row_put table.now key row self.old) }
     {
         match self.put(table, key.copy()?, row)? {
-            Some(_) => self.add_replacement(table, key),
-            None => self.add_change(table, key),
+            Some(old) => self.add_replacement(table, key, Some(old)),
+            None => self.add_change(table, key, None),
         }
     }
 
@@ -205,29 +205,32 @@ impl<A: AllocHandle> Applied<A> {
     }
 
     // Replaces the row of a key by the row after an update, where there is a row and the policy applies the
-    // update to it. Answers the conflict.
+    // update to it. Answers the replaced row, and the conflict.
     pub(crate) fn replace_present_row(
         &mut self,
         table: &Name<A>,
         key: &Key<A>,
         update: RowUpdate<'_, A>,
-    ) -> Result<Option<ConflictKind>, OutOfMemory>
+    ) -> Result<(Option<Row<A>>, Option<ConflictKind>), OutOfMemory>
         requires there { IsTrue (is_some (table_of self.old.database table.now)) }
         requires own { (row : Fields A) → IsOwnRow self.old.database table.now key.now row
             → IsOwnRow self.old.database table.now key.now
             (set_fields (update_record update.flags.now update.key.now update.new.now) row) }
         requires unknown { update.conflict ≡ Some NotFound }
-        ensures conflict { IfOk result (λ conflict. missed update.entry.flags.now update.entry.old.now
-            (row_at self.old.database table.now key.now) ≡ conflict) }
-        ensures state { IfOk result (λ conflict. self.new ≡ placed_if_made
-            (is_made update.entry.decision.policy update.entry.decision.number conflict) table.now key.now
+        ensures conflict { IfOk result (λ replaced. missed update.entry.flags.now update.entry.old.now
+            (row_at self.old.database table.now key.now) ≡ replaced.1) }
+        ensures state { IfOk result (λ replaced. self.new ≡ placed_if_made
+            (is_made update.entry.decision.policy update.entry.decision.number replaced.1) table.now key.now
             (option_map (set_fields (update_record update.entry.flags.now update.entry.key.now
             update.entry.new.now)) (row_at self.old.database table.now key.now)) self.old) }
+        ensures before { IfOk result (λ replaced.
+            is_made update.entry.decision.policy update.entry.decision.number replaced.1 ≡ Ok true
+            → replaced.0 ≡ row_at self.old.database table.now key.now) }
     {
         let mut step = update;
         match self.database.replace_row(table, key, &mut step) {
-            Ok(_) => Ok(step.conflict),
-            Err(Fault::Refused(NotUpdated::Unwanted)) => Ok(step.conflict),
+            Ok(before) => Ok((before, step.conflict)),
+            Err(Fault::Refused(NotUpdated::Unwanted)) => Ok((None, step.conflict)),
             Err(_) => Err(OutOfMemory),
         }
     }
@@ -248,14 +251,20 @@ impl<A: AllocHandle> Applied<A> {
         self.database.take_row(table, key)
     }
 
-    // Adds the change of an inserted or deleted row.
-    pub(crate) fn add_change(&mut self, table: &Name<A>, key: Key<A>) -> Result<(), OutOfMemory>
-        ensures { OnOk result (self.new ≡ with_changes table.now (Some key ∷ []) self.old) }
+    // Adds the change of an inserted row, or of a deleted one, which was there before.
+    pub(crate) fn add_change(
+        &mut self,
+        table: &Name<A>,
+        key: Key<A>,
+        before: Option<Row<A>>,
+    ) -> Result<(), OutOfMemory>
+        ensures { OnOk result (self.new ≡ with_changes table.now ((Some key, before) ∷ []) self.old) }
     {
         self.changes.push(Change {
             table: table.copy()?,
             key: Some(key),
             cause: Cause::Direct,
+            before,
         })?;
         Ok(())
     }
@@ -265,10 +274,12 @@ impl<A: AllocHandle> Applied<A> {
         &mut self,
         table: &Name<A>,
         key: Key<A>,
+        before: Option<Row<A>>,
     ) -> Result<(), OutOfMemory>
-        ensures { OnOk result (self.new ≡ with_changes table.now (Some key ∷ Some key ∷ []) self.old) }
+        ensures { OnOk result (self.new
+            ≡ with_changes table.now ((Some key, before) ∷ (Some key, None) ∷ []) self.old) }
     {
-        self.add_change(table, key.copy()?)?;
-        self.add_change(table, key)
+        self.add_change(table, key.copy()?, before)?;
+        self.add_change(table, key, None)
     }
 }

@@ -76,12 +76,11 @@ fn apply_group<C: BlobChange<A>, A: AllocHandle>(
         (map (C.requested group.now.schema) group.now.changes) applied.old) applied.new }
 {
     let (table, columns) = (group.table(), group.schema());
-    for (place, change) in group.changes().iter().enumerate() {
-        let decision = Decision {
-            number: number + place as u64,
-            policy,
-        };
-        change.apply_to(applied, decision, table, columns)?;
+    let mut number = number;
+    for change in group.changes() {
+        let decision = Decision { number, policy };
+        C::apply_to(&change, applied, decision, table, columns)?;
+        number += 1;
     }
     Ok(())
 }

@@ -19,8 +19,9 @@ use crate::replace::RowUpdate;
 use crate::row_conflict::missed;
 use crate::target::width_of;
 use crate::{Applied, ConflictKind};
+use cap_changes::RecordRef;
 use cap_row::Schema;
-use cap_value::{AllocHandle, Fault, Name, Refusal, Value};
+use cap_value::{AllocHandle, Fault, Name, Refusal};
 
 impl<A: AllocHandle> Applied<A> {
     // An insert. The row is put at once, and the row that it replaced is put back where the change is
@@ -30,7 +31,7 @@ impl<A: AllocHandle> Applied<A> {
         decision: Decision,
         table: &Name<A>,
         columns: &Schema<A>,
-        new: &[Option<Value<A>>],
+        new: &RecordRef<'_, A>,
     ) -> Result<(), Fault<Refusal>>
         requires keyed { IsTrue (has_key columns.now) }
         requires fits { IsTrue (satisfy (requirements record_kinds.Full columns.now) new.now) }
@@ -43,12 +44,12 @@ impl<A: AllocHandle> Applied<A> {
         let row = new_row(self.alloc(), width_of(self.database(), table), new)?;
         let key = key_of_fields(self.alloc(), columns.flags(), new)?;
         let Some(taken) = self.put(table, key.copy()?, row)? else {
-            self.add_change(table, key)?;
+            self.add_change(table, key, None)?;
             self.count()?;
             return Ok(());
         };
         if self.judge(decision, Some(ConflictKind::Conflict))? {
-            self.add_replacement(table, key)?;
+            self.add_replacement(table, key, Some(taken))?;
             self.count()?;
             return Ok(());
         }
@@ -63,9 +64,9 @@ impl<A: AllocHandle> Applied<A> {
         decision: Decision,
         table: &Name<A>,
         columns: &Schema<A>,
-        old: &[Option<Value<A>>],
-        key: &[Option<Value<A>>],
-        new: &[Option<Value<A>>],
+        old: &RecordRef<'_, A>,
+        key: &RecordRef<'_, A>,
+        new: &RecordRef<'_, A>,
     ) -> Result<(), Fault<Refusal>>
         requires keyed { IsTrue (has_key columns.now) }
         requires fits { IsTrue (satisfy (requirements record_kinds.Keyed columns.now)
@@ -89,11 +90,11 @@ impl<A: AllocHandle> Applied<A> {
             new,
             conflict: Some(ConflictKind::NotFound),
         };
-        let conflict = self.replace_present_row(table, &under, update)?;
+        let (before, conflict) = self.replace_present_row(table, &under, update)?;
         if !self.judge(decision, conflict)? {
             return Ok(());
         }
-        self.add_replacement(table, under)?;
+        self.add_replacement(table, under, before)?;
         self.count()?;
         Ok(())
     }
@@ -104,8 +105,8 @@ impl<A: AllocHandle> Applied<A> {
         decision: Decision,
         table: &Name<A>,
         columns: &Schema<A>,
-        old: &[Option<Value<A>>],
-        key: &[Option<Value<A>>],
+        old: &RecordRef<'_, A>,
+        key: &RecordRef<'_, A>,
     ) -> Result<(), Fault<Refusal>>
         requires key { IsTrue (is_key (key_values columns.now key.now)) }
         requires target { IsTrue (is_some (target self.old.database table.now columns.now)) }
@@ -118,7 +119,7 @@ impl<A: AllocHandle> Applied<A> {
         let gone = self.take(table, &under)?;
         let conflict = missed(columns.flags(), old, gone.as_ref());
         if self.judge(decision, conflict)? {
-            self.add_change(table, under)?;
+            self.add_change(table, under, gone)?;
             self.count()?;
             return Ok(());
         }

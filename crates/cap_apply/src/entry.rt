@@ -3,6 +3,7 @@ ghost use Rattle.std.specs.Prelude.{◌≡◌, Bool, IfOk, List, IsTrue, is_some
 ghost use Rattle.std.specs.Option.{option_copied};
 ghost use Rattle.cap_row.specs.Schema.{has_key};
 ghost use Rattle.cap_value.specs.Memory.{LeavesUnlessMemory};
+ghost use Rattle.cap_changes.specs.ChangeRef.{change_of, patch_of};
 ghost use Rattle.cap_apply.specs.Apply.{change_applied};
 ghost use Rattle.cap_apply.specs.KeyRecord.{key_record};
 ghost use Rattle.cap_apply.specs.Requested.{Requested};
@@ -13,9 +14,9 @@ use crate::decision::Decision;
 use crate::fields::key_of_fields;
 use crate::row_conflict::{missed, taken};
 use crate::{Applied, ConflictKind};
-use cap_changes::{Entry, Patch, RowChange};
+use cap_changes::{ChangeRef, Entry, EntryRef, Patch, PatchRef, RecordRef, RowChange};
 use cap_row::{Key, Row, Schema};
-use cap_value::{AllocHandle, Fault, Name, OutOfMemory, Refusal, Value};
+use cap_value::{AllocHandle, Fault, Name, OutOfMemory, Refusal};
 
 /// A change of a changeset or of a patchset, as one that can be applied. The table and the columns of a call
 /// are those of its group.
@@ -24,31 +25,45 @@ pub trait BlobChange<A: AllocHandle>: Entry {
     ghost requested: { List Bool → Self → Requested A };
 
     /// The key that it names.
-    fn key(&self, alloc: A, columns: &Schema<A>) -> Result<Key<A>, OutOfMemory>
+    fn key(
+        change: &EntryRef<'_, Self>,
+        alloc: A,
+        columns: &Schema<A>,
+    ) -> Result<Key<A>, OutOfMemory>
+    where
+        Self: Sized,
         requires keyed { IsTrue (has_key columns.now) }
-        requires fits { IsTrue (Self.fits_in columns.now self.now) }
+        requires fits { IsTrue (Self.fits_in columns.now change.now) }
         ensures { IfOk result (λ key. key
-            ≡ key_values columns.now (key_record_of (requested columns.now self.now).patch)) };
+            ≡ key_values columns.now (key_record_of (requested columns.now change.now).patch)) };
 
     /// The conflict that it meets with the row under its key, or with none there.
-    fn conflict(&self, columns: &Schema<A>, row: Option<&Row<A>>) -> Option<ConflictKind>
-        ensures { result ≡ conflict_of columns.now (requested columns.now self.now).old
-            (requested columns.now self.now).patch (option_copied row.entry) };
+    fn conflict(
+        change: &EntryRef<'_, Self>,
+        columns: &Schema<A>,
+        row: Option<&Row<A>>,
+    ) -> Option<ConflictKind>
+    where
+        Self: Sized,
+        ensures { result ≡ conflict_of columns.now (requested columns.now change.now).old
+            (requested columns.now change.now).patch (option_copied row.entry) };
 
     /// Applies it after the changes that were applied before it.
     fn apply_to(
-        &self,
+        change: &EntryRef<'_, Self>,
         applied: &mut Applied<A>,
         decision: Decision,
         table: &Name<A>,
         columns: &Schema<A>,
     ) -> Result<(), Fault<Refusal>>
+    where
+        Self: Sized,
         requires keyed { IsTrue (has_key columns.now) }
-        requires fits { IsTrue (Self.fits_in columns.now self.now) }
+        requires fits { IsTrue (Self.fits_in columns.now change.now) }
         requires target { IsTrue (is_some (target applied.old.database table.now columns.now)) }
         ensures { LeavesUnlessMemory result
             (change_applied decision.policy decision.number table.now columns.now
-            (requested columns.now self.now) applied.old) applied.new };
+            (requested columns.now change.now) applied.old) applied.new };
 }
 
 impl<A: AllocHandle> BlobChange<A> for RowChange<A> {
@@ -56,35 +71,39 @@ impl<A: AllocHandle> BlobChange<A> for RowChange<A> {
 
     ghost requested = { λ flags change. requested_by_change flags change };
 
-    fn key(&self, alloc: A, columns: &Schema<A>) -> Result<Key<A>, OutOfMemory> {
-        key_of_fields(alloc, columns.flags(), record_with_key(self))
+    fn key(
+        change: &EntryRef<'_, Self>,
+        alloc: A,
+        columns: &Schema<A>,
+    ) -> Result<Key<A>, OutOfMemory> {
+        key_of_fields(alloc, columns.flags(), &record_with_key(change.read()))
     }
 
-    fn conflict(&self, columns: &Schema<A>, row: Option<&Row<A>>) -> Option<ConflictKind> {
-        match self {
-            RowChange::Insert { .. } => taken(row),
-            RowChange::Update { old, .. } => missed(columns.flags(), old.fields(), row),
-            RowChange::Delete { old, .. } => missed(columns.flags(), old.fields(), row),
+    fn conflict(
+        change: &EntryRef<'_, Self>,
+        columns: &Schema<A>,
+        row: Option<&Row<A>>,
+    ) -> Option<ConflictKind> {
+        match change.read() {
+            ChangeRef::Insert { .. } => taken(row),
+            ChangeRef::Update { old, .. } => missed(columns.flags(), &old, row),
+            ChangeRef::Delete { old, .. } => missed(columns.flags(), &old, row),
         }
     }
 
     fn apply_to(
-        &self,
+        change: &EntryRef<'_, Self>,
         applied: &mut Applied<A>,
         decision: Decision,
         table: &Name<A>,
         columns: &Schema<A>,
     ) -> Result<(), Fault<Refusal>> {
-        match self {
-            RowChange::Insert { new, .. } => applied.insert(decision, table, columns, new.fields()),
-            RowChange::Update { old, new, .. } => {
-                let old = old.fields();
-                applied.update(decision, table, columns, old, old, new.fields())
+        match change.read() {
+            ChangeRef::Insert { new, .. } => applied.insert(decision, table, columns, &new),
+            ChangeRef::Update { old, new, .. } => {
+                applied.update(decision, table, columns, &old, &old, &new)
             }
-            RowChange::Delete { old, .. } => {
-                let old = old.fields();
-                applied.delete(decision, table, columns, old, old)
-            }
+            ChangeRef::Delete { old, .. } => applied.delete(decision, table, columns, &old, &old),
         }
     }
 }
@@ -94,58 +113,68 @@ impl<A: AllocHandle> BlobChange<A> for Patch<A> {
 
     ghost requested = { λ flags patch. requested_by_patch flags patch };
 
-    fn key(&self, alloc: A, columns: &Schema<A>) -> Result<Key<A>, OutOfMemory> {
-        key_of_fields(alloc, columns.flags(), patch_record_with_key(self))
+    fn key(
+        change: &EntryRef<'_, Self>,
+        alloc: A,
+        columns: &Schema<A>,
+    ) -> Result<Key<A>, OutOfMemory> {
+        key_of_fields(
+            alloc,
+            columns.flags(),
+            &patch_record_with_key(change.read()),
+        )
     }
 
-    fn conflict(&self, columns: &Schema<A>, row: Option<&Row<A>>) -> Option<ConflictKind> {
+    fn conflict(
+        change: &EntryRef<'_, Self>,
+        columns: &Schema<A>,
+        row: Option<&Row<A>>,
+    ) -> Option<ConflictKind> {
         // A patch has no old fields.
-        match self {
-            Patch::Insert { .. } => taken(row),
-            Patch::Update { new, .. } => missed(columns.flags(), &new.fields()[..0], row),
-            Patch::Delete { key, .. } => missed(columns.flags(), &key.fields()[..0], row),
+        match change.read() {
+            PatchRef::Insert { .. } => taken(row),
+            PatchRef::Update { .. } | PatchRef::Delete { .. } => {
+                missed(columns.flags(), &RecordRef::empty(), row)
+            }
         }
     }
 
     fn apply_to(
-        &self,
+        change: &EntryRef<'_, Self>,
         applied: &mut Applied<A>,
         decision: Decision,
         table: &Name<A>,
         columns: &Schema<A>,
     ) -> Result<(), Fault<Refusal>> {
-        let no_old = Vec::new(applied.alloc());
-        match self {
-            Patch::Insert { new, .. } => applied.insert(decision, table, columns, new.fields()),
-            Patch::Update { new, .. } => {
-                let new = new.fields();
-                applied.update(decision, table, columns, &no_old, new, new)
+        let no_old = RecordRef::empty();
+        match change.read() {
+            PatchRef::Insert { new, .. } => applied.insert(decision, table, columns, &new),
+            PatchRef::Update { new, .. } => {
+                applied.update(decision, table, columns, &no_old, &new, &new)
             }
-            Patch::Delete { key, .. } => {
-                applied.delete(decision, table, columns, &no_old, key.fields())
-            }
+            PatchRef::Delete { key, .. } => applied.delete(decision, table, columns, &no_old, &key),
         }
     }
 }
 
 // The record of a change that has its key.
-fn record_with_key<A: AllocHandle>(change: &RowChange<A>) -> &[Option<Value<A>>]
-    ensures { result.now ≡ key_record change.now }
+fn record_with_key<'a, A: AllocHandle>(change: ChangeRef<'a, A>) -> RecordRef<'a, A>
+    ensures { result ≡ key_record (change_of change.entry) }
 {
     match change {
-        RowChange::Insert { new, .. } => new.fields(),
-        RowChange::Update { old, .. } => old.fields(),
-        RowChange::Delete { old, .. } => old.fields(),
+        ChangeRef::Insert { new, .. } => new,
+        ChangeRef::Update { old, .. } => old,
+        ChangeRef::Delete { old, .. } => old,
     }
 }
 
 // The same of a patch.
-fn patch_record_with_key<A: AllocHandle>(patch: &Patch<A>) -> &[Option<Value<A>>]
-    ensures { result.now ≡ key_record_of patch.now }
+fn patch_record_with_key<'a, A: AllocHandle>(patch: PatchRef<'a, A>) -> RecordRef<'a, A>
+    ensures { result ≡ key_record_of (patch_of patch.entry) }
 {
     match patch {
-        Patch::Insert { new, .. } => new.fields(),
-        Patch::Update { new, .. } => new.fields(),
-        Patch::Delete { key, .. } => key.fields(),
+        PatchRef::Insert { new, .. } => new,
+        PatchRef::Update { new, .. } => new,
+        PatchRef::Delete { key, .. } => key,
     }
 }

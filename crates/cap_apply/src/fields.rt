@@ -1,22 +1,25 @@
 //! Rows, keys and assignments from the fields of a change.
-ghost use Rattle.std.specs.Prelude.{◌≡◌, [], ◌∷◌, ◌++◌, map, take, drop, IfOk, IsTrue, OnOk, if◌then◌else◌};
+ghost use Rattle.std.specs.Prelude.{◌≡◌, [], ◌∷◌, ◌++◌, map, take, drop, IfOk, IfSome, IsTrue, OnOk};
 ghost use Rattle.std.specs.Option.{unwrap_or};
+ghost use Rattle.cap_value.specs.Value.{IsValue};
 ghost use Rattle.cap_value.specs.declared.value.Value.TheVariants.{Null};
 ghost use Rattle.cap_field.specs.FieldReading.{value_of};
+ghost use Rattle.cap_changes.specs.FieldReading.{field_of};
 ghost use Rattle.cap_row.specs.Key.{is_key};
 ghost use Rattle.cap_changes.specs.Patch.{update_record};
 ghost use Rattle.cap_apply.specs.Row.{has_old_values, has_old_value, key_values, new_row, set_fields};
 
+use cap_changes::RecordRef;
 use cap_field::ValueRef;
 use cap_row::{Key, KeyValues, Row, RowBuilder, RowFields};
-use cap_value::{AllocHandle, OutOfMemory, Value};
+use cap_value::{AllocHandle, OutOfMemory};
 use smallvec::SmallVec;
 
 // The key that a change names.
 pub(crate) fn key_of_fields<A: AllocHandle>(
     alloc: A,
     flags: &[bool],
-    fields: &[Option<Value<A>>],
+    fields: &RecordRef<'_, A>,
 ) -> Result<Key<A>, OutOfMemory>
     requires { IsTrue (is_key (key_values flags.now fields.now)) }
     ensures { IfOk result (λ key. key ≡ key_values flags.now fields.now) }
@@ -30,16 +33,18 @@ pub(crate) fn key_of_fields<A: AllocHandle>(
 fn key_values<A: AllocHandle>(
     alloc: A,
     flags: &[bool],
-    fields: &[Option<Value<A>>],
+    fields: &RecordRef<'_, A>,
 ) -> Result<KeyValues<A>, OutOfMemory>
     ensures { IfOk result (λ values. values.items ≡ key_values flags.now fields.now) }
 {
     let mut values = SmallVec::new(alloc);
-    for (flag, field) in flags.iter().zip(fields) {
-        if *flag {
-            if let Some(value) = field {
-                values.push(value.copy()?)?;
-            }
+    let mut rest = fields.copy();
+    for flag in flags {
+        let Some(field) = rest.next_field() else {
+            break;
+        };
+        if *flag && let Some(value) = field {
+            values.push(value.own(alloc)?)?;
         }
     }
     Ok(values)
@@ -49,29 +54,50 @@ fn key_values<A: AllocHandle>(
 pub(crate) fn new_row<A: AllocHandle>(
     alloc: A,
     width: usize,
-    fields: &[Option<Value<A>>],
+    fields: &RecordRef<'_, A>,
 ) -> Result<Row<A>, OutOfMemory>
     ensures { IfOk result (λ row. row ≡ new_row width fields.now) }
 {
     let mut builder = RowBuilder::new(alloc);
-    for field in fields {
+    let mut further = width;
+    let mut rest = fields.copy();
+    while let Some(field) = rest.next_field() {
         push_or_null(&mut builder, field)?;
+        further = further.saturating_sub(1);
     }
-    for _further in 0..width.saturating_sub(fields.len()) {
+    for _further in 0..further {
         builder.push_null()?;
     }
     builder.finish()
 }
 
+// Appends a field, and NULL where it is undefined.
 fn push_or_null<A: AllocHandle>(
     builder: &mut RowBuilder<A>,
-    field: &Option<Value<A>>,
+    field: Option<ValueRef<'_>>,
 ) -> Result<(), OutOfMemory>
-    ensures { OnOk result (builder.new ≡ builder.old ++ unwrap_or field.now Null ∷ []) }
+    requires { IfSome (field_of {A = A} field) IsValue }
+    ensures { OnOk result (builder.new ≡ builder.old ++ unwrap_or (field_of field.entry) Null ∷ []) }
 {
     match field {
-        Some(value) => builder.push(value),
+        Some(value) => push_value(builder, value),
         None => builder.push_null(),
+    }
+}
+
+// Appends a value.
+fn push_value<A: AllocHandle>(
+    builder: &mut RowBuilder<A>,
+    value: ValueRef<'_>,
+) -> Result<(), OutOfMemory>
+    requires { IsValue {A = A} (value_of value) }
+    ensures { OnOk result (builder.new ≡ builder.old ++ value_of value.entry ∷ []) }
+{
+    match value {
+        ValueRef::Null => builder.push_null(),
+        ValueRef::Int(number) => builder.push_int(number),
+        ValueRef::Text(text) => builder.push_text(text),
+        ValueRef::Blob(blob) => builder.push_blob(blob),
     }
 }
 
@@ -79,8 +105,8 @@ fn push_or_null<A: AllocHandle>(
 pub(crate) fn updated<A: AllocHandle>(
     alloc: A,
     flags: &[bool],
-    key: &[Option<Value<A>>],
-    new: &[Option<Value<A>>],
+    key: &RecordRef<'_, A>,
+    new: &RecordRef<'_, A>,
     row: &Row<A>,
 ) -> Result<Row<A>, OutOfMemory>
     ensures { IfOk result (λ made. made ≡ set_fields (update_record flags.now key.now new.now) row.now) }
@@ -94,68 +120,74 @@ pub(crate) fn updated<A: AllocHandle>(
 fn set_fields<A: AllocHandle>(
     builder: &mut RowBuilder<A>,
     flags: &[bool],
-    key: &[Option<Value<A>>],
-    new: &[Option<Value<A>>],
+    key: &RecordRef<'_, A>,
+    new: &RecordRef<'_, A>,
     row: RowFields<'_, A>,
 ) -> Result<(), OutOfMemory>
     ensures { OnOk result (builder.new
         ≡ builder.old ++ set_fields (update_record flags.now key.now new.now) row.entry) }
 {
-    let Some((flag, flags)) = flags.split_first() else {
-        return builder.push_rest(row);
-    };
-    let Some((kept, key)) = key.split_first() else {
-        return builder.push_rest(row);
-    };
-    let Some((set, new)) = new.split_first() else {
-        return builder.push_rest(row);
-    };
+    let mut key = key.copy();
+    let mut new = new.copy();
     let mut rest = row;
-    push_field(builder, *flag, kept, set, &mut rest)?;
-    set_fields(builder, flags, key, new, rest)
+    for flag in flags {
+        let (Some(kept), Some(set)) = (key.next_field(), new.next_field()) else {
+            break;
+        };
+        push_field(builder, if *flag { kept } else { set }, &mut rest)?;
+    }
+    builder.push_rest(rest)
 }
 
-// Appends the next value of the row after an update, by its key flag and the fields.
+// Appends the next value of the row after an update, where there is one: the field where it is defined.
 fn push_field<A: AllocHandle>(
     builder: &mut RowBuilder<A>,
-    flag: bool,
-    kept: &Option<Value<A>>,
-    set: &Option<Value<A>>,
+    field: Option<ValueRef<'_>>,
     rest: &mut RowFields<'_, A>,
 ) -> Result<(), OutOfMemory>
+    requires { IfSome (field_of {A = A} field) IsValue }
     ensures field { OnOk result (builder.new ≡ builder.old
-        ++ map (unwrap_or (if flag then kept.now else set.now)) (take 1 rest.old)) }
+        ++ map (unwrap_or (field_of field.entry)) (take 1 rest.old)) }
     ensures passed { rest.new ≡ drop 1 rest.old }
 {
-    let field = if flag { kept } else { set };
-    builder.push_next_or(field.as_ref(), rest)
+    match field {
+        None => builder.push_next(rest),
+        Some(value) => match rest.next_value() {
+            Some(_) => push_value(builder, value),
+            None => Ok(()),
+        },
+    }
 }
 
 // Whether the row has each old value of the change outside the key.
 pub(crate) fn has_old_values<A: AllocHandle>(
     flags: &[bool],
-    old: &[Option<Value<A>>],
+    old: &RecordRef<'_, A>,
     row: RowFields<'_, A>,
 ) -> bool
     ensures { result ≡ has_old_values flags.now old.now row.entry }
 {
     let mut rest = row;
-    for (key, old) in flags.iter().zip(old) {
+    let mut fields = old.copy();
+    for key in flags {
+        let Some(old) = fields.next_field() else {
+            return true;
+        };
         let Some(value) = rest.next_value() else {
             return true;
         };
-        if !has_old_value(*key, old, value) {
+        if !has_old_value::<A>(*key, old, value) {
             return false;
         }
     }
     true
 }
 
-fn has_old_value<A: AllocHandle>(key: bool, old: &Option<Value<A>>, value: ValueRef<'_>) -> bool
-    ensures { result ≡ has_old_value key old.now (value_of value.entry) }
+fn has_old_value<A: AllocHandle>(key: bool, old: Option<ValueRef<'_>>, value: ValueRef<'_>) -> bool
+    ensures { result ≡ has_old_value {A = A} key (field_of old.entry) (value_of value.entry) }
 {
     match old {
-        Some(old) => key || ValueRef::of(old).same::<A>(value),
+        Some(old) => key || old.same::<A>(value),
         None => true,
     }
 }

@@ -2,6 +2,7 @@
 ghost use Rattle.std.specs.Prelude.{◌≡◌, ℕ, ◌+◌, Bool, Some, List, Ok, IfOk, IsTrue, length, map};
 ghost use Rattle.cap_row.specs.Schema.{has_key};
 ghost use Rattle.cap_table.specs.Table.{TableState};
+ghost use Rattle.cap_database.specs.Carried.{CarryFirstRows};
 ghost use Rattle.cap_database.specs.Operation.{run};
 ghost use Rattle.cap_database.specs.Tables.{AreRising, Tables, schema_of};
 ghost use Rattle.cap_database.specs.declared.op.Op.{Op};
@@ -117,6 +118,12 @@ pub fn changes_are_made_by_operations<A: AllocHandle>()
 {
     tables_keep_order::<A>();
 }
+
+/// The first change of each row by a blob carries the row that was there before the blob, or its absence.
+pub fn applied_changes_carry_the_rows_before<A: AllocHandle>()
+    ensures { (tables : Tables A) (blob : Contents A) (policy : Policy) → IfOk (apply tables blob policy)
+        (λ left. CarryFirstRows tables left.changes) }
+{}
 
 /// Applying any blob under any policy keeps the columns of each table.
 pub fn applied_blobs_keep_columns<A: AllocHandle>()

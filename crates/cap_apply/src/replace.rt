@@ -6,9 +6,10 @@ use crate::ConflictKind;
 use crate::decision::Decision;
 use crate::fields::updated;
 use crate::row_conflict::missed;
+use cap_changes::RecordRef;
 use cap_row::Row;
 use cap_tree::Remake;
-use cap_value::{AllocHandle, Value};
+use cap_value::AllocHandle;
 
 // Makes the row after an update of the row that is there, where the policy applies the update to it. The key
 // fields are in the one record, and the fields to set in the other.
@@ -17,9 +18,9 @@ pub(crate) struct RowUpdate<'a, A: AllocHandle> {
     pub(crate) alloc: &'a A,
     pub(crate) decision: Decision,
     pub(crate) flags: &'a [bool],
-    pub(crate) old: &'a [Option<Value<A>>],
-    pub(crate) key: &'a [Option<Value<A>>],
-    pub(crate) new: &'a [Option<Value<A>>],
+    pub(crate) old: &'a RecordRef<'a, A>,
+    pub(crate) key: &'a RecordRef<'a, A>,
+    pub(crate) new: &'a RecordRef<'a, A>,
     // The conflict with the row, once there is one.
     pub(crate) conflict: Option<ConflictKind>,
 }

@@ -5,13 +5,14 @@ ghost use Rattle.cap_apply.specs.Row.{missed, taken};
 
 use crate::ConflictKind;
 use crate::fields::has_old_values;
+use cap_changes::RecordRef;
 use cap_row::Row;
-use cap_value::{AllocHandle, Value};
+use cap_value::AllocHandle;
 
 // The conflict of an update or a delete, if any.
 pub(crate) fn missed<A: AllocHandle>(
     flags: &[bool],
-    old: &[Option<Value<A>>],
+    old: &RecordRef<'_, A>,
     row: Option<&Row<A>>,
 ) -> Option<ConflictKind>
     ensures { result ≡ missed flags.now old.now (option_copied row.entry) }

@@ -11,14 +11,12 @@ ghost use Rattle.cap_codec.specs.Patchset.{patch_list_bytes_with};
 ghost use Rattle.cap_codec.specs.Spelling.{Spells};
 ghost use Rattle.cap_codec.specs.declared.read.Contents.TheVariants.{Changes};
 ghost use Rattle.cap_blob.specs.Converted.{changes_at, inverse_at, patchset_at, target_at};
-ghost use Rattle.cap_blob.specs.Passing.{begins_changeset};
 ghost use Rattle.cap_blob.specs.Target.{converted_list};
 ghost use Rattle.cap_blob.specs.declared.refusal.ChangesetRefusal.TheVariants.{Malformed};
 
-use crate::group::convert_groups;
 use crate::{ChangesetRefusal, Target};
-use cap_changes::ChangeList;
-use cap_codec::{CHANGESET_KIND, Contents, KeyFlags, read_blob};
+use cap_changes::{ChangeList, invert, to_patches};
+use cap_codec::{Contents, KeyFlags, read_blob, write_changes_with, write_patches_with};
 use cap_value::{AllocHandle, Fault};
 
 /// The bytes of what a changeset is converted to, its inverse or its patchset, written with these key flags.
@@ -39,17 +37,16 @@ pub fn convert_bytes<A: AllocHandle>(
     // A first byte that begins no group is refused without memory.
     ensures first { RefusesFirst (option_map Malformed (first_fault bytes.now)) result }
 {
-    if !begins_changeset(bytes) {
-        // There are no bytes, or they are refused: they are a patchset, or no blob.
-        read_changes(alloc, bytes)?;
-        return Ok(Vec::new(alloc));
-    }
-    // What is written is at most as long as what is read.
-    let mut out = Vec::with_capacity(alloc, bytes.len())?;
-    match convert_groups(alloc, &mut out, target, key_flags, bytes.len(), bytes) {
-        Ok(()) => Ok(out),
-        Err(Fault::Refused(fault)) => Err(Fault::Refused(ChangesetRefusal::Malformed(fault))),
-        Err(Fault::OutOfMemory) => Err(Fault::OutOfMemory),
+    let list = read_changes(alloc, bytes)?;
+    match target {
+        Target::Inverse => {
+            let inverse = invert(alloc, &list)?;
+            Ok(write_changes_with(alloc, key_flags, &inverse)?)
+        }
+        Target::Patchset => {
+            let patches = to_patches(alloc, &list)?;
+            Ok(write_patches_with(alloc, key_flags, &patches)?)
+        }
     }
 }
 
@@ -89,21 +86,12 @@ pub fn patchset_bytes<A: AllocHandle>(
     convert_bytes(alloc, Target::Patchset, key_flags, bytes)
 }
 
-// Whether these bytes begin with a group of a changeset.
-fn begins_changeset(bytes: &[u8]) -> bool
-    ensures { result ≡ begins_changeset bytes.now }
-{
-    match bytes {
-        [] => false,
-        [kind, ..] => *kind == CHANGESET_KIND,
-    }
-}
-
-// The changes of a changeset that is read as a list.
+// The changes of a changeset.
 fn read_changes<A: AllocHandle>(
     alloc: A,
     bytes: &[u8],
 ) -> Result<ChangeList<A>, Fault<ChangesetRefusal>>
+    ensures spelled { IfOk result (λ list. Spells (Changes list) bytes.now) }
     ensures answers { ShowsUnlessMemory (λ list. list) result (changes_at A bytes.now) }
     ensures first { RefusesFirst (option_map Malformed (first_fault bytes.now)) result }
 {

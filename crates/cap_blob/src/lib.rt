@@ -1,11 +1,7 @@
 //! Whole blobs, from bytes to bytes: the inverse and the patchset of a changeset.
 #![tactic(auto)]
 
-mod change;
 mod convert;
-mod field;
-mod group;
-mod record;
 mod refusal;
 mod target;
 

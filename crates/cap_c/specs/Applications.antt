@@ -9,7 +9,7 @@ use Rattle.cap_value.specs.declared.refusal.Refusal.{Refusal}
 use Rattle.cap_value.specs.declared.refusal.Refusal.TheVariants.{Aborted, Misuse}
 use Rattle.cap_database.specs.Snapshot.{SnapshotState}
 use Rattle.cap_txn.specs.Batch.{BatchState}
-use Rattle.cap_codec.specs.Operation.{operation_byte}
+use Rattle.cap_changes.specs.Operation.{operation_byte}
 use Rattle.cap_codec.specs.declared.key_flags.KeyFlags.{KeyFlags}
 use Rattle.cap_apply.specs.declared.conflict.ConflictKind.{ConflictKind}
 use Rattle.cap_apply.specs.declared.conflict.ConflictKind.TheVariants.{Data, NotFound, Conflict}

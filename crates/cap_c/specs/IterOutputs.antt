@@ -4,7 +4,7 @@ use Rattle.std.specs.Prelude.{if◌then◌else◌}
 use Rattle.std.specs.Option.{option_map}
 use Rattle.cap_c.specs.Bits.{bit}
 use Rattle.cap_apply.specs.declared.policy.Answer.{Answer}
-use Rattle.cap_codec.specs.Operation.{operation_byte}
+use Rattle.cap_changes.specs.Operation.{operation_byte}
 use Rattle.cap_codec.specs.declared.key_flags.KeyFlags.{KeyFlags}
 use Rattle.cap_connection.specs.Iter.{IterState, Notes, buffer_in, columns_of, head_of, is_key, is_patchset}
 use Rattle.cap_connection.specs.Iter.{new_of, old_of}

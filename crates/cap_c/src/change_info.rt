@@ -1,13 +1,11 @@
 //! A change and a field of it, as C sees them.
 ghost use Rattle.std.specs.Prelude.{◌≡◌};
-ghost use Rattle.std.specs.Option.{option_copied, option_map};
+ghost use Rattle.std.specs.Option.{option_map};
 ghost use Rattle.std.specs.Global.{Global};
 ghost use Rattle.cap_field.specs.FieldReading.{value_of};
 ghost use Rattle.cap_c.specs.Outputs.{value_bytes, value_output};
 
 use cap_field::ValueRef;
-use cap_value::Value;
-use std::alloc::Global;
 
 /// What a change is. The operation is SQLite's number: 9, 18 or 23. Flags are 0 or 1.
 #[repr(C)]
@@ -68,15 +66,5 @@ pub(crate) fn value_bytes<'a>(value: Option<ValueRef<'a>>) -> &'a [u8]
         Some(ValueRef::Text(text)) => text.as_bytes(),
         Some(ValueRef::Blob(bytes)) => bytes,
         _ => b"",
-    }
-}
-
-/// The reference to the value of a field, where it is defined.
-pub(crate) fn field_ref<'a>(field: Option<&'a Value<Global>>) -> Option<ValueRef<'a>>
-    ensures { option_map value_of result ≡ option_copied field.entry }
-{
-    match field {
-        Some(value) => Some(ValueRef::of(value)),
-        None => None,
     }
 }

@@ -5,7 +5,7 @@ ghost use Rattle.cap_c.specs.IterOutputs.{info_of, key_output, new_bytes, new_ou
 ghost use Rattle.cap_c.specs.IterOutputs.{NotesBy, OutputsBuffer, step_status};
 ghost use Rattle.cap_c.specs.Outputs.{OutputsBytes, OutputsFound, OutputsMade};
 
-use crate::change_info::{ChangeInfo, FieldValue, field_ref, value_bytes, value_output};
+use crate::change_info::{ChangeInfo, FieldValue, value_bytes, value_output};
 use crate::output::write_bytes;
 use crate::status::{DONE, MISUSE, NOMEM, OK, PATCHSET, ROW};
 use cap_apply::Answer;
@@ -61,7 +61,7 @@ pub(crate) fn set_old(it: &BlobIter, column: usize, value: &mut FieldValue) -> u
     ensures { OutputsFound (old_output it.now column) result value.old value.new }
 {
     if column < it.columns() {
-        *value = value_output(field_ref(it.old(column)));
+        *value = value_output(it.old(column));
         OK
     } else {
         MISUSE
@@ -72,7 +72,7 @@ pub(crate) fn set_new(it: &BlobIter, column: usize, value: &mut FieldValue) -> u
     ensures { OutputsFound (new_output it.now column) result value.old value.new }
 {
     if column < it.columns() {
-        *value = value_output(field_ref(it.new_value(column)));
+        *value = value_output(it.new_value(column));
         OK
     } else {
         MISUSE
@@ -83,7 +83,7 @@ pub(crate) fn set_old_bytes(it: &BlobIter, column: usize, out: &mut [u8], len: &
     ensures { OutputsBytes (old_bytes it.now column) result out.old out.new len.old len.new }
 {
     if column < it.columns() {
-        write_bytes(value_bytes(field_ref(it.old(column))), out, len)
+        write_bytes(value_bytes(it.old(column)), out, len)
     } else {
         MISUSE
     }
@@ -93,7 +93,7 @@ pub(crate) fn set_new_bytes(it: &BlobIter, column: usize, out: &mut [u8], len: &
     ensures { OutputsBytes (new_bytes it.now column) result out.old out.new len.old len.new }
 {
     if column < it.columns() {
-        write_bytes(value_bytes(field_ref(it.new_value(column))), out, len)
+        write_bytes(value_bytes(it.new_value(column)), out, len)
     } else {
         MISUSE
     }

@@ -24,7 +24,8 @@ use Rattle.cap_group.specs.Rows.{Follow, IsRowUnder, together}
 use Rattle.cap_core.specs.declared.event.Event.{Event}
 use Rattle.cap_core.specs.Capture.{session_changes}
 use Rattle.cap_core.specs.History.{event_effect, main, snapshot}
-use Rattle.cap_core.specs.Outcome.{Effect, is_of_row, no_effect}
+use Rattle.cap_core.specs.Outcome.{Effect, no_effect}
+use Rattle.cap_database.specs.Carried.{is_of_row}
 use Rattle.cap_core.specs.Past.{Past, is_accepted}
 use Rattle.cap_core.specs.Restarts.{HoldsFirst, IsSteady, captures, first_touched, touches_over}
 use Rattle.cap_core.specs.Session.{records_of, session_of}

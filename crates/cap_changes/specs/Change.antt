@@ -1,8 +1,7 @@
 -- The change of one touched key, by its first image and its row now (The Session Extension,
 -- "sqlite3session_changeset").
-use Rattle.std.specs.Prelude.{◌≡◌, Bool, true, List, Option, Some, None, length, map, is_some, IsSome, not}
+use Rattle.std.specs.Prelude.{◌≡◌, Bool, List, Option, Some, None, length, map, IsSome, not}
 use Rattle.std.specs.Prelude.{◌&&◌, ◌||◌, if◌then◌else◌}
-use Rattle.std.specs.List.{list_any}
 use Rattle.cap_value.specs.declared.value.Value.{Value}
 use Rattle.cap_value.specs.Value.{value_eq}
 use Rattle.cap_row.specs.Fields.{Fields}
@@ -46,9 +45,3 @@ module _ {A : Type 0} where
       if fields_eq image now
       then None
       else Some (Update indirect (by_column old_field flags image now) (by_column new_field flags image now))
-
-  -- an INSERT, a DELETE, or an UPDATE with a modified field
-  abbrev pub is_some_change : RowChange A → Bool
-  is_some_change (Insert indirect new) = true
-  is_some_change (Update indirect old new) = list_any is_some new
-  is_some_change (Delete indirect old) = true

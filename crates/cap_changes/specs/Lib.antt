@@ -8,3 +8,16 @@ pub mod Invert
 pub mod Patch
 pub mod PatchGroup
 pub mod FieldRecord
+pub mod Operation
+pub mod Field
+pub mod FieldReading
+pub mod RecordReading
+pub mod ChangeReading
+pub mod ChangeBytes
+pub mod HasValues
+pub mod Record
+pub mod Stored
+pub mod ChangeRef
+pub mod KindByte
+pub mod Touched
+pub mod Spelling

@@ -1,54 +1,52 @@
-//! The fields of a record.
-ghost use Rattle.std.specs.Prelude.{◌≡◌, Option, length, slice_get};
-ghost use Rattle.std.specs.Option.{option_copied, option_flatten};
+//! Records of their own.
+ghost use Rattle.std.specs.Prelude.{◌≡◌, IfOk};
+ghost use Rattle.cap_changes.specs.Patch.{update_record};
+ghost use Rattle.cap_changes.specs.Record.{fields_of};
 
-use cap_value::{AllocHandle, Value};
+use crate::RecordRef;
+use crate::patches::push_update_record;
+use cap_value::{AllocHandle, OutOfMemory};
 use std::marker::Model;
 
 /// A record: one field for each column of a table, in column order. A field is a value, or is undefined
-/// (`None`).
+/// (`None`). It is kept as the bytes of the fields.
 #[derive(Drop)]
 pub struct FieldRecord<A: AllocHandle> {
-    fields: Vec<Option<Value<A>>, A>,
+    bytes: Vec<u8, A>,
 }
 
 impl<A: AllocHandle> Model for FieldRecord<A> {
     ghost use Rattle.cap_changes.specs.FieldRecord.{RecordFields};
+    ghost use Rattle.cap_changes.specs.Record.{fields_of, IsRecord};
 
     ghost Value = { RecordFields A };
 
-    ghost view = { λ r. r.fields.items };
+    ghost view = { λ r. fields_of r.bytes.items };
+
+    ghost invariant = { λ r. IsRecord {A = A} r.bytes.items (fields_of r.bytes.items) };
 }
 
 impl<A: AllocHandle> FieldRecord<A> {
-    /// The record with these fields. Takes no memory.
-    pub fn new(fields: Vec<Option<Value<A>>, A>) -> Self
-        ensures { result ≡ fields.items }
+    /// The record of the key fields of `old`, and of the other fields of `new`.
+    pub fn of_update(
+        alloc: A,
+        flags: &[bool],
+        old: RecordRef<'_, A>,
+        new: RecordRef<'_, A>,
+    ) -> Result<Self, OutOfMemory>
+        ensures { IfOk result (λ made. made ≡ update_record flags.now old.entry new.entry) }
     {
-        FieldRecord { fields }
+        old.values();
+        new.values();
+        let mut bytes = Vec::new(alloc);
+        push_update_record(&mut bytes, flags, old, new)?;
+        Ok(FieldRecord { bytes })
     }
 
     /// The fields, one for each column.
-    pub fn fields(&self) -> &[Option<Value<A>>]
-        ensures { result.now ≡ self.now }
+    pub fn fields(&self) -> RecordRef<'_, A>
+        ensures { result ≡ self.now }
     {
-        self.fields.as_slice()
-    }
-
-    /// The value of a column, counted from 0, `None` where it is undefined or outside the record.
-    pub fn get(&self, column: usize) -> Option<&Value<A>>
-        ensures { option_copied result ≡ option_flatten (slice_get self.now column) }
-    {
-        match self.fields.get(column) {
-            Some(Some(value)) => Some(value),
-            _ => None,
-        }
-    }
-
-    /// The number of fields, undefined ones among them.
-    pub fn width(&self) -> usize
-        ensures { result ≡ length self.now }
-    {
-        self.fields.len()
+        RecordRef::of(self.bytes.as_slice())
     }
 }

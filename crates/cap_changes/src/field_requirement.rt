@@ -1,8 +1,10 @@
 //! What a change requires of one field.
 ghost use Rattle.std.specs.Prelude.{◌≡◌};
-ghost use Rattle.cap_changes.specs.Requirements.{satisfies, new_requirement};
+ghost use Rattle.cap_changes.specs.FieldReading.{field_of};
+ghost use Rattle.cap_changes.specs.Requirements.{new_requirement};
 
-use cap_value::{AllocHandle, Value};
+use cap_field::ValueRef;
+use cap_value::AllocHandle;
 
 /// A requirement on one field of a record.
 #[derive(Clone, Copy, Debug, PartialEq, Eq)]
@@ -19,27 +21,10 @@ pub enum FieldRequirement {
     Omitted,
 }
 
-impl FieldRequirement {
-    /// Whether the field satisfies the requirement.
-    pub fn is_satisfied_by<A: AllocHandle>(self, field: &Option<Value<A>>) -> bool
-        ensures { result ≡ satisfies self field.now }
-    {
-        match self {
-            FieldRequirement::Key => match field {
-                Some(value) => !value.is_null(),
-                None => false,
-            },
-            FieldRequirement::Defined => field.is_some(),
-            FieldRequirement::Any => true,
-            FieldRequirement::Undefined | FieldRequirement::Omitted => field.is_none(),
-        }
-    }
-}
-
 /// The requirement on a field of the new record of an UPDATE, by its old field: a key field is in the old
 /// record only, any other field in both records or in neither.
-pub fn requirement_beside<A: AllocHandle>(key: bool, old: &Option<Value<A>>) -> FieldRequirement
-    ensures { result ≡ new_requirement (key, old.now) }
+pub fn requirement_beside<A: AllocHandle>(key: bool, old: Option<ValueRef<'_>>) -> FieldRequirement
+    ensures { result ≡ new_requirement {A = A} (key, field_of old.entry) }
 {
     if key || old.is_none() {
         FieldRequirement::Undefined

@@ -1,12 +1,29 @@
 //! Groups: the changes of one table.
-ghost use Rattle.std.specs.Prelude.{◌≡◌, ◌++◌, ◌∷◌, [], IsTrue, OnOk, OnErr};
+ghost use mathlib.Core.List.{IsPrefix};
+ghost use Rattle.std.specs.Prelude.{◌≡◌, ◌++◌, ◌∷◌, ◌≤◌, [], IsTrue, IfOk, OnOk, OnErr, Ok, length, take, All};
+ghost use Rattle.std.specs.List.{cons_option, flat_map};
+ghost use Rattle.std.specs.Option.{option_copied, ForSome};
+ghost use Rattle.cap_value.specs.Memory.{ShowsUnlessMemory};
 ghost use Rattle.cap_row.specs.Schema.{has_key};
+ghost use Rattle.cap_changes.specs.Change as touched;
+ghost use Rattle.cap_changes.specs.ChangeReading.{changes_at, with_changes};
 ghost use Rattle.cap_changes.specs.Entries.{AllFit, IsFitting};
+ghost use Rattle.cap_changes.specs.Fits.{change_fits};
+ghost use Rattle.cap_changes.specs.Invert.{inverse_of};
+ghost use Rattle.cap_changes.specs.Patch.{patch_of};
+ghost use Rattle.cap_changes.specs.Stored.{IsEntry, normal};
+ghost use Rattle.cap_changes.specs.Touched.{is_changed};
 
-use crate::{Entry, Patch, RowChange};
-use cap_row::Schema;
-use cap_value::{AllocHandle, Name, OutOfMemory};
-use std::marker::Model;
+use crate::entries::start_at;
+use crate::inverse::push_inverse;
+use crate::operation::Operation;
+use crate::patches::push_patch;
+use crate::touched::{are_values, push_change};
+use crate::{Entries, Entry, EntryRef, Patch, RowChange};
+use cap_field::BlobFault;
+use cap_row::{Row, Schema};
+use cap_value::{AllocHandle, Fault, Name, OutOfMemory};
+use std::marker::{Model, PhantomData};
 
 /// The changes of one table in a changeset.
 pub type Group<A> = TableGroup<RowChange<A>, A>;
@@ -14,26 +31,36 @@ pub type Group<A> = TableGroup<RowChange<A>, A>;
 /// The changes of one table in a patchset.
 pub type PatchGroup<A> = TableGroup<Patch<A>, A>;
 
-/// The changes of one table, of a changeset or of a patchset.
+/// The changes of one table, of a changeset or of a patchset, kept as their bytes.
 ///
 /// Its schema has a key column, and each change fits the schema.
 #[derive(Drop)]
 pub struct TableGroup<C: Entry, A: AllocHandle> {
     table: Name<A>,
     schema: Schema<A>,
-    changes: Vec<C, A>,
+    // The bytes of the changes, one after the other, and where each ends.
+    bytes: Vec<u8, A>,
+    ends: Vec<usize, A>,
+    marker: PhantomData<C>,
 }
 
 impl<C: Entry, A: AllocHandle> Model for TableGroup<C, A> {
-    ghost use Rattle.std.specs.Prelude.{IsTrue};
+    ghost use Rattle.std.specs.Prelude.{IsTrue, length, ◌≡◌};
     ghost use Rattle.cap_row.specs.Schema.{has_key};
-    ghost use Rattle.cap_changes.specs.Entries.{TableEntries, AllFit};
+    ghost use Rattle.cap_changes.specs.Entries.{TableEntries};
+    ghost use Rattle.cap_changes.specs.Stored.{entries_of, AreEntries, end_of};
 
     ghost Value = { TableEntries C };
 
-    ghost view = { λ g. record { table = g.table; schema = g.schema; changes = g.changes.items } };
+    ghost view = { λ g. record {
+      table = g.table;
+      schema = g.schema;
+      changes = entries_of C.stored g.schema g.bytes.items 0 g.ends.items;
+    } };
 
-    ghost invariant = { λ g. IsTrue (has_key g.schema) × AllFit C.fits_in g.schema g.changes.items };
+    ghost invariant = { λ g. IsTrue (has_key g.schema)
+        × AreEntries C.fits_in C.has_values C.bytes_of C.stored g.schema g.bytes.items 0 g.ends.items
+        × (end_of 0 g.ends.items ≡ length g.bytes.items) };
 }
 
 impl<C: Entry, A: AllocHandle> TableGroup<C, A> {
@@ -45,20 +72,76 @@ impl<C: Entry, A: AllocHandle> TableGroup<C, A> {
         TableGroup {
             table,
             schema,
-            changes: Vec::new(alloc),
+            bytes: Vec::new(alloc),
+            ends: Vec::new(alloc),
+            marker: PhantomData,
         }
     }
 
-    /// Appends a change. On `OutOfMemory` the group is unchanged.
-    pub fn push(&mut self, change: C) -> Result<(), OutOfMemory>
-    where
-        C: Drop,
-        requires { IsTrue (C.fits_in self.old.schema change) }
-        ensures ok { OnOk result (self.new ≡ record self.old { changes = self.old.changes ++ change ∷ [] }) }
+    /// Appends the change with these bytes. On `OutOfMemory` the group is unchanged.
+    pub fn push(&mut self, change: &[u8]) -> Result<(), OutOfMemory>
+        requires { IsEntry C.fits_in C.has_values C.bytes_of self.old.schema
+            (C.stored self.old.schema change.now) change.now }
+        ensures ok { OnOk result (self.new ≡ record self.old {
+          changes = self.old.changes
+              ++ C.stored self.old.schema change.now ∷ [];
+        }) }
         ensures err { OnErr result (self.new ≡ self.old) }
     {
-        self.changes.push(change)?;
-        Ok(())
+        let before = self.bytes.len();
+        let pushed = self.bytes.extend_from_slice(change);
+        end(&mut self.bytes, &mut self.ends, before, pushed)
+    }
+
+    /// Appends the changes that these bytes begin with, the last ones of a blob of `total` bytes, and answers
+    /// the bytes behind them. Refused with the first fault from left to right where they are malformed.
+    pub fn push_read<'a>(
+        &mut self,
+        total: usize,
+        bytes: &'a [u8],
+    ) -> Result<&'a [u8], Fault<BlobFault>>
+        ensures gives { ShowsUnlessMemory (λ rest. (self.new, rest.now)) result
+            (with_changes self.old (changes_at C.one_at (length bytes.now) total self.old.schema bytes.now)) }
+        ensures behind { IfOk result (λ rest. length rest.now ≤ length bytes.now) }
+    {
+        let mut rest = bytes;
+        while let [byte, behind @ ..] = rest {
+            let Some(operation) = Operation::of(*byte) else {
+                break;
+            };
+            let after = C::pass(total, self.schema.flags(), operation, behind)?;
+            self.push_given(&rest[..rest.len() - after.len()])?;
+            rest = after;
+        }
+        Ok(rest)
+    }
+
+    // Appends the change with these bytes, of which any indirect flag but zero is written as one.
+    #[inline(always)]
+    fn push_given(&mut self, change: &[u8]) -> Result<(), OutOfMemory>
+        requires some { 2 ≤ length change.now }
+        requires entry { IsEntry C.fits_in C.has_values C.bytes_of self.old.schema
+            (C.stored self.old.schema (normal change.now)) (normal change.now) }
+        ensures { OnOk result (self.new ≡ record self.old {
+          changes = self.old.changes
+              ++ C.stored self.old.schema (normal change.now) ∷ [];
+        }) }
+    {
+        let before = self.bytes.len();
+        let pushed = push_normal(&mut self.bytes, change);
+        end(&mut self.bytes, &mut self.ends, before, pushed)
+    }
+
+    /// Keeps the first changes, so many of them.
+    pub fn truncate(&mut self, count: usize)
+        ensures { self.new ≡ record self.old { changes = take count self.old.changes } }
+    {
+        if count >= self.ends.len() {
+            return;
+        }
+        let end = start_at(0, self.ends.as_slice(), count);
+        self.ends.truncate(count);
+        self.bytes.truncate(end);
     }
 
     /// The table's name.
@@ -77,17 +160,143 @@ impl<C: Entry, A: AllocHandle> TableGroup<C, A> {
     }
 
     /// The changes, in order.
-    pub fn changes(&self) -> &[C]
-        ensures changes { result.now ≡ self.now.changes }
+    pub fn changes(&self) -> Entries<'_, C>
+        ensures changes { result ≡ self.now.changes }
         ensures fit { AllFit C.fits_in self.now.schema self.now.changes }
+        ensures values { All C.has_values self.now.changes }
     {
-        self.changes.as_slice()
+        Entries::of(
+            self.schema.flags(),
+            self.bytes.as_slice(),
+            self.ends.as_slice(),
+        )
+    }
+
+    /// The bytes of the changes, one after the other.
+    pub fn as_bytes(&self) -> &[u8]
+        ensures { result.now ≡ flat_map C.bytes_of self.now.changes }
+    {
+        self.bytes.as_slice()
+    }
+
+    /// The same group.
+    pub fn copy(&self) -> Result<Self, OutOfMemory>
+        ensures { IfOk result (λ copy. copy ≡ self.now) }
+    {
+        Ok(TableGroup {
+            table: self.table.copy()?,
+            schema: self.schema.copy()?,
+            bytes: self.bytes.clone()?,
+            ends: self.ends.clone()?,
+            marker: PhantomData,
+        })
     }
 
     /// A law: the schema has a key column, and each change fits it. Does nothing at run time.
     pub fn fits(&self)
         ensures { IsFitting C.fits_in self.now }
     {
-        let _changes = &self.changes;
+        let _changes = &self.ends;
+    }
+}
+
+// A change was appended to so many bytes, or only a part of it, which is taken off.
+#[inline(always)]
+fn end<A: AllocHandle>(
+    bytes: &mut Vec<u8, A>,
+    ends: &mut Vec<usize, A>,
+    before: usize,
+    pushed: Result<(), OutOfMemory>,
+) -> Result<(), OutOfMemory>
+    ensures ok { OnOk result ((pushed ≡ Ok tt) × (bytes.new.items ≡ bytes.old.items)
+        × (ends.new.items ≡ ends.old.items ++ length bytes.old.items ∷ [])) }
+    ensures err { OnErr result ((bytes.new.items ≡ take before bytes.old.items)
+        × (ends.new.items ≡ ends.old.items)) }
+{
+    if pushed.is_ok() && ends.push(bytes.len()).is_ok() {
+        return Ok(());
+    }
+    bytes.truncate(before);
+    Err(OutOfMemory)
+}
+
+// Appends a change, of which any indirect flag but zero is written as one.
+#[inline(always)]
+fn push_normal<A: AllocHandle>(out: &mut Vec<u8, A>, change: &[u8]) -> Result<(), OutOfMemory>
+    requires { 2 ≤ length change.now }
+    ensures bytes { OnOk result (out.new.items ≡ out.old.items ++ normal change.now) }
+    ensures begins { OnErr result (IsPrefix out.old.items out.new.items) }
+{
+    let at = out.len() + 1;
+    out.extend_from_slice(change)?;
+    out[at] = (change[1] != 0) as u8;
+    Ok(())
+}
+
+impl<A: AllocHandle> TableGroup<RowChange<A>, A> {
+    /// Appends the change of a touched key, which has changed: `image` is its first image, `now` its row now.
+    /// On `OutOfMemory` the group is unchanged.
+    pub fn push_between(
+        &mut self,
+        indirect: bool,
+        image: Option<&Row<A>>,
+        now: Option<&Row<A>>,
+    ) -> Result<(), OutOfMemory>
+        requires image_keyed { ForSome (option_copied image) (touched.IsKeyedRow self.old.schema) }
+        requires now_keyed { ForSome (option_copied now) (touched.IsKeyedRow self.old.schema) }
+        requires same_key { ForSome (option_copied image) (λ before.
+            ForSome (option_copied now) (touched.HaveSameKey self.old.schema before)) }
+        requires changed { IsTrue (is_changed (option_copied image) (option_copied now)) }
+        ensures ok { OnOk result (self.new ≡ record self.old {
+          changes = self.old.changes ++ cons_option
+              (touched.change_of self.old.schema indirect (option_copied image.entry)
+              (option_copied now.entry)) [];
+        }) }
+        ensures err { OnErr result (self.new ≡ self.old) }
+    {
+        // For the proof: the values of both rows are within their limits.
+        are_values(image);
+        are_values(now);
+        let before = self.bytes.len();
+        let pushed = push_change(&mut self.bytes, &self.schema, indirect, image, now);
+        end(&mut self.bytes, &mut self.ends, before, pushed)
+    }
+
+    // Appends the inverse of a change.
+    pub(crate) fn push_inverse(
+        &mut self,
+        change: &EntryRef<'_, RowChange<A>>,
+    ) -> Result<(), OutOfMemory>
+        requires { IsTrue (change_fits self.old.schema change.now) }
+        ensures { OnOk result (self.new ≡ record self.old {
+          changes = self.old.changes
+              ++ inverse_of self.old.schema change.now ∷ [];
+        }) }
+    {
+        // For the proof: a clause of `as_bytes` says that the fields are values.
+        let _bytes = change.as_bytes();
+        let before = self.bytes.len();
+        let pushed = push_inverse(&mut self.bytes, self.schema.flags(), change.read());
+        end(&mut self.bytes, &mut self.ends, before, pushed)
+    }
+}
+
+impl<A: AllocHandle> TableGroup<Patch<A>, A> {
+    // Appends the patch of a change.
+    pub(crate) fn push_patch(
+        &mut self,
+        change: &EntryRef<'_, RowChange<A>>,
+    ) -> Result<(), OutOfMemory>
+        requires { IsTrue (change_fits self.old.schema change.now) }
+        ensures { OnOk result (self.new ≡ record self.old {
+          changes = self.old.changes
+              ++ patch_of self.old.schema change.now ∷ [];
+        }) }
+    {
+        // For the proof: a clause of `as_bytes` says that the fields are values.
+        let _bytes = change.as_bytes();
+        let before = self.bytes.len();
+        let pushed = push_patch(&mut self.bytes, self.schema.flags(), change.read());
+        end(&mut self.bytes, &mut self.ends, before, pushed)
     }
 }

@@ -39,8 +39,6 @@ impl<C: Entry, A: AllocHandle> GroupList<C, A> {
 
     /// Appends a group. On `OutOfMemory` the list is unchanged.
     pub fn push(&mut self, group: TableGroup<C, A>) -> Result<(), OutOfMemory>
-    where
-        C: Drop,
         ensures ok { OnOk result (self.new ≡ self.old ++ group ∷ []) }
         ensures err { OnErr result (self.new ≡ self.old) }
     {

@@ -1,11 +1,18 @@
 //! The patchset of a changeset.
-ghost use Rattle.std.specs.Prelude.{◌≡◌, IsTrue, IfOk, None, if◌then◌else◌};
-ghost use Rattle.cap_changes.specs.Fits.{change_fits, patch_fits};
+ghost use mathlib.Core.List.{IsPrefix};
+ghost use Rattle.std.specs.Prelude.{◌≡◌, ◌++◌, IsTrue, IfOk, OnErr, OnOk};
+ghost use Rattle.cap_changes.specs.ChangeBytes.{patch_bytes};
+ghost use Rattle.cap_changes.specs.ChangeRef.{change_of};
+ghost use Rattle.cap_changes.specs.Field.{record_bytes, key_bytes};
+ghost use Rattle.cap_changes.specs.Fits.{change_fits};
 ghost use Rattle.cap_changes.specs.Patch as made;
+ghost use Rattle.cap_changes.specs.Requirements.{requirements, satisfy};
+ghost use Rattle.cap_changes.specs.declared.record_kind.RecordKind.TheVariants.{Full};
 
-use crate::{ChangeList, FieldRecord, Group, Patch, PatchGroup, PatchList, RowChange};
-use cap_row::Schema;
-use cap_value::{AllocHandle, OutOfMemory, Value};
+use crate::bytes::{push_operation, push_record};
+use crate::operation::Operation;
+use crate::{ChangeList, ChangeRef, Group, PatchGroup, PatchList, RecordRef};
+use cap_value::{AllocHandle, OutOfMemory};
 
 /// The patchset of a changeset: an insert is unchanged, an update keeps the key fields and the new values of
 /// its modified fields, and a delete keeps the key fields (The Session Extension, "sqlite3session_patchset").
@@ -25,104 +32,81 @@ pub fn to_patches<A: AllocHandle>(
 fn patches_of<A: AllocHandle>(alloc: A, group: &Group<A>) -> Result<PatchGroup<A>, OutOfMemory>
     ensures { IfOk result (λ patches. patches ≡ made.patches_of group.now) }
 {
-    let schema = group.schema();
-    let mut patches = PatchGroup::new(alloc, group.table().copy()?, schema.copy()?);
+    let mut patches = PatchGroup::new(alloc, group.table().copy()?, group.schema().copy()?);
     for change in group.changes() {
-        patches.push(patch_of(alloc, schema, change)?)?;
+        patches.push_patch(&change)?;
     }
     Ok(patches)
 }
 
-fn patch_of<A: AllocHandle>(
-    alloc: A,
-    schema: &Schema<A>,
-    change: &RowChange<A>,
-) -> Result<Patch<A>, OutOfMemory>
-    requires { IsTrue (change_fits schema.now change.now) }
-    ensures patch { IfOk result (λ patch. patch ≡ made.patch_of schema.now change.now) }
-    ensures fits { IfOk result (λ patch. IsTrue (patch_fits schema.now patch)) }
+// Appends the patch of a change.
+pub(crate) fn push_patch<A: AllocHandle>(
+    out: &mut Vec<u8, A>,
+    flags: &[bool],
+    change: ChangeRef<'_, A>,
+) -> Result<(), OutOfMemory>
+    requires { IsTrue (change_fits flags.now (change_of change)) }
+    ensures bytes { OnOk result (out.new.items
+        ≡ out.old.items ++ patch_bytes (made.patch_of flags.now (change_of change.entry))) }
+    ensures begins { OnErr result (IsPrefix out.old.items out.new.items) }
 {
     match change {
-        RowChange::Insert { indirect, new } => {
-            let new = copy_record(alloc, new.fields())?;
-            Ok(Patch::Insert {
-                indirect: *indirect,
-                new,
-            })
+        ChangeRef::Insert { indirect, new } => {
+            push_operation(out, Operation::Insert, indirect)?;
+            push_record(out, new)
         }
-        RowChange::Update { indirect, old, new } => {
-            let new = update_record(alloc, schema.flags(), old.fields(), new.fields())?;
-            Ok(Patch::Update {
-                indirect: *indirect,
-                new,
-            })
+        ChangeRef::Update { indirect, old, new } => {
+            push_operation(out, Operation::Update, indirect)?;
+            push_update_record(out, flags, old, new)
         }
-        RowChange::Delete { indirect, old } => {
-            let key = key_record(alloc, schema.flags(), old.fields())?;
-            Ok(Patch::Delete {
-                indirect: *indirect,
-                key,
-            })
+        ChangeRef::Delete { indirect, old } => {
+            push_operation(out, Operation::Delete, indirect)?;
+            push_key_fields(out, flags, old)
         }
     }
 }
 
-pub(crate) fn copy_record<A: AllocHandle>(
-    alloc: A,
-    fields: &[Option<Value<A>>],
-) -> Result<FieldRecord<A>, OutOfMemory>
-    ensures { IfOk result (λ copy. copy ≡ fields.now) }
-{
-    let mut copies = Vec::with_capacity(alloc, fields.len())?;
-    for field in fields {
-        copies.push(copy_field(field)?)?;
-    }
-    Ok(FieldRecord::new(copies))
-}
-
-pub(crate) fn update_record<A: AllocHandle>(
-    alloc: A,
+/// Appends the key fields of `old`, and the other fields of `new`.
+pub fn push_update_record<A: AllocHandle>(
+    out: &mut Vec<u8, A>,
     flags: &[bool],
-    old: &[Option<Value<A>>],
-    new: &[Option<Value<A>>],
-) -> Result<FieldRecord<A>, OutOfMemory>
-    ensures { IfOk result (λ update. update ≡ made.update_record flags.now old.now new.now) }
+    old: RecordRef<'_, A>,
+    new: RecordRef<'_, A>,
+) -> Result<(), OutOfMemory>
+    ensures bytes { OnOk result (out.new.items
+        ≡ out.old.items ++ record_bytes (made.update_record flags.now old.entry new.entry)) }
+    ensures begins { OnErr result (IsPrefix out.old.items out.new.items) }
 {
-    let mut fields = Vec::with_capacity(alloc, flags.len())?;
-    for (key, (old, new)) in flags.iter().zip(old.iter().zip(new)) {
-        fields.push(copy_field(if *key { old } else { new })?)?;
+    let mut old = old;
+    let mut new = new;
+    for key in flags {
+        let (Some(before), Some(after)) = (old.next_bytes(), new.next_bytes()) else {
+            return Ok(());
+        };
+        out.extend_from_slice(if *key { before } else { after })?;
     }
-    Ok(FieldRecord::new(fields))
+    Ok(())
 }
 
-fn key_record<A: AllocHandle>(
-    alloc: A,
+// Appends the key fields of a record, of which every field is defined.
+fn push_key_fields<A: AllocHandle>(
+    out: &mut Vec<u8, A>,
     flags: &[bool],
-    old: &[Option<Value<A>>],
-) -> Result<FieldRecord<A>, OutOfMemory>
-    ensures { IfOk result (λ key. key ≡ made.key_record flags.now old.now) }
+    old: RecordRef<'_, A>,
+) -> Result<(), OutOfMemory>
+    requires { IsTrue (satisfy (requirements Full flags.now) old) }
+    ensures bytes { OnOk result (out.new.items
+        ≡ out.old.items ++ key_bytes (made.key_record flags.now old.entry)) }
+    ensures begins { OnErr result (IsPrefix out.old.items out.new.items) }
 {
-    let mut fields = Vec::with_capacity(alloc, flags.len())?;
-    for (key, field) in flags.iter().zip(old) {
-        fields.push(key_field(*key, field)?)?;
+    let mut old = old;
+    for key in flags {
+        let Some(field) = old.next_bytes() else {
+            return Ok(());
+        };
+        if *key {
+            out.extend_from_slice(field)?;
+        }
     }
-    Ok(FieldRecord::new(fields))
-}
-
-fn key_field<A: AllocHandle>(
-    key: bool,
-    field: &Option<Value<A>>,
-) -> Result<Option<Value<A>>, OutOfMemory>
-    ensures { IfOk result (λ kept. kept ≡ (if key then field.now else None)) }
-{
-    if key { copy_field(field) } else { Ok(None) }
-}
-
-fn copy_field<A: AllocHandle>(field: &Option<Value<A>>) -> Result<Option<Value<A>>, OutOfMemory>
-    ensures { IfOk result (λ copy. copy ≡ field.now) }
-{
-    match field {
-        None => Ok(None),
-        Some(value) => Ok(Some(value.copy()?)),
-    }
+    Ok(())
 }

@@ -1,12 +1,17 @@
 //! The changes of a changeset.
-ghost use Rattle.std.specs.Prelude.{◌≡◌};
-
-use crate::{FieldRecord, RecordKind, fits};
-use cap_row::Schema;
+use crate::operation::Operation;
+use crate::pass::{pass_new_record, pass_record};
+use crate::{Entry, FieldRecord, RecordKind};
+use cap_field::{BlobFault, take_byte};
 use cap_value::AllocHandle;
+
+/// The first byte of a group of a changeset.
+pub const CHANGESET_KIND: u8 = 0x54;
 
 /// One change of a changeset: a row was inserted, updated or deleted. A change is indirect where every touch
 /// of its row was (The Session Extension, "sqlite3session_indirect").
+///
+/// No value of it is built: a group keeps the bytes, and lends the change as a `ChangeRef`.
 #[derive(Drop)]
 pub enum RowChange<A: AllocHandle> {
     /// An insert. Every field is defined.
@@ -34,30 +39,44 @@ pub enum RowChange<A: AllocHandle> {
     },
 }
 
-impl<A: AllocHandle> RowChange<A> {
+impl<A: AllocHandle> Entry for RowChange<A> {
+    ghost use Rattle.cap_changes.specs.ChangeBytes.{change_bytes};
+    ghost use Rattle.cap_changes.specs.KindByte.{changeset_kind};
+    ghost use Rattle.cap_changes.specs.ChangeReading.{change_at, stored_change};
     ghost use Rattle.cap_changes.specs.Fits.{change_fits};
+    ghost use Rattle.cap_changes.specs.HasValues.{HasValues};
 
-    /// Whether it fits a group with this schema: it has one field for each column, exactly the fields that
-    /// its kind requires are defined, and no key field is NULL.
-    pub fn fits(&self, schema: &Schema<A>) -> bool
-        ensures { result ≡ change_fits schema.now self.now }
-    {
-        match self {
-            RowChange::Insert { new, .. } => fits::is_record(
-                RecordKind::Full,
-                schema.flags(),
-                new.fields(),
-            ),
-            RowChange::Update { old, new, .. } => fits::is_update(
-                schema.flags(),
-                old.fields(),
-                new.fields(),
-            ),
-            RowChange::Delete { old, .. } => fits::is_record(
-                RecordKind::Full,
-                schema.flags(),
-                old.fields(),
-            ),
+    ghost fits_in = { λ flags change. change_fits flags change };
+
+    ghost has_values = { λ change. HasValues change };
+
+    ghost kind = { changeset_kind };
+
+    ghost bytes_of = { λ change. change_bytes change };
+
+    ghost one_at = { λ total flags op bytes. change_at total flags op bytes };
+
+    ghost stored = { λ flags bytes. stored_change flags bytes };
+
+    fn kind() -> u8 {
+        CHANGESET_KIND
+    }
+
+    fn pass<'a>(
+        total: usize,
+        flags: &[bool],
+        operation: Operation,
+        given: &'a [u8],
+    ) -> Result<&'a [u8], BlobFault> {
+        let (_, first) = take_byte(total, given)?;
+        match operation {
+            Operation::Insert | Operation::Delete => {
+                pass_record::<A>(total, RecordKind::Full, flags, first)
+            }
+            Operation::Update => {
+                let new = pass_record::<A>(total, RecordKind::Keyed, flags, first)?;
+                pass_new_record::<A>(total, flags, first, new)
+            }
         }
     }
 }

@@ -1,5 +1,6 @@
 -- Groups and blobs are read as what their bytes spell, and what was written for a blob spells it.
 use Rattle.std.proofs.Common.{◌≡◌, ℕ, zero, suc, ◌+◌, ◌<◌, ◌≤◌, ◌⊎◌, inl, inr, Bool, true, false, nat_lt, nat_le, ◌&&◌, List, [], ◌∷◌, ◌++◌, length, take, drop, map, filter, flat_map, position, Some, Result, Ok, IsTrue, IsUtf8, refl, sym, ap, ◌∙◌, append_assoc, arith, length-append, length-take, drop-drop, eq-eqb, take_at, drop_at, le-ltb, lt-ltb, ne_eqb, leb-true}
+use Rattle.std.specs.Prelude.{All}
 use Rattle.std.specs.List.{AllByRecursion, list_any, position_or_len}
 use Rattle.std.proofs.lemmas.Bool.{and_parts, or_parts, not-true}
 use Rattle.std.proofs.lemmas.List.{length-map}
@@ -10,27 +11,33 @@ use Rattle.cap_row.specs.Schema.{has_key}
 use Rattle.cap_changes.specs.Fits.{change_fits, patch_fits}
 use Rattle.cap_changes.specs.Group.{TableChanges}
 use Rattle.cap_changes.specs.PatchGroup.{TablePatches}
-use Rattle.cap_changes.specs.declared.row_change.RowChange.{RowChange}
-use Rattle.cap_changes.specs.declared.row_change.RowChange.TheVariants as changed
-use Rattle.cap_changes.specs.declared.patch.Patch.{Patch}
-use Rattle.cap_changes.specs.declared.patch.Patch.TheVariants as patched
 use Rattle.cap_field.specs.declared.fault.BlobFault.{BlobFault}
 use Rattle.cap_codec.specs.declared.key_flags.KeyFlags.{KeyFlags}
 use Rattle.cap_codec.specs.declared.key_flags.KeyFlags.TheVariants.{Ones}
 use Rattle.cap_codec.specs.declared.read.Contents.{Contents}
 use Rattle.cap_codec.specs.declared.read.Contents.TheVariants.{Changes, Patches}
-use Rattle.cap_codec.specs.Changeset.{flag_byte, flags_bytes, header_bytes, change_bytes, changes_under, group_bytes}
-use Rattle.cap_codec.specs.HeaderReading.{is_zero, is_set, count_at, flags_at, name_at, header_at}
-use Rattle.cap_codec.specs.Patchset.{patch_bytes, patch_group_bytes, patch_list_bytes_with}
+use Rattle.cap_changes.specs.ChangeBytes.{change_bytes}
+use Rattle.cap_codec.specs.Changeset.{flags_bytes, header_bytes, changes_under, group_bytes}
+use Rattle.cap_codec.specs.HeaderReading.{is_zero, count_at, flags_at, name_at, header_at}
+use Rattle.cap_changes.specs.ChangeReading.{is_set}
+use Rattle.cap_changes.specs.ChangeBytes.{patch_bytes}
+use Rattle.cap_codec.specs.Patchset.{patch_group_bytes, patch_list_bytes_with}
 use Rattle.cap_field.specs.Varint.{varint_bytes}
-use Rattle.cap_codec.specs.BlobReading.{is_operation, change_at, patch_at, group_at, patch_group_at, groups_at, blob_at}
-use Rattle.cap_codec.specs.Spelling.{SpellsEach, SpellsGroup, SpellsChange, SpellsPatch, SpellsChanges, SpellsPatches, Spells}
-use Rattle.cap_codec.specs.Writable.{IsTable, HasValues, PatchHasValues, IsGroup, IsPatchGroup, IsWritable, has_some, blob_bytes, blob_bytes_with, of_patches, with_some, HasNoEmptyGroup}
+use Rattle.cap_changes.specs.Operation.{is_operation}
+use Rattle.cap_changes.specs.ChangeReading.{change_at, patch_at}
+use Rattle.cap_changes.specs.Entries.{TableEntries}
+use Rattle.cap_codec.specs.BlobReading.{entries_at, group_at, patch_group_at, groups_at, blob_at}
+use Rattle.cap_changes.specs.Spelling.{SpellsEach, SpellsChange, SpellsPatch}
+use Rattle.cap_codec.specs.Spelling.{SpellsGroup, SpellsChanges, SpellsPatches, Spells}
+use Rattle.cap_codec.specs.Writable.{IsTable, IsGroup, IsPatchGroup, IsWritable, has_some, blob_bytes, blob_bytes_with, of_patches, with_some, HasNoEmptyGroup}
+use Rattle.cap_changes.specs.HasValues.{HasValues, PatchHasValues}
 use Rattle.cap_field.proofs.Binds.{ok_is}
 use Rattle.cap_codec.proofs.HeaderLemmas.{key_is_set}
-use Rattle.cap_codec.proofs.KeyFlagLemmas.{set_is, flags_set}
+use Rattle.cap_codec.proofs.KeyFlagLemmas.{flags_set}
 use Rattle.cap_field.proofs.FieldAgain.{varint_again, bytes_again}
-use Rattle.cap_codec.proofs.ChangeAgain.{NoChange, change_again, patch_again, each_again}
+use Rattle.cap_changes.proofs.StoredChange.{change_written, patch_written}
+use Rattle.cap_changes.proofs.ChangeAgain as change_read
+use Rattle.cap_changes.proofs.ChangeAgain.{NoChange, change_again, patch_again, each_again}
 
 -- ---- headers
 
@@ -86,34 +93,30 @@ header_again total table schema flags rest is flagged =
 
 -- ---- groups
 
+module _ {X : Type 0} (one_at : ℕ → List Bool → ℕ → List ℕ → Result (X × List ℕ) BlobFault) (kind : ℕ) (one : List Bool → X → List ℕ → Type 0) where
+  entries_again : ((total : ℕ) (flags : List Bool) → change_read.IsRead one_at total flags (one flags)) → (total : ℕ) (group : TableEntries X) (front : List ℕ) → SpellsGroup kind group.table group.schema (one group.schema) group.changes front
+      → (behind : List ℕ) × (front ≡ kind ∷ behind) × ((rest : List ℕ) → NoChange rest → entries_at one_at total (behind ++ rest) ≡ Ok (group, rest))
+  entries_again read total group front is = (
+    varint_bytes (length group.schema) ++ is.flags ++ group.table ++ 0 ∷ is.rest,
+    is.parts,
+    λ rest stops.
+        ap (entries_at one_at total) (append_assoc (varint_bytes (length group.schema) ++ is.flags ++ group.table) (0 ∷ is.rest) rest)
+        ∙ rw (
+          header_again total group.table group.schema is.flags (is.rest ++ rest) is.named is.flagged,
+          each_again one_at total group.schema (one group.schema) (read total group.schema) (length (is.rest ++ rest)) group.changes is.rest rest (omega arith) is.each stops,
+        ) refl,
+  )
+
 module _ {A : Type 0} where
   pub group_again : (total : ℕ) (group : TableChanges A) (front : List ℕ) → SpellsChanges group front
       → (behind : List ℕ) × (front ≡ 0x54 ∷ behind) × ((rest : List ℕ) → NoChange rest → group_at total (behind ++ rest) ≡ Ok (group, rest))
   unfolding group_at
-  group_again total group front is = (
-    varint_bytes (length group.schema) ++ is.flags ++ group.table ++ 0 ∷ is.rest,
-    is.parts,
-    λ rest stops.
-        ap (group_at total) (append_assoc (varint_bytes (length group.schema) ++ is.flags ++ group.table) (0 ∷ is.rest) rest)
-        ∙ rw (
-          header_again total group.table group.schema is.flags (is.rest ++ rest) is.named is.flagged,
-          each_again change_at total group.schema (SpellsChange group.schema) (change_again total group.schema) (length (is.rest ++ rest)) group.changes is.rest rest (omega arith) is.each stops,
-        ) refl,
-  )
+  group_again total group front is = entries_again change_at 0x54 SpellsChange change_again total group front is
 
   pub patch_group_again : (total : ℕ) (group : TablePatches A) (front : List ℕ) → SpellsPatches group front
       → (behind : List ℕ) × (front ≡ 0x50 ∷ behind) × ((rest : List ℕ) → NoChange rest → patch_group_at total (behind ++ rest) ≡ Ok (group, rest))
   unfolding patch_group_at
-  patch_group_again total group front is = (
-    varint_bytes (length group.schema) ++ is.flags ++ group.table ++ 0 ∷ is.rest,
-    is.parts,
-    λ rest stops.
-        ap (patch_group_at total) (append_assoc (varint_bytes (length group.schema) ++ is.flags ++ group.table) (0 ∷ is.rest) rest)
-        ∙ rw (
-          header_again total group.table group.schema is.flags (is.rest ++ rest) is.named is.flagged,
-          each_again patch_at total group.schema (SpellsPatch group.schema) (patch_again total group.schema) (length (is.rest ++ rest)) group.changes is.rest rest (omega arith) is.each stops,
-        ) refl,
-  )
+  patch_group_again total group front is = entries_again patch_at 0x50 SpellsPatch patch_again total group front is
 
 -- ---- the groups of a blob
 
@@ -190,10 +193,6 @@ module _ {A : Type 0} where
 -- ---- what is written
 
 module _ {X : Type 0} (one : X → List ℕ → Type 0) (bytes : X → List ℕ) where
-  each_written : (xs : List X) → AllByRecursion (λ x. one x (bytes x)) xs → SpellsEach one xs (flat_map bytes xs)
-  each_written [] is = refl
-  each_written (x ∷ xs) is = (bytes x, flat_map bytes xs, refl, is.0, each_written xs is.1)
-
   -- it has no bytes and is left out, or they spell it
   abbrev IsWritten : (X → Bool) → X → Type 0
   IsWritten has x = ((bytes x ≡ []) × (has x ≡ false)) ⊎ ((has x ≡ true) × one x (bytes x))
@@ -227,42 +226,31 @@ by_entries : {X : Type 0} (key_flags : KeyFlags) (kind : ℕ) (bytes : X → Lis
 by_entries key_flags kind bytes one table schema [] spelled = inl (refl, refl)
 by_entries key_flags kind bytes one table schema (first ∷ others) spelled = inr (refl, spelled)
 
+module _ {X : Type 0} (key_flags : KeyFlags) (kind : ℕ) (bytes : X → List ℕ) (one : List Bool → X → List ℕ → Type 0) (fits : List Bool → X → Bool) (values : X → Type 0)
+    (written : (flags : List Bool) (x : X) → IsTrue (fits flags x) → values x → one flags x (bytes x)) where
+  each_written : (flags : List Bool) (xs : List X) → AllByRecursion (λ x. IsTrue (fits flags x)) xs → AllByRecursion values xs → SpellsEach (one flags) xs (flat_map bytes xs)
+  each_written flags [] fit are = refl
+  each_written flags (x ∷ xs) fit are = (bytes x, flat_map bytes xs, refl, written flags x fit.0 are.0, each_written flags xs fit.1 are.1)
+
+  entries_written : (table : List ℕ) (schema : List Bool) (xs : List X) → IsTable table schema → All (λ x. IsTrue (fits schema x)) xs → All values xs
+      → ((changes_under bytes (header_bytes key_flags kind table schema) xs ≡ []) × (has_some xs ≡ false))
+      ⊎ ((has_some xs ≡ true) × SpellsGroup kind table schema (one schema) xs (changes_under bytes (header_bytes key_flags kind table schema) xs))
+  entries_written table schema xs is fit are =
+      by_entries key_flags kind bytes (one schema) table schema xs
+      (under_header key_flags kind table schema (one schema) xs (flat_map bytes xs) is (each_written schema xs (recursion_from_All (λ x. IsTrue (fits schema x)) xs fit) (recursion_from_All values xs are)))
+
 module _ {A : Type 0} where
-  change_written : (flags : List Bool) (change : RowChange A) → IsTrue (change_fits flags change) → HasValues change → SpellsChange flags change (change_bytes change)
-  change_written flags (changed.Insert indirect new) fits values = (fits, values, (flag_byte indirect, set_is indirect, refl))
-  change_written flags (changed.Update indirect old new) fits values = (fits, values, (flag_byte indirect, set_is indirect, refl))
-  change_written flags (changed.Delete indirect old) fits values = (fits, values, (flag_byte indirect, set_is indirect, refl))
-
-  changes_written : (flags : List Bool) (changes : List (RowChange A)) → AllByRecursion (λ change. IsTrue (change_fits flags change)) changes → AllByRecursion HasValues changes
-      → AllByRecursion (λ change. SpellsChange flags change (change_bytes change)) changes
-  changes_written flags [] fit values = tt
-  changes_written flags (change ∷ changes) fit values = (change_written flags change fit.0 values.0, changes_written flags changes fit.1 values.1)
-
-  patch_written : (flags : List Bool) (patch : Patch A) → IsTrue (patch_fits flags patch) → PatchHasValues patch → SpellsPatch flags patch (patch_bytes patch)
-  patch_written flags (patched.Insert indirect new) fits values = (fits, values, (flag_byte indirect, set_is indirect, refl))
-  patch_written flags (patched.Update indirect new) fits values = (fits, values, (flag_byte indirect, set_is indirect, refl))
-  patch_written flags (patched.Delete indirect key) fits values = (fits, values, (flag_byte indirect, set_is indirect, refl))
-
-  patches_written : (flags : List Bool) (patches : List (Patch A)) → AllByRecursion (λ patch. IsTrue (patch_fits flags patch)) patches → AllByRecursion PatchHasValues patches
-      → AllByRecursion (λ patch. SpellsPatch flags patch (patch_bytes patch)) patches
-  patches_written flags [] fit values = tt
-  patches_written flags (patch ∷ patches) fit values = (patch_written flags patch fit.0 values.0, patches_written flags patches fit.1 values.1)
-
   groups_written : (key_flags : KeyFlags) (groups : List (TableChanges A)) → AllByRecursion IsGroup groups → AllByRecursion (IsWritten SpellsChanges (group_bytes key_flags) (λ group. has_some group.changes)) groups
   groups_written key_flags [] is = tt
   groups_written key_flags (group ∷ groups) is = (
-    by_entries key_flags 0x54 change_bytes (SpellsChange group.schema) group.table group.schema group.changes (under_header key_flags 0x54 group.table group.schema (SpellsChange group.schema) group.changes (flat_map change_bytes group.changes) is.0.table
-        (each_written (SpellsChange group.schema) change_bytes group.changes
-        (changes_written group.schema group.changes (recursion_from_All (λ change. IsTrue (change_fits group.schema change)) group.changes is.0.fit) (recursion_from_All HasValues group.changes is.0.values)))),
+    entries_written key_flags 0x54 change_bytes SpellsChange change_fits HasValues change_written group.table group.schema group.changes is.0.table is.0.fit is.0.values,
     groups_written key_flags groups is.1,
   )
 
   patch_groups_written : (key_flags : KeyFlags) (groups : List (TablePatches A)) → AllByRecursion IsPatchGroup groups → AllByRecursion (IsWritten SpellsPatches (patch_group_bytes key_flags) (λ group. has_some group.changes)) groups
   patch_groups_written key_flags [] is = tt
   patch_groups_written key_flags (group ∷ groups) is = (
-    by_entries key_flags 0x50 patch_bytes (SpellsPatch group.schema) group.table group.schema group.changes (under_header key_flags 0x50 group.table group.schema (SpellsPatch group.schema) group.changes (flat_map patch_bytes group.changes) is.0.table
-        (each_written (SpellsPatch group.schema) patch_bytes group.changes
-        (patches_written group.schema group.changes (recursion_from_All (λ patch. IsTrue (patch_fits group.schema patch)) group.changes is.0.fit) (recursion_from_All PatchHasValues group.changes is.0.values)))),
+    entries_written key_flags 0x50 patch_bytes SpellsPatch patch_fits PatchHasValues patch_written group.table group.schema group.changes is.0.table is.0.fit is.0.values,
     patch_groups_written key_flags groups is.1,
   )
 

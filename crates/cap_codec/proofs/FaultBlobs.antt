@@ -20,25 +20,31 @@ use Rattle.cap_field.specs.declared.fault.BlobFault.{BlobFault}
 use Rattle.cap_field.specs.declared.fault.FaultKind.TheVariants.{BadHeader}
 use Rattle.cap_codec.specs.declared.read.Contents.{Contents}
 use Rattle.cap_codec.specs.declared.read.Contents.TheVariants.{Changes, Patches}
-use Rattle.cap_codec.specs.BlobReading.{is_operation, is_kind, wrong_kind, with_changes, entries_at, change_at, patch_at, changes_at, group_at, patch_group_at, groups_at, blob_at}
+use Rattle.cap_changes.specs.Operation.{is_operation}
+use Rattle.cap_codec.specs.BlobReading.{is_kind, wrong_kind, entries_at, group_at, patch_group_at, groups_at, blob_at}
+use Rattle.cap_changes.specs.ChangeReading.{with_changes, change_at, patch_at, changes_at}
 use Rattle.cap_codec.specs.FaultPlace.{IsFaultyPart, IsFaultAt}
-use Rattle.cap_codec.specs.Field.{record_bytes}
-use Rattle.cap_codec.specs.HeaderReading.{Header, is_set, header_at}
+use Rattle.cap_changes.specs.Field.{record_bytes}
+use Rattle.cap_codec.specs.HeaderReading.{Header, header_at}
+use Rattle.cap_changes.specs.ChangeReading.{is_set}
 use Rattle.cap_codec.specs.Pieces.{is_cut, lasting}
 use Rattle.cap_field.specs.Reading.{◌>>=◌, place}
-use Rattle.cap_codec.specs.RecordReading.{record_at}
-use Rattle.cap_codec.specs.Spelling.{SpellsEach, SpellsGroup, SpellsChange, SpellsPatch, SpellsChanges, SpellsPatches, Spells}
+use Rattle.cap_changes.specs.RecordReading.{record_at}
+use Rattle.cap_changes.specs.Spelling.{SpellsEach, SpellsChange, SpellsPatch}
+use Rattle.cap_codec.specs.Spelling.{SpellsGroup, SpellsChanges, SpellsPatches, Spells}
 use Rattle.cap_field.specs.Varint.{varint_bytes}
-use Rattle.cap_codec.specs.Writable.{AreValues}
+use Rattle.cap_changes.specs.HasValues.{AreValues}
 use Rattle.cap_field.proofs.Binds.{bind_ok, chosen, ok_is, err_is}
-use Rattle.cap_codec.proofs.FitLemmas.{record_meets}
-use Rattle.cap_codec.proofs.ChangeAgain.{NoChange, asked_record, all_asked, of_full, of_keyed, keys_asked, new_asked, keyed_again, change_again, patch_again}
-use Rattle.cap_codec.proofs.ChangeAgain as again
+use Rattle.cap_changes.proofs.FitLemmas.{record_meets}
+use Rattle.cap_changes.proofs.ChangeAgain.{NoChange, change_again, patch_again}
+use Rattle.cap_changes.proofs.RecordAgain.{asked_record, all_asked, of_full, of_keyed, keys_asked, new_asked, keyed_again}
+use Rattle.cap_changes.proofs.ChangeAgain as again
 use Rattle.cap_codec.proofs.BlobAgain.{header_again, group_again, patch_group_again, blob_again}
 use Rattle.cap_codec.proofs.BlobAgain as blob_read
 use Rattle.cap_codec.proofs.Looking.{fault_of_lasting}
 use Rattle.cap_field.proofs.Spelled.{AreLow, low_behind}
-use Rattle.cap_codec.proofs.SpelledBlob.{Begins, BeginsGroup, keyed_spelled, change_spelled, patch_spelled, header_spelled, group_spelled, patch_group_spelled, low_bytes}
+use Rattle.cap_changes.proofs.ChangeSpelled.{Begins, keyed_spelled, change_spelled, patch_spelled}
+use Rattle.cap_codec.proofs.SpelledBlob.{BeginsGroup, header_spelled, group_spelled, patch_group_spelled, low_bytes}
 use Rattle.cap_codec.proofs.FaultFields.{Fails, fails_then, fails_on, bind_err, not_cut, Stops, later, IsRecordOf, usual_record, record_stops}
 use Rattle.cap_codec.proofs.FaultHeaders.{at_first, IsHeaderOf, header_stops}
 

@@ -16,20 +16,20 @@ use Rattle.cap_field.specs.declared.fault.BlobFault.{BlobFault}
 use Rattle.cap_field.specs.declared.fault.FaultKind.TheVariants.{Truncated, BadVarint, BadField, Real, BadText, BadRecord}
 use Rattle.cap_codec.specs.FaultPlace.{IsFaultyPart}
 use Rattle.cap_field.specs.Field.{sized_bytes}
-use Rattle.cap_codec.specs.Field.{field_bytes}
+use Rattle.cap_changes.specs.Field.{field_bytes}
 use Rattle.cap_field.specs.FieldReading.{number_at, sized_at, text_at}
-use Rattle.cap_codec.specs.FieldReading.{allows, content_at, typed_at, field_at}
+use Rattle.cap_changes.specs.FieldReading.{allows, content_at, typed_at, field_at}
 use Rattle.cap_codec.specs.Pieces.{is_cut}
 use Rattle.cap_field.specs.Reading.{◌>>=◌, fault, place, byte_at, bytes_at, varint_from, varint_at}
-use Rattle.cap_codec.specs.RecordReading.{record_at}
+use Rattle.cap_changes.specs.RecordReading.{record_at}
 use Rattle.cap_field.specs.Varint.{varint_bytes}
 use Rattle.cap_field.proofs.Binds.{chosen, err_is}
-use Rattle.cap_codec.proofs.FitLemmas.{field_meets}
+use Rattle.cap_changes.proofs.FitLemmas.{field_meets}
 use Rattle.cap_field.proofs.FieldAgain.{varint_again, sized_again}
-use Rattle.cap_codec.proofs.FieldAgain.{asked_bytes, field_again}
-use Rattle.cap_codec.proofs.ChangeAgain.{asked_record}
+use Rattle.cap_changes.proofs.FieldAgain.{asked_bytes, field_again}
+use Rattle.cap_changes.proofs.RecordAgain.{asked_record}
 use Rattle.cap_field.proofs.Spelled.{AreLow, low_at, low_behind, varint_spelled, sized_spelled}
-use Rattle.cap_codec.proofs.Spelled.{field_spelled}
+use Rattle.cap_changes.proofs.Spelled.{field_spelled}
 
 abbrev pub Fails : {X : Type 0} → Result X BlobFault → Type 0
 Fails read = (f : BlobFault) × (read ≡ Err f)

@@ -9,7 +9,8 @@ use Rattle.cap_value.specs.Bytes.{is_name}
 use Rattle.cap_field.specs.declared.fault.BlobFault.{BlobFault}
 use Rattle.cap_field.specs.declared.fault.FaultKind.TheVariants.{BadHeader, BadName}
 use Rattle.cap_codec.specs.FaultPlace.{IsFaultyPart}
-use Rattle.cap_codec.specs.HeaderReading.{Header, is_zero, is_set, count_at, flags_at, named_at, name_at, header_at}
+use Rattle.cap_codec.specs.HeaderReading.{Header, is_zero, count_at, flags_at, named_at, name_at, header_at}
+use Rattle.cap_changes.specs.ChangeReading.{is_set}
 use Rattle.cap_codec.specs.Pieces.{is_cut}
 use Rattle.cap_field.specs.Reading.{◌>>=◌, fault, place, bytes_at, varint_at}
 use Rattle.cap_field.specs.Varint.{varint_bytes}

@@ -16,13 +16,13 @@ use Rattle.cap_changes.specs.declared.record_kind.RecordKind.{RecordKind}
 use Rattle.cap_changes.specs.declared.record_kind.RecordKind.TheVariants as record_kinds
 use Rattle.cap_codec.specs.declared.change_cursor.ChangeCursor.{ChangeCursor}
 use Rattle.cap_codec.specs.ChangeLeft.{left_at, past_at, next_requirement, IsPast, IsEntered}
-use Rattle.cap_codec.specs.BlobReading.{change_at, patch_at}
+use Rattle.cap_changes.specs.ChangeReading.{change_at, patch_at}
 use Rattle.cap_changes.specs.Requirements.{requirement_of, requirements, new_requirement, new_requirements}
-use Rattle.cap_codec.specs.FieldReading.{field_at}
-use Rattle.cap_codec.specs.HeaderReading.{is_set}
+use Rattle.cap_changes.specs.FieldReading.{field_at}
+use Rattle.cap_changes.specs.ChangeReading.{is_set}
 use Rattle.cap_field.specs.Reading.{◌>>=◌}
-use Rattle.cap_codec.specs.RecordReading.{record_at}
-use Rattle.cap_codec.proofs.Loops.{requirements-cons}
+use Rattle.cap_changes.specs.RecordReading.{record_at}
+use Rattle.cap_changes.proofs.ChangeLoops.{requirements-cons}
 
 some_is : {X : Type 0} (x y : X) → Some x ≡ Some y → x ≡ y
 some_is x y e = cc

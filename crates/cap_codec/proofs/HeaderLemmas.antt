@@ -8,7 +8,8 @@ use Rattle.std.proofs.lemmas.List.{length-map, take-take, length-take-le}
 use Rattle.cap_value.specs.Bytes.{is_name}
 use Rattle.cap_row.specs.Schema.{has_key, is_schema, schema_of}
 use Rattle.cap_field.specs.FieldReading.{text_of}
-use Rattle.cap_codec.specs.HeaderReading.{is_zero, is_set}
+use Rattle.cap_codec.specs.HeaderReading.{is_zero}
+use Rattle.cap_changes.specs.ChangeReading.{is_set}
 use Rattle.cap_field.proofs.Binds.{chosen}
 
 one_more : (n : ℕ) → 1 + n ≡ suc n

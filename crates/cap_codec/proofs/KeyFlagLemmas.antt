@@ -9,8 +9,9 @@ use Rattle.std.proofs.lemmas.List.Sums.{count_by_more_yes, count_by_more_no}
 use Rattle.std.proofs.lemmas.Simd.{map-map}
 use Rattle.cap_codec.specs.declared.key_flags.KeyFlags.{KeyFlags}
 use Rattle.cap_codec.specs.declared.key_flags.KeyFlags.TheVariants.{Ones, Places}
-use Rattle.cap_codec.specs.Changeset.{flag_byte, key_place, flags_bytes}
-use Rattle.cap_codec.specs.HeaderReading.{is_set}
+use Rattle.cap_changes.specs.ChangeBytes.{flag_byte}
+use Rattle.cap_codec.specs.Changeset.{key_place, flags_bytes}
+use Rattle.cap_changes.specs.ChangeReading.{is_set}
 
 pub set_is : (flag : Bool) → is_set (flag_byte flag) ≡ flag
 set_is true = refl

@@ -1,73 +1,18 @@
 -- Reading the changes and the groups of a blob, as the loops do: what was read, and what is left.
-use Rattle.std.proofs.Common.{◌≡◌, ℕ, ◌-◌, ◌<◌, ◌≤◌, ◌==◌, Bool, true, false, List, [], ◌∷◌, ◌++◌, length, take, drop, get_or, Result, Ok, Err, refl, sym, ap, subst, ◌∙◌, append_assoc, arith}
-use Rattle.std.proofs.lemmas.List.{append-nil, take_all}
-use Rattle.cap_changes.specs.Entries.{TableEntries}
+use Rattle.std.proofs.Common.{◌≡◌, ℕ, ◌<◌, ◌≤◌, ◌==◌, true, false, List, [], ◌∷◌, ◌++◌, length, get_or, Result, Ok, Err, refl, subst, arith}
 use Rattle.cap_field.specs.declared.fault.BlobFault.{BlobFault}
 use Rattle.cap_value.specs.declared.memory.Fault.{Fault}
 use Rattle.cap_value.specs.declared.memory.Fault.TheVariants.{Refused, OutOfMemory}
 use Rattle.cap_value.specs.Memory.{RefusesUnlessMemory}
 use Rattle.cap_field.specs.Reading.{◌>>=◌, place}
-use Rattle.cap_codec.specs.BlobReading.{is_operation, wrong_kind, changes_at, groups_at, with_changes}
-use Rattle.cap_codec.proofs.Loops.{ChangesFrom, change_goes_on, change_fails, reading_stops, reading_ends, GroupsFrom, group_goes_on, group_fails, other_kind_fails, groups_run_out}
-
--- the bytes behind the first, as a pattern gives them
-abbrev pub behind_of : List ℕ → List ℕ
-behind_of rest = take (length rest - 1) (drop 1 rest)
-
-pub behind-is : (op : ℕ) (bs : List ℕ) → behind_of (op ∷ bs) ≡ bs
-behind-is op bs = take_all (length (op ∷ bs) - 1) bs (omega arith)
+use Rattle.cap_codec.specs.BlobReading.{wrong_kind, groups_at}
+use Rattle.cap_changes.proofs.ChangeLoops.{behind_of, behind-is}
+use Rattle.cap_codec.proofs.Loops.{GroupsFrom, group_goes_on, group_fails, other_kind_fails, groups_run_out}
 
 -- where a step that failed makes all fail
 pub fails_on : {X Y : Type 0} (read : Result X BlobFault) (all : Result Y BlobFault) → ((f : BlobFault) → read ≡ Err f → all ≡ Err f) → (e : Fault BlobFault) → RefusesUnlessMemory e read → RefusesUnlessMemory e all
 fails_on read all step (Refused f) h = step f h
 fails_on read all step OutOfMemory h = tt
-
-module _ {X : Type 0} (one_at : ℕ → List Bool → ℕ → List ℕ → Result (X × List ℕ) BlobFault) where
-  pub add_changes : TableEntries X → List X → TableEntries X
-  add_changes group more = record group { changes = group.changes ++ more }
-
-  -- `all` is this group, and the changes that are read from these bytes
-  unfoldable pub ChangesLeft : TableEntries X → ℕ → List ℕ → Result (TableEntries X × List ℕ) BlobFault → Type 0
-  ChangesLeft group total rest all = ChangesFrom one_at (add_changes group) total group.schema rest all
-
-  pub changes_start : (group : TableEntries X) (total : ℕ) (bytes : List ℕ) → ChangesLeft group total bytes (with_changes group (changes_at one_at (length bytes) total group.schema bytes))
-  unfolding ChangesLeft add_changes
-  changes_start group total bytes = (length bytes, omega arith, refl)
-
-  add_changes-more : (group : TableEntries X) (x : X) (more : List X) → add_changes group (x ∷ more) ≡ add_changes (record group { changes = group.changes ++ x ∷ [] }) more
-  unfolding add_changes
-  add_changes-more group x more = ap (λ (xs : List X). record group { changes = xs }) (sym (append_assoc group.changes (x ∷ []) more))
-
-  pub changes_go_on : (group : TableEntries X) (total : ℕ) (rest after : List ℕ) (x : X) (all : Result (TableEntries X × List ℕ) BlobFault) → 1 ≤ length rest → is_operation (get_or rest 0 0) ≡ true
-      → one_at total group.schema (get_or rest 0 0) (behind_of rest) ≡ Ok (x, after) → length after ≤ length (behind_of rest)
-      → ChangesLeft group total rest all → ChangesLeft (record group { changes = group.changes ++ x ∷ [] }) total after all
-  unfolding ChangesLeft
-  changes_go_on group total [] after x all some operation read shorter left = absurd (omega arith)
-  changes_go_on group total (op ∷ behind) after x all some operation read shorter left =
-      subst (λ (make : List X → TableEntries X). ChangesFrom one_at make total group.schema after all) (λ i more. add_changes-more group x more i)
-      (change_goes_on one_at (add_changes group) total group.schema op behind after x all operation (subst (λ (b : List ℕ). one_at total group.schema op b ≡ Ok (x, after)) (behind-is op behind) read) (subst (λ (b : List ℕ). length after ≤ length b) (behind-is op behind) shorter) left)
-
-  pub changes_fail : (group : TableEntries X) (total : ℕ) (rest : List ℕ) (f : BlobFault) (all : Result (TableEntries X × List ℕ) BlobFault) → 1 ≤ length rest → is_operation (get_or rest 0 0) ≡ true
-      → one_at total group.schema (get_or rest 0 0) (behind_of rest) ≡ Err f → ChangesLeft group total rest all → all ≡ Err f
-  unfolding ChangesLeft
-  changes_fail group total [] f all some operation read left = absurd (omega arith)
-  changes_fail group total (op ∷ behind) f all some operation read left = change_fails one_at (add_changes group) total group.schema op behind f all operation (subst (λ (b : List ℕ). one_at total group.schema op b ≡ Err f) (behind-is op behind) read) left
-
-  add_changes-nil : (group : TableEntries X) → add_changes group [] ≡ group
-  unfolding add_changes
-  add_changes-nil group = ap (λ (xs : List X). record group { changes = xs }) (append-nil group.changes)
-
-  pub changes_stop : (group : TableEntries X) (total : ℕ) (rest : List ℕ) (all : Result (TableEntries X × List ℕ) BlobFault) → 1 ≤ length rest → is_operation (get_or rest 0 0) ≡ false
-      → ChangesLeft group total rest all → all ≡ Ok (group, rest)
-  unfolding ChangesLeft
-  changes_stop group total [] all some other left = absurd (omega arith)
-  changes_stop group total (op ∷ behind) all some other left =
-      reading_stops one_at (add_changes group) total group.schema op behind all other left ∙ ap (λ (g : TableEntries X). Ok (g, op ∷ behind)) (add_changes-nil group)
-
-  pub changes_end : (group : TableEntries X) (total : ℕ) (rest : List ℕ) (all : Result (TableEntries X × List ℕ) BlobFault) → length rest < 1 → ChangesLeft group total rest all → all ≡ Ok (group, rest)
-  unfolding ChangesLeft
-  changes_end group total [] all none left = reading_ends one_at (add_changes group) total group.schema all left ∙ ap (λ (g : TableEntries X). Ok (g, [])) (add_changes-nil group)
-  changes_end group total (op ∷ behind) all none left = absurd (omega arith)
 
 module _ {X : Type 0} (one_at : ℕ → List ℕ → Result (X × List ℕ) BlobFault) (kind : ℕ) where
   -- `all` is these groups, and those that are read from these bytes

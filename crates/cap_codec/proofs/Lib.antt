@@ -1,13 +1,8 @@
 pub mod Loops
 pub mod Left
-pub mod FitLemmas
-pub mod EntryLemmas
 pub mod HeaderLemmas
 pub mod KeyFlagLemmas
-pub mod FieldAgain
-pub mod ChangeAgain
 pub mod BlobAgain
-pub mod Spelled
 pub mod SpelledBlob
 pub mod Steady
 pub mod FaultFields
@@ -17,5 +12,4 @@ pub mod FieldSteps
 pub mod Looking
 pub mod LookingSteps
 pub mod StreamLemmas
-pub mod WritableLemmas
-pub mod TouchedLemmas
+pub mod WriteLemmas

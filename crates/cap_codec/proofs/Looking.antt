@@ -10,7 +10,9 @@ use Rattle.cap_codec.specs.ChangeLeft.{tail_at, past_at, IsEntered}
 use Rattle.cap_codec.specs.HeaderReading.{Header, header_at}
 use Rattle.cap_codec.specs.Pieces.{is_cut, lasting, outcome, columns_at, kind_byte, GoesOn, GoesOnAs, Leads}
 use Rattle.cap_field.specs.Reading.{◌>>=◌, place}
-use Rattle.cap_codec.specs.BlobReading.{is_operation, wrong_kind, change_at, patch_at, changes_at, group_at, patch_group_at, groups_at, blob_at}
+use Rattle.cap_changes.specs.Operation.{is_operation}
+use Rattle.cap_codec.specs.BlobReading.{wrong_kind, group_at, patch_group_at, groups_at, blob_at}
+use Rattle.cap_changes.specs.ChangeReading.{change_at, patch_at, changes_at}
 use Rattle.cap_field.proofs.Binds.{bind_ok, chosen, ok_is, err_is}
 use Rattle.cap_codec.proofs.Steady.{IsBehind, Stays, stays_then, no_longer, same_place, change_stays, patch_stays, header_stays}
 

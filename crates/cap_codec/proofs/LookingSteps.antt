@@ -15,14 +15,16 @@ use Rattle.cap_codec.specs.declared.change_cursor.ChangeCursor.{ChangeCursor}
 use Rattle.cap_codec.specs.ChangeLeft.{next_requirement, IsPast, IsEntered}
 use Rattle.cap_codec.specs.Pieces.{is_cut, may_mend, lasting, outcome, columns_at, kind_byte, Leads, IsPlace, Steps, Begins, IsLookedAt}
 use Rattle.cap_value.specs.Memory.{RefusesUnlessMemory}
-use Rattle.cap_codec.specs.Operation.{operation_byte}
-use Rattle.cap_codec.specs.declared.operation.Operation.{Operation}
-use Rattle.cap_codec.specs.declared.operation.Operation.TheVariants.{Insert, Update, Delete}
+use Rattle.cap_changes.specs.Operation.{operation_byte}
+use Rattle.cap_changes.specs.declared.operation.Operation.{Operation}
+use Rattle.cap_changes.specs.declared.operation.Operation.TheVariants.{Insert, Update, Delete}
 use Rattle.cap_field.specs.Reading.{fault, place}
-use Rattle.cap_codec.specs.FieldReading.{field_at}
-use Rattle.cap_codec.specs.BlobReading.{is_operation, is_kind, wrong_kind, change_at, patch_at, blob_at}
+use Rattle.cap_changes.specs.FieldReading.{field_at}
+use Rattle.cap_changes.specs.Operation.{is_operation}
+use Rattle.cap_codec.specs.BlobReading.{is_kind, wrong_kind, blob_at}
+use Rattle.cap_changes.specs.ChangeReading.{change_at, patch_at}
 use Rattle.cap_codec.proofs.FieldSteps.{field_passes, field_stops, fields_end}
-use Rattle.cap_codec.proofs.Left.{behind_of, behind-is}
+use Rattle.cap_changes.proofs.ChangeLoops.{behind_of, behind-is}
 use Rattle.cap_codec.proofs.Steady.{IsBehind, Stays, further, no_longer, field_stays}
 use Rattle.cap_codec.proofs.Looking.{part_at, part_leads, part_faults, all_passed, first_leads, leads_longer, leads_move, leads_fault, leads_into, fault_is, lasts_none, lasts_cut, lasts_fault, place_is}
 

@@ -1,182 +1,35 @@
--- What was read is spelled by the bytes that were read: changes, headers, groups and blobs.
-use Rattle.std.proofs.Common.{◌≡◌, ℕ, zero, suc, ◌+◌, ◌<◌, ◌≤◌, inl, inr, Bool, true, false, cond, nat_lt, nat_le, ◌==◌, ◌&&◌, ◌||◌, List, [], ◌∷◌, ◌++◌, length, take, drop, map, position, Option, Some, None, IfSome, IfOk, Result, Ok, Err, IsTrue, IsUtf8, refl, sym, ap, subst, ◌∙◌, append_assoc, arith, lt-ltb, le-ltb, length-take, length-append}
+-- What was read is spelled by the bytes that were read: headers, groups and blobs.
+use Rattle.std.proofs.Common.{◌≡◌, ℕ, zero, suc, ◌+◌, ◌<◌, ◌≤◌, inl, inr, Bool, true, false, cond, nat_lt, nat_le, ◌==◌, ◌&&◌, ◌||◌, List, [], ◌∷◌, ◌++◌, length, take, drop, map, position, Option, Some, None, IfOk, Result, Ok, Err, IsTrue, IsUtf8, refl, sym, ap, subst, ◌∙◌, append_assoc, arith, lt-ltb, le-ltb, length-take, length-append}
 use Rattle.std.specs.List.{list_any, position_or_len}
 use Rattle.std.specs.Str.{is_utf8}
-use Rattle.std.proofs.lemmas.Bool.{and_parts, and_from, or_parts, ltb-true, ltb-false, eqb-true, eqb-false, cases_lt}
+use Rattle.std.proofs.lemmas.Bool.{and_parts, or_parts, ltb-true, ltb-false, eqb-true, eqb-false, cases_lt}
 use Rattle.std.proofs.lemmas.List.{length-map}
-use Rattle.std.proofs.lemmas.List.Elements.{All-from_recursion}
 use Rattle.std.proofs.lemmas.Str.{IsUtf8-from_is_utf8}
 use Rattle.cap_value.specs.declared.memory.Fault.{Fault}
 use Rattle.cap_value.specs.Memory.{AnswersUnlessMemory}
-use Rattle.cap_value.specs.Value.{IsValue}
 use Rattle.cap_value.specs.Bytes.{AreBytes, is_name}
 use Rattle.cap_changes.specs.Group.{TableChanges}
 use Rattle.cap_changes.specs.PatchGroup.{TablePatches}
-use Rattle.cap_changes.specs.FieldRecord.{RecordFields}
-use Rattle.cap_changes.specs.declared.row_change.RowChange.{RowChange}
-use Rattle.cap_changes.specs.declared.row_change.RowChange.TheVariants as changed
-use Rattle.cap_changes.specs.declared.patch.Patch.{Patch}
-use Rattle.cap_changes.specs.declared.patch.Patch.TheVariants as patched
-use Rattle.cap_changes.specs.declared.field_requirement.FieldRequirement.{FieldRequirement}
 use Rattle.cap_field.specs.declared.fault.BlobFault.{BlobFault}
 use Rattle.cap_codec.specs.declared.read.Contents.{Contents}
 use Rattle.cap_codec.specs.declared.read.Contents.TheVariants.{Changes, Patches}
-use Rattle.cap_changes.specs.declared.record_kind.RecordKind.TheVariants as record_kinds
-use Rattle.cap_changes.specs.Requirements.{requirements, new_requirements, satisfy}
-use Rattle.cap_codec.specs.Field.{record_bytes, key_bytes}
-use Rattle.cap_codec.specs.HeaderReading.{Header, is_zero, is_set, count_at, flags_at, named_at, name_at, header_at}
+use Rattle.cap_codec.specs.HeaderReading.{Header, is_zero, count_at, flags_at, named_at, name_at, header_at}
+use Rattle.cap_changes.specs.ChangeReading.{is_set}
 use Rattle.cap_codec.specs.Pieces.{lasting}
 use Rattle.cap_field.specs.Reading.{◌>>=◌, bytes_at, varint_at}
-use Rattle.cap_codec.specs.RecordReading.{record_at}
 use Rattle.cap_field.specs.Varint.{varint_bytes}
-use Rattle.cap_codec.specs.BlobReading.{is_operation, change_at, patch_at, changes_at, group_at, patch_group_at, groups_at, blob_at}
-use Rattle.cap_codec.specs.Spelling.{SpellsEach, SpellsGroup, SpellsChange, SpellsPatch, SpellsChanges, SpellsPatches, Spells}
-use Rattle.cap_codec.specs.Writable.{IsTable, AreValues}
+use Rattle.cap_changes.specs.Operation.{is_operation}
+use Rattle.cap_changes.specs.ChangeReading.{change_at, patch_at, changes_at}
+use Rattle.cap_changes.specs.Entries.{TableEntries}
+use Rattle.cap_codec.specs.BlobReading.{entries_at, group_at, patch_group_at, groups_at, blob_at}
+use Rattle.cap_changes.specs.Spelling.{SpellsEach, SpellsChange, SpellsPatch}
+use Rattle.cap_codec.specs.Spelling.{SpellsGroup, SpellsChanges, SpellsPatches, Spells}
+use Rattle.cap_codec.specs.Writable.{IsTable}
 use Rattle.cap_field.proofs.Binds.{bind_ok, guard_ok, check_ok, chosen, ok_is}
-use Rattle.cap_codec.proofs.FitLemmas.{record_meets}
-use Rattle.cap_codec.proofs.ChangeAgain.{asked_record, all_asked, of_full, of_keyed, keys_asked, new_asked}
 use Rattle.cap_codec.proofs.HeaderLemmas.{key_is_set, is_schema_of, name_before}
 use Rattle.cap_field.proofs.Spelled.{AreLow, low_behind, varint_spelled, bytes_spelled}
-use Rattle.cap_codec.proofs.Spelled.{record_spelled}
 use Rattle.cap_codec.proofs.BlobAgain.{blob_again}
-
-module _ {A : Type 0} where
-  -- ---- records
-
-  abbrev IsRecord : (RecordFields A → List ℕ) → List ℕ → RecordFields A × List ℕ → Type 0
-  IsRecord written bytes x = AreValues x.0 × (bytes ≡ written x.0 ++ x.1)
-
-  of_record : (written : RecordFields A → List ℕ) (total : ℕ) (requirements : List FieldRequirement) (bytes : List ℕ) (x : RecordFields A × List ℕ) → AreLow bytes → record_at total requirements bytes ≡ Ok x
-      → asked_record requirements x.0 ≡ written x.0 → IsRecord written bytes x
-  of_record written total requirements bytes x low e same =
-      let asked = record_spelled total requirements bytes x low e in
-      (All-from_recursion (λ field. IfSome field IsValue) x.0 asked.1, asked.0 ∙ ap (λ (front : List ℕ). front ++ x.1) same)
-
-  full_spelled : (total : ℕ) (flags : List Bool) (bytes : List ℕ) (x : RecordFields A × List ℕ) → AreLow bytes → record_at total (requirements record_kinds.Full flags) bytes ≡ Ok x → IsRecord record_bytes bytes x
-  full_spelled total flags bytes x low e =
-      of_record record_bytes total (requirements record_kinds.Full flags) bytes x low e (all_asked record_kinds.Full of_full flags x.0 (record_meets total (requirements record_kinds.Full flags) bytes x e))
-
-  pub keyed_spelled : (total : ℕ) (flags : List Bool) (bytes : List ℕ) (x : RecordFields A × List ℕ) → AreLow bytes → record_at total (requirements record_kinds.Keyed flags) bytes ≡ Ok x → IsRecord record_bytes bytes x
-  keyed_spelled total flags bytes x low e =
-      of_record record_bytes total (requirements record_kinds.Keyed flags) bytes x low e (all_asked record_kinds.Keyed of_keyed flags x.0 (record_meets total (requirements record_kinds.Keyed flags) bytes x e))
-
-  key_spelled : (total : ℕ) (flags : List Bool) (bytes : List ℕ) (x : RecordFields A × List ℕ) → AreLow bytes → record_at total (requirements record_kinds.KeyAlone flags) bytes ≡ Ok x → IsRecord key_bytes bytes x
-  key_spelled total flags bytes x low e =
-      of_record key_bytes total (requirements record_kinds.KeyAlone flags) bytes x low e (keys_asked flags x.0 (record_meets total (requirements record_kinds.KeyAlone flags) bytes x e))
-
-  new_spelled : (total : ℕ) (flags : List Bool) (old : RecordFields A) (bytes : List ℕ) (x : RecordFields A × List ℕ) → AreLow bytes → record_at total (new_requirements flags old) bytes ≡ Ok x → IsRecord record_bytes bytes x
-  new_spelled total flags old bytes x low e =
-      of_record record_bytes total (new_requirements flags old) bytes x low e (new_asked flags old x.0 (record_meets total (new_requirements flags old) bytes x e))
-
--- ---- changes
-
-third : (a b c : Bool) → (a || b || c) ≡ true → a ≡ false → b ≡ false → c ≡ true
-third true b c e p q = absurd cc
-third false true c e p q = absurd cc
-third false false c e p q = e
-
--- an operation byte and these bytes begin with one, and with what is left
-abbrev pub Begins : {X : Type 0} → (X → List ℕ → Type 0) → ℕ → List ℕ → X × List ℕ → Type 0
-Begins one op bytes x = (front : List ℕ) × (bytes ≡ front ++ x.1) × one x.0 (op ∷ front)
-
-module _ {A : Type 0} where
-  abbrev one_record : (RecordFields A → RowChange A) → RecordFields A × List ℕ → Result (RowChange A × List ℕ) BlobFault
-  one_record make x = Ok (make x.0, x.1)
-
-  pub change_spelled : (total : ℕ) (flags : List Bool) (op : ℕ) (bytes : List ℕ) (x : RowChange A × List ℕ) → AreLow bytes → is_operation op ≡ true → change_at total flags op bytes ≡ Ok x → Begins (SpellsChange flags) op bytes x
-  unfolding change_at
-  change_spelled total flags op [] x low operation e = absurd cc
-  change_spelled total flags op (flag_byte ∷ bytes) x low operation e = elim (chosen (op == 0x12) _ _ _ e) [
-    | inl (insert, h) ↦
-        let new = bind_ok (record_at total (requirements record_kinds.Full flags) bytes) (λ new. Ok (changed.Insert (is_set flag_byte) new.0, new.1)) x h in
-        let is = full_spelled total flags bytes new.0 low.1 new.1 in
-        subst (Begins (SpellsChange flags) op (flag_byte ∷ bytes)) (ok_is (changed.Insert (is_set flag_byte) new.0.0, new.0.1) x new.2) (
-          flag_byte ∷ record_bytes new.0.0,
-          ap (λ (b : List ℕ). flag_byte ∷ b) is.1,
-          (record_meets total (requirements record_kinds.Full flags) bytes new.0 new.1, is.0, (flag_byte, refl, ap (λ (k : ℕ). k ∷ flag_byte ∷ record_bytes new.0.0) (eqb-true op 0x12 insert))),
-        )
-    | inr (no_insert, h0) ↦ elim (chosen (op == 0x17) _ _ _ h0) [
-      | inl (update, h) ↦
-          let old = bind_ok (record_at total (requirements record_kinds.Keyed flags) bytes) (λ old. record_at total (new_requirements flags old.0) old.1 >>= (λ new. Ok (changed.Update (is_set flag_byte) old.0 new.0, new.1))) x h in
-          let new = bind_ok (record_at total (new_requirements flags old.0.0) old.0.1) (λ new. Ok (changed.Update (is_set flag_byte) old.0.0 new.0, new.1)) x old.2 in
-          let first = keyed_spelled total flags bytes old.0 low.1 old.1 in
-          let second = new_spelled total flags old.0.0 old.0.1 new.0 (low_behind bytes (record_bytes old.0.0) old.0.1 first.1 low.1) new.1 in
-          subst (Begins (SpellsChange flags) op (flag_byte ∷ bytes)) (ok_is (changed.Update (is_set flag_byte) old.0.0 new.0.0, new.0.1) x new.2) (
-            flag_byte ∷ (record_bytes old.0.0 ++ record_bytes new.0.0),
-            ap (λ (b : List ℕ). flag_byte ∷ b) (first.1 ∙ ap (λ (b : List ℕ). record_bytes old.0.0 ++ b) second.1 ∙ sym (append_assoc (record_bytes old.0.0) (record_bytes new.0.0) new.0.1)),
-            (and_from (satisfy (requirements record_kinds.Keyed flags) old.0.0) (satisfy (new_requirements flags old.0.0) new.0.0) (record_meets total (requirements record_kinds.Keyed flags) bytes old.0 old.1) (record_meets total (new_requirements flags old.0.0) old.0.1 new.0 new.1), (first.0, second.0), (flag_byte, refl, ap (λ (k : ℕ). k ∷ flag_byte ∷ (record_bytes old.0.0 ++ record_bytes new.0.0)) (eqb-true op 0x17 update))),
-          )
-      | inr (no_update, h) ↦
-          let old = bind_ok (record_at total (requirements record_kinds.Full flags) bytes) (λ old. Ok (changed.Delete (is_set flag_byte) old.0, old.1)) x h in
-          let is = full_spelled total flags bytes old.0 low.1 old.1 in
-          let delete = third (op == 0x12) (op == 0x17) (op == 0x09) operation no_insert no_update in
-          subst (Begins (SpellsChange flags) op (flag_byte ∷ bytes)) (ok_is (changed.Delete (is_set flag_byte) old.0.0, old.0.1) x old.2) (
-            flag_byte ∷ record_bytes old.0.0,
-            ap (λ (b : List ℕ). flag_byte ∷ b) is.1,
-            (record_meets total (requirements record_kinds.Full flags) bytes old.0 old.1, is.0, (flag_byte, refl, ap (λ (k : ℕ). k ∷ flag_byte ∷ record_bytes old.0.0) (eqb-true op 0x09 delete))),
-          )
-    ]
-  ]
-
-  pub patch_spelled : (total : ℕ) (flags : List Bool) (op : ℕ) (bytes : List ℕ) (x : Patch A × List ℕ) → AreLow bytes → is_operation op ≡ true → patch_at total flags op bytes ≡ Ok x → Begins (SpellsPatch flags) op bytes x
-  unfolding patch_at
-  patch_spelled total flags op [] x low operation e = absurd cc
-  patch_spelled total flags op (flag_byte ∷ bytes) x low operation e = elim (chosen (op == 0x12) _ _ _ e) [
-    | inl (insert, h) ↦
-        let new = bind_ok (record_at total (requirements record_kinds.Full flags) bytes) (λ new. Ok (patched.Insert (is_set flag_byte) new.0, new.1)) x h in
-        let is = full_spelled total flags bytes new.0 low.1 new.1 in
-        subst (Begins (SpellsPatch flags) op (flag_byte ∷ bytes)) (ok_is (patched.Insert (is_set flag_byte) new.0.0, new.0.1) x new.2) (
-          flag_byte ∷ record_bytes new.0.0,
-          ap (λ (b : List ℕ). flag_byte ∷ b) is.1,
-          (record_meets total (requirements record_kinds.Full flags) bytes new.0 new.1, is.0, (flag_byte, refl, ap (λ (k : ℕ). k ∷ flag_byte ∷ record_bytes new.0.0) (eqb-true op 0x12 insert))),
-        )
-    | inr (no_insert, h0) ↦ elim (chosen (op == 0x17) _ _ _ h0) [
-      | inl (update, h) ↦
-          let new = bind_ok (record_at total (requirements record_kinds.Keyed flags) bytes) (λ new. Ok (patched.Update (is_set flag_byte) new.0, new.1)) x h in
-          let is = keyed_spelled total flags bytes new.0 low.1 new.1 in
-          subst (Begins (SpellsPatch flags) op (flag_byte ∷ bytes)) (ok_is (patched.Update (is_set flag_byte) new.0.0, new.0.1) x new.2) (
-            flag_byte ∷ record_bytes new.0.0,
-            ap (λ (b : List ℕ). flag_byte ∷ b) is.1,
-            (record_meets total (requirements record_kinds.Keyed flags) bytes new.0 new.1, is.0, (flag_byte, refl, ap (λ (k : ℕ). k ∷ flag_byte ∷ record_bytes new.0.0) (eqb-true op 0x17 update))),
-          )
-      | inr (no_update, h) ↦
-          let key = bind_ok (record_at total (requirements record_kinds.KeyAlone flags) bytes) (λ key. Ok (patched.Delete (is_set flag_byte) key.0, key.1)) x h in
-          let is = key_spelled total flags bytes key.0 low.1 key.1 in
-          let delete = third (op == 0x12) (op == 0x17) (op == 0x09) operation no_insert no_update in
-          subst (Begins (SpellsPatch flags) op (flag_byte ∷ bytes)) (ok_is (patched.Delete (is_set flag_byte) key.0.0, key.0.1) x key.2) (
-            flag_byte ∷ key_bytes key.0.0,
-            ap (λ (b : List ℕ). flag_byte ∷ b) is.1,
-            (record_meets total (requirements record_kinds.KeyAlone flags) bytes key.0 key.1, is.0, (flag_byte, refl, ap (λ (k : ℕ). k ∷ flag_byte ∷ key_bytes key.0.0) (eqb-true op 0x09 delete))),
-          )
-    ]
-  ]
-
--- ---- the changes of a group
-
-module _ {X : Type 0} (one_at : ℕ → List Bool → ℕ → List ℕ → Result (X × List ℕ) BlobFault) (total : ℕ) (flags : List Bool) (one : X → List ℕ → Type 0) where
-  abbrev IsSpelled : Type 0
-  IsSpelled = (op : ℕ) (bytes : List ℕ) (x : X × List ℕ) → AreLow bytes → is_operation op ≡ true → one_at total flags op bytes ≡ Ok x → Begins one op bytes x
-
-  abbrev pub Front : List ℕ → List X × List ℕ → Type 0
-  Front bytes x = (front : List ℕ) × (bytes ≡ front ++ x.1) × SpellsEach one x.0 front
-
-  each_spelled : IsSpelled → (most : ℕ) (bytes : List ℕ) (x : List X × List ℕ) → AreLow bytes → changes_at one_at most total flags bytes ≡ Ok x → Front bytes x
-  unfolding changes_at
-  each_spelled spelled zero bytes x low e = subst (Front bytes) (ok_is ([], bytes) x e) ([], refl, refl)
-  each_spelled spelled (suc most) [] x low e = subst (Front []) (ok_is ([], []) x e) ([], refl, refl)
-  each_spelled spelled (suc most) (op ∷ bytes) x low e = elim (chosen (is_operation op) _ _ _ e) [
-    | inl (operation, h) ↦
-        let first = bind_ok (one_at total flags op bytes) (λ change. changes_at one_at most total flags change.1 >>= (λ others. Ok (change.0 ∷ others.0, others.1))) x h in
-        let others = bind_ok (changes_at one_at most total flags first.0.1) (λ others. Ok (first.0.0 ∷ others.0, others.1)) x first.2 in
-        let is = spelled op bytes first.0 low.1 operation first.1 in
-        let are = each_spelled spelled most first.0.1 others.0 (low_behind bytes is.0 first.0.1 is.1 low.1) others.1 in
-        subst (Front (op ∷ bytes)) (ok_is (first.0.0 ∷ others.0.0, others.0.1) x others.2) (
-          (op ∷ is.0) ++ are.0,
-          ap (λ (b : List ℕ). op ∷ b) (is.1 ∙ ap (λ (b : List ℕ). is.0 ++ b) are.1 ∙ sym (append_assoc is.0 are.0 others.0.1)),
-          (op ∷ is.0, are.0, refl, is.2, are.2),
-        )
-    | inr (other, h) ↦ subst (Front (op ∷ bytes)) (ok_is ([], op ∷ bytes) x h) ([], refl, refl)
-  ]
+use Rattle.cap_changes.proofs.ChangeSpelled.{Begins, change_spelled, patch_spelled, each_spelled}
 
 -- ---- headers
 
@@ -286,28 +139,27 @@ of_group kind one bytes header behind changes left (table, (flags, flagged, part
       record { named = table; flags = flags; flagged = flagged; rest = front; parts = refl; each = spelled },
     )
 
+module _ {X : Type 0} (one_at : ℕ → List Bool → ℕ → List ℕ → Result (X × List ℕ) BlobFault) (kind : ℕ) (one : List Bool → X → List ℕ → Type 0) where
+  entries_spelled : ((total : ℕ) (flags : List Bool) (op : ℕ) (bytes : List ℕ) (x : X × List ℕ) → AreLow bytes → is_operation op ≡ true → one_at total flags op bytes ≡ Ok x → Begins (one flags) op bytes x)
+      → (total : ℕ) (bytes : List ℕ) (x : TableEntries X × List ℕ) → AreLow bytes → entries_at one_at total bytes ≡ Ok x
+      → BeginsGroup (λ group b. SpellsGroup kind group.table group.schema (one group.schema) group.changes b) kind bytes x
+  entries_spelled spelled total bytes x low e =
+      let header = bind_ok (header_at total bytes) _ x e in
+      let changes = bind_ok (changes_at one_at (length header.0.1) total header.0.0.flags header.0.1) (λ changes. Ok (record { table = header.0.0.table; schema = header.0.0.flags; changes = [] ++ changes.0 }, changes.1)) x header.2 in
+      let is = header_spelled total bytes header.0 low header.1 in
+      let low' = low_behind bytes (varint_bytes (length header.0.0.flags) ++ is.1.0 ++ header.0.0.table ++ 0 ∷ []) header.0.1 (is.1.2 ∙ sym (append_assoc (varint_bytes (length header.0.0.flags) ++ is.1.0 ++ header.0.0.table) (0 ∷ []) header.0.1)) low in
+      let are = each_spelled one_at total header.0.0.flags (one header.0.0.flags) (spelled total header.0.0.flags) (length header.0.1) header.0.1 changes.0 low' changes.1 in
+      subst (BeginsGroup (λ group b. SpellsGroup kind group.table group.schema (one group.schema) group.changes b) kind bytes) (ok_is (record { table = header.0.0.table; schema = header.0.0.flags; changes = changes.0.0 }, changes.0.1) x changes.2)
+      (of_group kind (one header.0.0.flags) bytes header.0.0 header.0.1 changes.0.0 changes.0.1 is are.0 are.1 are.2)
+
 module _ {A : Type 0} where
   pub group_spelled : (total : ℕ) (bytes : List ℕ) (x : TableChanges A × List ℕ) → AreLow bytes → group_at total bytes ≡ Ok x → BeginsGroup SpellsChanges 0x54 bytes x
   unfolding group_at
-  group_spelled total bytes x low e =
-      let header = bind_ok (header_at total bytes) _ x e in
-      let changes = bind_ok (changes_at change_at (length header.0.1) total header.0.0.flags header.0.1) (λ changes. Ok (record { table = header.0.0.table; schema = header.0.0.flags; changes = [] ++ changes.0 }, changes.1)) x header.2 in
-      let is = header_spelled total bytes header.0 low header.1 in
-      let low' = low_behind bytes (varint_bytes (length header.0.0.flags) ++ is.1.0 ++ header.0.0.table ++ 0 ∷ []) header.0.1 (is.1.2 ∙ sym (append_assoc (varint_bytes (length header.0.0.flags) ++ is.1.0 ++ header.0.0.table) (0 ∷ []) header.0.1)) low in
-      let are = each_spelled change_at total header.0.0.flags (SpellsChange header.0.0.flags) (change_spelled total header.0.0.flags) (length header.0.1) header.0.1 changes.0 low' changes.1 in
-      subst (BeginsGroup SpellsChanges 0x54 bytes) (ok_is (record { table = header.0.0.table; schema = header.0.0.flags; changes = changes.0.0 }, changes.0.1) x changes.2)
-      (of_group 0x54 (SpellsChange header.0.0.flags) bytes header.0.0 header.0.1 changes.0.0 changes.0.1 is are.0 are.1 are.2)
+  group_spelled total bytes x low e = entries_spelled change_at 0x54 SpellsChange change_spelled total bytes x low e
 
   pub patch_group_spelled : (total : ℕ) (bytes : List ℕ) (x : TablePatches A × List ℕ) → AreLow bytes → patch_group_at total bytes ≡ Ok x → BeginsGroup SpellsPatches 0x50 bytes x
   unfolding patch_group_at
-  patch_group_spelled total bytes x low e =
-      let header = bind_ok (header_at total bytes) _ x e in
-      let patches = bind_ok (changes_at patch_at (length header.0.1) total header.0.0.flags header.0.1) (λ patches. Ok (record { table = header.0.0.table; schema = header.0.0.flags; changes = [] ++ patches.0 }, patches.1)) x header.2 in
-      let is = header_spelled total bytes header.0 low header.1 in
-      let low' = low_behind bytes (varint_bytes (length header.0.0.flags) ++ is.1.0 ++ header.0.0.table ++ 0 ∷ []) header.0.1 (is.1.2 ∙ sym (append_assoc (varint_bytes (length header.0.0.flags) ++ is.1.0 ++ header.0.0.table) (0 ∷ []) header.0.1)) low in
-      let are = each_spelled patch_at total header.0.0.flags (SpellsPatch header.0.0.flags) (patch_spelled total header.0.0.flags) (length header.0.1) header.0.1 patches.0 low' patches.1 in
-      subst (BeginsGroup SpellsPatches 0x50 bytes) (ok_is (record { table = header.0.0.table; schema = header.0.0.flags; changes = patches.0.0 }, patches.0.1) x patches.2)
-      (of_group 0x50 (SpellsPatch header.0.0.flags) bytes header.0.0 header.0.1 patches.0.0 patches.0.1 is are.0 are.1 are.2)
+  patch_group_spelled total bytes x low e = entries_spelled patch_at 0x50 SpellsPatch patch_spelled total bytes x low e
 
 -- ---- the groups of a blob
 

@@ -11,12 +11,13 @@ use Rattle.cap_field.specs.declared.fault.FaultKind.TheVariants.{BadName}
 use Rattle.cap_changes.specs.declared.record_kind.RecordKind.TheVariants as record_kinds
 use Rattle.cap_changes.specs.Requirements.{requirements, new_requirements}
 use Rattle.cap_field.specs.FieldReading.{number_at, sized_at, text_at}
-use Rattle.cap_codec.specs.FieldReading.{allows, content_at, typed_at, field_at}
-use Rattle.cap_codec.specs.HeaderReading.{is_zero, is_set, count_at, flags_at, named_at, name_at, header_at}
+use Rattle.cap_changes.specs.FieldReading.{allows, content_at, typed_at, field_at}
+use Rattle.cap_codec.specs.HeaderReading.{is_zero, count_at, flags_at, named_at, name_at, header_at}
+use Rattle.cap_changes.specs.ChangeReading.{is_set}
 use Rattle.cap_codec.specs.Pieces.{is_cut}
 use Rattle.cap_field.specs.Reading.{◌>>=◌, fault, place, byte_at, bytes_at, varint_from, varint_at}
-use Rattle.cap_codec.specs.RecordReading.{record_at}
-use Rattle.cap_codec.specs.BlobReading.{change_at, patch_at}
+use Rattle.cap_changes.specs.RecordReading.{record_at}
+use Rattle.cap_changes.specs.ChangeReading.{change_at, patch_at}
 
 -- they are the last of the bytes
 abbrev pub IsBehind : List ℕ → List ℕ → Type 0

@@ -1,7 +1,6 @@
 -- What was read of a reader's bytes, and what was written of a list's.
-use Rattle.std.proofs.Common.{◌≡◌, ℕ, zero, suc, ◌+◌, ◌<◌, ◌≤◌, inl, inr, refl, arith, List, [], ◌++◌, length, take, drop, Option, Some, None, IfSome, Ok, Err, sym, ap, subst, ◌∙◌, add-one, append_assoc, append-nil, length-take, take-append-drop}
-use Rattle.std.specs.Io.KnownBytes.{Consumes, Appends, IsAtEnd, Keeps}
-use Rattle.std.proofs.KnownBytes.{Appends-trans}
+use Rattle.std.proofs.Common.{◌≡◌, ℕ, ◌+◌, ◌<◌, ◌≤◌, inl, inr, refl, arith, List, [], ◌++◌, length, take, Option, Some, None, IfSome, Ok, Err, sym, ap, subst, ◌∙◌, add-one, append_assoc, append-nil, length-take}
+use Rattle.std.specs.Io.KnownBytes.{Consumes, IsAtEnd, Keeps}
 use Rattle.cap_value.specs.Memory.{AnswersUnlessMemory}
 use Rattle.cap_value.specs.declared.memory.Fault.{Fault}
 use Rattle.cap_value.specs.declared.memory.Fault.TheVariants.{Refused, OutOfMemory}

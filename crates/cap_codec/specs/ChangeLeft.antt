@@ -10,8 +10,8 @@ use Rattle.cap_codec.specs.declared.kind.Kind.TheVariants as kinds
 use Rattle.cap_codec.specs.declared.change_cursor.ChangeCursor.{ChangeCursor}
 use Rattle.cap_changes.specs.Requirements.{requirement_of, requirements, new_requirement, new_requirements}
 use Rattle.cap_field.specs.Reading.{◌>>=◌}
-use Rattle.cap_codec.specs.RecordReading.{record_at}
-use Rattle.cap_codec.specs.BlobReading.{change_at, patch_at}
+use Rattle.cap_changes.specs.RecordReading.{record_at}
+use Rattle.cap_changes.specs.ChangeReading.{change_at, patch_at}
 
 module _ {A : Type 0} where
   -- the requirements on the remaining fields of the new record, where the first record has these fields left

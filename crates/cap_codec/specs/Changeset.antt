@@ -1,21 +1,14 @@
 -- The bytes of a changeset (The Session Extension, "Changeset Format").
-use Rattle.std.specs.Prelude.{ℕ, ◌+◌, min, Bool, true, false, List, [], ◌∷◌, ◌++◌, length, map, take, get_or}
+use Rattle.std.specs.Prelude.{ℕ, ◌+◌, min, Bool, false, List, [], ◌∷◌, ◌++◌, length, map, take, get_or}
 use Rattle.std.specs.Prelude.{if◌then◌else◌}
 use Rattle.std.specs.List.{flat_map, count_by, range_with_len}
-use Rattle.cap_changes.specs.declared.row_change.RowChange.{RowChange}
-use Rattle.cap_changes.specs.declared.row_change.RowChange.TheVariants.{Insert, Update, Delete}
+use Rattle.cap_changes.specs.ChangeBytes.{flag_byte, change_bytes}
 use Rattle.cap_changes.specs.Entries.{TableEntries}
 use Rattle.cap_changes.specs.Group.{TableChanges}
 use Rattle.cap_codec.specs.declared.key_flags.KeyFlags.{KeyFlags}
 use Rattle.cap_codec.specs.declared.key_flags.KeyFlags.TheVariants.{Ones, Places}
 use Rattle.cap_field.specs.Varint.{varint_bytes}
-use Rattle.cap_codec.specs.Field.{record_bytes}
-use Rattle.cap_codec.specs.KindByte.{changeset_kind}
-
--- a flag is one byte, 1 where it is set
-abbrev pub flag_byte : Bool → ℕ
-flag_byte true = 1
-flag_byte false = 0
+use Rattle.cap_changes.specs.KindByte.{changeset_kind}
 
 -- the position of a key column within the key in one byte: 1 for the first, 255 for each from the 255th on; 0
 -- for a column outside the key
@@ -44,12 +37,6 @@ entries_bytes key_flags kind bytes group =
     changes_under bytes (header_bytes key_flags kind group.table group.schema) group.changes
 
 module _ {A : Type 0} where
-  -- the operation, whether the change is indirect, and its records
-  abbrev pub change_bytes : RowChange A → List ℕ
-  change_bytes (Insert indirect new) = 0x12 ∷ flag_byte indirect ∷ record_bytes new
-  change_bytes (Update indirect old new) = 0x17 ∷ flag_byte indirect ∷ (record_bytes old ++ record_bytes new)
-  change_bytes (Delete indirect old) = 0x09 ∷ flag_byte indirect ∷ record_bytes old
-
   abbrev pub group_bytes : KeyFlags → TableChanges A → List ℕ
   group_bytes key_flags group = entries_bytes key_flags changeset_kind change_bytes group
 

@@ -8,9 +8,11 @@ use Rattle.cap_field.specs.declared.fault.FaultKind.TheVariants.{Truncated, BadH
 use Rattle.cap_field.specs.declared.fault.FaultKind.TheVariants.{BadOp, BadField, Real, BadText, BadRecord}
 use Rattle.cap_field.specs.declared.fault.FaultKind.TheVariants.{Mixed}
 use Rattle.cap_codec.specs.declared.read.Contents.{Contents}
-use Rattle.cap_codec.specs.BlobReading.{is_operation, is_kind}
+use Rattle.cap_changes.specs.Operation.{is_operation}
+use Rattle.cap_codec.specs.BlobReading.{is_kind}
 use Rattle.cap_field.specs.Field.{sized_bytes}
-use Rattle.cap_codec.specs.HeaderReading.{is_zero, is_set}
+use Rattle.cap_codec.specs.HeaderReading.{is_zero}
+use Rattle.cap_changes.specs.ChangeReading.{is_set}
 use Rattle.cap_codec.specs.Spelling.{Spells}
 use Rattle.cap_field.specs.Varint.{varint_bytes}
 

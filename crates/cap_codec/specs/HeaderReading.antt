@@ -1,8 +1,9 @@
 -- Reading the header of a group.
-use Rattle.std.specs.Prelude.{ℕ, ◌+◌, Bool, not, List, length, take, drop, map, position, Option, Some, None}
+use Rattle.std.specs.Prelude.{ℕ, ◌+◌, Bool, List, length, take, drop, map, position, Option, Some, None}
 use Rattle.std.specs.Prelude.{Result, Ok, nat_lt, nat_le, ◌==◌, ◌||◌, ◌&&◌, if◌then◌else◌}
 use Rattle.std.specs.List.{list_any}
 use Rattle.std.specs.Str.{is_utf8}
+use Rattle.cap_changes.specs.ChangeReading.{is_set}
 use Rattle.cap_field.specs.declared.fault.BlobFault.{BlobFault}
 use Rattle.cap_field.specs.declared.fault.FaultKind.TheVariants.{Truncated, BadHeader, BadName}
 use Rattle.cap_codec.specs.declared.header.HeaderRef.{HeaderRef}
@@ -15,10 +16,6 @@ pub record Header : Type 0 where
 
 abbrev pub is_zero : ℕ → Bool
 is_zero byte = byte == 0
-
--- any byte but zero flags a column of the key
-abbrev pub is_set : ℕ → Bool
-is_set byte = not (byte == 0)
 
 -- the header of a reference
 abbrev pub header_of : HeaderRef → Header

@@ -1,22 +1,14 @@
 -- The bytes of a patchset (The Session Extension, "sqlite3session_patchset").
-use Rattle.std.specs.Prelude.{ℕ, List, ◌∷◌}
+use Rattle.std.specs.Prelude.{ℕ, List}
 use Rattle.std.specs.List.{flat_map}
-use Rattle.cap_changes.specs.declared.patch.Patch.{Patch}
-use Rattle.cap_changes.specs.declared.patch.Patch.TheVariants.{Insert, Update, Delete}
+use Rattle.cap_changes.specs.ChangeBytes.{patch_bytes}
 use Rattle.cap_changes.specs.PatchGroup.{TablePatches}
 use Rattle.cap_codec.specs.declared.key_flags.KeyFlags.{KeyFlags}
 use Rattle.cap_codec.specs.declared.key_flags.KeyFlags.TheVariants.{Ones}
-use Rattle.cap_codec.specs.Field.{record_bytes, key_bytes}
-use Rattle.cap_codec.specs.KindByte.{patchset_kind}
-use Rattle.cap_codec.specs.Changeset.{flag_byte, entries_bytes}
+use Rattle.cap_changes.specs.KindByte.{patchset_kind}
+use Rattle.cap_codec.specs.Changeset.{entries_bytes}
 
 module _ {A : Type 0} where
-  -- an UPDATE has one record, and a DELETE the key fields alone
-  abbrev pub patch_bytes : Patch A → List ℕ
-  patch_bytes (Insert indirect new) = 0x12 ∷ flag_byte indirect ∷ record_bytes new
-  patch_bytes (Update indirect new) = 0x17 ∷ flag_byte indirect ∷ record_bytes new
-  patch_bytes (Delete indirect key) = 0x09 ∷ flag_byte indirect ∷ key_bytes key
-
   abbrev pub patch_group_bytes : KeyFlags → TablePatches A → List ℕ
   patch_group_bytes key_flags group = entries_bytes key_flags patchset_kind patch_bytes group
 

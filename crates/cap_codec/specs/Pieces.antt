@@ -14,8 +14,9 @@ use Rattle.cap_codec.specs.declared.scan.Advance.TheVariants.{On, Cut}
 use Rattle.cap_codec.specs.declared.change_cursor.ChangeCursor.{ChangeCursor}
 use Rattle.cap_field.specs.Reading.{◌>>=◌}
 use Rattle.cap_codec.specs.HeaderReading.{header_at}
-use Rattle.cap_codec.specs.KindByte.{changeset_kind, patchset_kind}
-use Rattle.cap_codec.specs.BlobReading.{change_at, patch_at, changes_at, group_at, patch_group_at, groups_at}
+use Rattle.cap_changes.specs.KindByte.{changeset_kind, patchset_kind}
+use Rattle.cap_changes.specs.ChangeReading.{change_at, patch_at, changes_at}
+use Rattle.cap_codec.specs.BlobReading.{group_at, patch_group_at, groups_at}
 use Rattle.cap_codec.specs.BlobReading.{blob_at}
 use Rattle.cap_codec.specs.ChangeLeft.{tail_at}
 

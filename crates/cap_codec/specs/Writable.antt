@@ -1,16 +1,11 @@
 -- The lists that can be written, and what they are read as.
-use Rattle.std.specs.Prelude.{ℕ, Bool, true, false, List, [], ◌∷◌, IfSome, IsTrue, IsUtf8, All, filter}
+use Rattle.std.specs.Prelude.{ℕ, Bool, true, false, List, [], ◌∷◌, IsTrue, IsUtf8, All, filter}
 use Rattle.cap_value.specs.Bytes.{is_name}
-use Rattle.cap_value.specs.Value.{IsValue}
 use Rattle.cap_row.specs.Schema.{is_schema, has_key}
-use Rattle.cap_changes.specs.FieldRecord.{RecordFields}
+use Rattle.cap_changes.specs.HasValues.{HasValues, PatchHasValues}
 use Rattle.cap_changes.specs.Group.{TableChanges}
 use Rattle.cap_changes.specs.PatchGroup.{TablePatches}
 use Rattle.cap_changes.specs.Fits.{AllChangesFit, AllPatchesFit}
-use Rattle.cap_changes.specs.declared.row_change.RowChange.{RowChange}
-use Rattle.cap_changes.specs.declared.row_change.RowChange.TheVariants as changed
-use Rattle.cap_changes.specs.declared.patch.Patch.{Patch}
-use Rattle.cap_changes.specs.declared.patch.Patch.TheVariants as patched
 use Rattle.cap_codec.specs.declared.key_flags.KeyFlags.{KeyFlags}
 use Rattle.cap_codec.specs.declared.key_flags.KeyFlags.TheVariants.{Ones}
 use Rattle.cap_codec.specs.declared.read.Contents.{Contents}
@@ -30,20 +25,6 @@ has_some [] = false
 has_some (x ∷ xs) = true
 
 module _ {A : Type 0} where
-  -- each field that is defined is a value
-  abbrev pub AreValues : RecordFields A → Type 0
-  AreValues fields = All (λ field. IfSome field IsValue) fields
-
-  abbrev pub HasValues : RowChange A → Type 0
-  HasValues (changed.Insert indirect new) = AreValues new
-  HasValues (changed.Update indirect old new) = AreValues old × AreValues new
-  HasValues (changed.Delete indirect old) = AreValues old
-
-  abbrev pub PatchHasValues : Patch A → Type 0
-  PatchHasValues (patched.Insert indirect new) = AreValues new
-  PatchHasValues (patched.Update indirect new) = AreValues new
-  PatchHasValues (patched.Delete indirect key) = AreValues key
-
   -- a group that a list of changes may hold
   pub record IsGroup (group : TableChanges A) : Type 0 where
     pub table : IsTable group.table group.schema

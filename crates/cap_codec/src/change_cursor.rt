@@ -1,15 +1,13 @@
 //! A cursor over the fields of a change.
 
 ghost use Rattle.std.specs.Prelude.{◌≡◌, IsSome, OnOk};
-ghost use Rattle.cap_changes.specs.Requirements.{new_requirement};
-ghost use Rattle.cap_codec.specs.FieldReading.{value_of};
+ghost use Rattle.cap_changes.specs.FieldReading.{field_of};
 ghost use Rattle.cap_codec.specs.ChangeLeft.{next_requirement, IsPast, IsEntered};
-ghost use Rattle.cap_codec.specs.Operation.{operation_byte};
+ghost use Rattle.cap_changes.specs.Operation.{operation_byte};
 
-use crate::field_ref::FieldRef;
 use crate::kind::Kind;
-use crate::operation::Operation;
-use cap_changes::{FieldRequirement, RecordKind};
+use cap_changes::{FieldRequirement, Operation, RecordKind, requirement_beside};
+use cap_field::ValueRef;
 use cap_value::{AllocHandle, OutOfMemory};
 
 /// A cursor over the fields of a change: which field comes next, and its requirement.
@@ -56,26 +54,15 @@ impl<A: AllocHandle> ChangeCursor<A> {
     }
 
     /// Passes the next field.
-    pub fn pass(&mut self, flags: &[bool], field: FieldRef<'_>) -> Result<(), OutOfMemory>
+    pub fn pass(&mut self, flags: &[bool], field: Option<ValueRef<'_>>) -> Result<(), OutOfMemory>
         requires { IsSome (next_requirement self.old flags.now) }
-        ensures { OnOk result (IsPast flags.now (value_of {A = A} field.entry) self.old self.new) }
+        ensures { OnOk result (IsPast flags.now (field_of {A = A} field.entry) self.old self.new) }
     {
         if self.has_new && self.passed < flags.len() {
-            let requirement = requirement_beside_ref::<A>(flags[self.passed], field);
+            let requirement = requirement_beside::<A>(flags[self.passed], field);
             self.required.push(requirement)?;
         }
         self.passed += 1;
         Ok(())
-    }
-}
-
-// The requirement on a field of the new record of an UPDATE, by its old field.
-fn requirement_beside_ref<A: AllocHandle>(key: bool, old: FieldRef<'_>) -> FieldRequirement
-    ensures { result ≡ new_requirement (key, value_of {A = A} old.entry) }
-{
-    if key || matches!(old, FieldRef::Undefined) {
-        FieldRequirement::Undefined
-    } else {
-        FieldRequirement::Defined
     }
 }

@@ -6,13 +6,12 @@ ghost use Rattle.std.specs.List.{list_any};
 ghost use Rattle.cap_row.specs.Schema.{has_key};
 ghost use Rattle.cap_row.specs.declared.limits.TheConstants.{COLUMNS_MAX};
 ghost use Rattle.cap_value.specs.Memory.{ShowsUnlessMemory};
-ghost use Rattle.cap_codec.specs.HeaderReading.{is_set};
-ghost use Rattle.cap_codec.specs.BlobReading.{changes_at, entries_at, with_changes};
+ghost use Rattle.cap_changes.specs.ChangeReading.{is_set};
+ghost use Rattle.cap_changes.specs.ChangeReading.{changes_at, with_changes};
+ghost use Rattle.cap_codec.specs.BlobReading.{entries_at};
 
-use crate::change::{Decode, EntryBytes};
 use crate::header::take_header;
-use crate::operation::Operation;
-use cap_changes::TableGroup;
+use cap_changes::{Entry, TableGroup};
 use cap_field::BlobFault;
 use cap_row::Schema;
 use cap_value::{AllocHandle, Fault, Name, OutOfMemory};
@@ -51,36 +50,8 @@ pub fn own_schema<A: AllocHandle>(alloc: A, flags: &[u8]) -> Result<Schema<A>, F
     }
 }
 
-fn take_changes<'a, C: Decode<A> + Drop, A: AllocHandle>(
-    alloc: A,
-    total: usize,
-    mut group: TableGroup<C, A>,
-    bytes: &'a [u8],
-) -> Result<(TableGroup<C, A>, &'a [u8]), Fault<BlobFault>>
-    ensures gives { ShowsUnlessMemory (λ x. (x.0, x.1.now)) result
-        (with_changes group (changes_at C.one_at (length bytes.now) total group.schema bytes.now)) }
-    ensures behind { IfOk result (λ x. length x.1.now ≤ length bytes.now) }
-{
-    let mut rest = bytes;
-    while let [byte, behind @ ..] = rest {
-        let Some(operation) = Operation::of(*byte) else {
-            break;
-        };
-        let entry = EntryBytes {
-            total,
-            flags: group.schema().flags(),
-            operation,
-            bytes: behind,
-        };
-        let (change, after) = C::take(alloc, entry)?;
-        group.push(change)?;
-        rest = after;
-    }
-    Ok((group, rest))
-}
-
 /// The group behind its kind byte.
-pub fn take_group<C: Decode<A> + Drop, A: AllocHandle>(
+pub fn take_group<C: Entry + Drop, A: AllocHandle>(
     alloc: A,
     total: usize,
     bytes: &[u8],
@@ -91,5 +62,7 @@ pub fn take_group<C: Decode<A> + Drop, A: AllocHandle>(
     let (header, rest) = take_header(total, bytes)?;
     let table = own_name(alloc, header.table)?;
     let schema = own_schema(alloc, header.flags)?;
-    take_changes(alloc, total, TableGroup::new(alloc, table, schema), rest)
+    let mut group = TableGroup::new(alloc, table, schema);
+    let rest = group.push_read(total, rest)?;
+    Ok((group, rest))
 }

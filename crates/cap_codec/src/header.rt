@@ -5,7 +5,8 @@ ghost use Rattle.std.specs.Prelude.{Option, length, take, position, IfSome, IfOk
 ghost use Rattle.cap_value.specs.Bytes.{is_name};
 ghost use Rattle.std.specs.List.{list_any};
 ghost use Rattle.cap_field.specs.Reading.{place, Reads};
-ghost use Rattle.cap_codec.specs.HeaderReading.{is_zero, is_set, count_at};
+ghost use Rattle.cap_codec.specs.HeaderReading.{is_zero, count_at};
+ghost use Rattle.cap_changes.specs.ChangeReading.{is_set};
 ghost use Rattle.cap_codec.specs.HeaderReading.{flags_at, name_at, header_at, header_of};
 
 use cap_field::{BlobFault, FaultKind, place_of, take_bytes, take_varint, text_in};

@@ -3,7 +3,7 @@
 ghost use Rattle.std.specs.Prelude.{◌≡◌};
 ghost use Rattle.cap_codec.specs.Pieces.{kind_byte};
 
-use crate::write::{CHANGESET_KIND, PATCHSET_KIND};
+use cap_changes::{CHANGESET_KIND, PATCHSET_KIND};
 
 /// Whether groups are of a changeset or of a patchset.
 #[derive(Clone, Copy)]

@@ -6,13 +6,11 @@ ghost use Rattle.cap_codec.specs.declared.read.Contents.{Contents as Spelled};
 ghost use Rattle.cap_codec.specs.BlobReading as blob;
 ghost use Rattle.cap_codec.specs.BlobReading.{entries_at, group_at, patch_group_at, groups_at, blob_at};
 ghost use Rattle.cap_codec.specs.FirstByte.{first_fault};
-ghost use Rattle.cap_codec.specs.KindByte.{changeset_kind, patchset_kind};
+ghost use Rattle.cap_changes.specs.KindByte.{changeset_kind, patchset_kind};
 ghost use Rattle.cap_codec.specs.Spelling.{Spells};
 
-use crate::change::Decode;
 use crate::group::take_group;
-use crate::write::{CHANGESET_KIND, PATCHSET_KIND};
-use cap_changes::{ChangeList, GroupList, PatchList};
+use cap_changes::{CHANGESET_KIND, ChangeList, Entry, GroupList, PATCHSET_KIND, PatchList};
 use cap_field::{BlobFault, FaultKind, place_of};
 use cap_value::{AllocHandle, Fault};
 
@@ -42,7 +40,7 @@ pub fn wrong_kind(kind: u8, at: usize) -> BlobFault
     }
 }
 
-fn take_groups<C: Decode<A> + Drop, A: AllocHandle>(
+fn take_groups<C: Entry + Drop, A: AllocHandle>(
     alloc: A,
     total: usize,
     bytes: &[u8],

@@ -3,18 +3,16 @@
 
 ghost use Rattle.std.specs.Prelude.{◌≡◌, ◌≤◌, ◌∷◌, length, drop, None, Ok, IfOk, IfSome};
 ghost use Rattle.cap_value.specs.Memory.{ShowsUnlessMemory};
-ghost use Rattle.cap_codec.specs.Operation.{operation_byte};
+ghost use Rattle.cap_changes.specs.Operation.{operation_byte};
 ghost use Rattle.cap_codec.specs.Pieces.{columns_at, kind_byte, may_mend, IsPlace};
 ghost use Rattle.cap_codec.specs.Pieces.{Passes, Steps, GoesTo, Begins, Scans};
 
 use crate::change_cursor::ChangeCursor;
-use crate::field_ref::take_field;
 use crate::group::own_schema;
 use crate::header::take_header;
 use crate::kind::Kind;
-use crate::operation::Operation;
 use crate::read::wrong_kind;
-use crate::write::{CHANGESET_KIND, PATCHSET_KIND};
+use cap_changes::{CHANGESET_KIND, Operation, PATCHSET_KIND, take_field};
 use cap_field::{BlobFault, FaultKind, place_of};
 use cap_row::Schema;
 use cap_value::{AllocHandle, Fault};

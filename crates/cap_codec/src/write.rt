@@ -1,26 +1,21 @@
 //! Encoding of changesets and patchsets.
 
 ghost use mathlib.Core.List.{IsPrefix};
-ghost use Rattle.std.specs.Prelude.{◌≡◌, ◌++◌, ◌∷◌, [], ℕ, List, OnErr, OnOk, IfOk};
+ghost use Rattle.std.specs.Prelude.{◌≡◌, ◌++◌, OnErr, OnOk, IfOk};
 ghost use Rattle.std.specs.List.{flat_map};
 ghost use Rattle.cap_codec.specs.declared.key_flags.KeyFlags.TheVariants.{Ones, Places};
-ghost use Rattle.cap_codec.specs.Changeset.{flag_byte, flags_bytes, header_bytes, entries_bytes};
+ghost use Rattle.cap_codec.specs.Changeset.{flags_bytes, header_bytes, entries_bytes};
 ghost use Rattle.cap_codec.specs.Changeset.{list_bytes, list_bytes_with};
-ghost use Rattle.cap_codec.specs.Operation.{operation_byte};
+ghost use Rattle.cap_changes.specs.KindByte.{changeset_kind};
 ghost use Rattle.cap_codec.specs.Patchset.{patch_list_bytes, patch_list_bytes_with};
 
-use crate::field::{push_key, push_record};
 use crate::key_flags::KeyFlags;
-use crate::operation::Operation;
-use cap_changes::{ChangeList, Entry, GroupList, Patch, PatchList, RowChange, TableGroup};
+use cap_changes::{
+    CHANGESET_KIND, ChangeList, Entry, GroupList, Patch, PatchList, RowChange, TableGroup,
+};
 use cap_field::push_varint;
 use cap_row::Schema;
 use cap_value::{AllocHandle, Name, OutOfMemory};
-
-/// The first byte of a group of a changeset.
-pub const CHANGESET_KIND: u8 = 0x54;
-/// The first byte of a group of a patchset.
-pub const PATCHSET_KIND: u8 = 0x50;
 
 fn push_ones<A: AllocHandle>(out: &mut Vec<u8, A>, flags: &[bool]) -> Result<(), OutOfMemory>
     ensures bytes { OnOk result (out.new.items ≡ out.old.items ++ flags_bytes Ones flags.now) }
@@ -82,136 +77,53 @@ pub fn push_header<A: AllocHandle>(
     Ok(())
 }
 
-/// Appends an operation byte and the indirect flag.
-pub fn push_operation<A: AllocHandle>(
+/// Appends the header of a group of a changeset, with these key flags.
+///
+/// On an error the bytes are as before.
+pub fn push_group_header<A: AllocHandle>(
     out: &mut Vec<u8, A>,
-    operation: Operation,
-    indirect: bool,
+    key_flags: KeyFlags,
+    table: &Name<A>,
+    schema: &Schema<A>,
 ) -> Result<(), OutOfMemory>
-    ensures bytes { OnOk result (out.new.items ≡ out.old.items
-        ++ operation_byte operation ∷ flag_byte indirect ∷ []) }
-    ensures begins { OnErr result (IsPrefix out.old.items out.new.items) }
+    ensures bytes { OnOk result (out.new.items
+        ≡ out.old.items ++ header_bytes key_flags changeset_kind table.now schema.now) }
+    ensures kept { OnErr result (out.new.items ≡ out.old.items) }
 {
-    out.extend_from_slice(&[operation.byte(), indirect as u8])?;
-    Ok(())
-}
-
-/// An entry of a group that can be encoded.
-pub trait Encode<A: AllocHandle>: Entry {
-    // The first byte of a group of these.
-    ghost kind: { ℕ };
-    // The bytes of one.
-    ghost bytes: { Self → List ℕ };
-
-    /// The first byte of a group of these.
-    fn kind() -> u8
-        ensures { result ≡ kind };
-
-    /// Appends its bytes.
-    fn push_to(&self, out: &mut Vec<u8, A>) -> Result<(), OutOfMemory>
-        ensures { OnOk result (out.new.items ≡ out.old.items ++ bytes self.now) };
-}
-
-impl<A: AllocHandle> Encode<A> for RowChange<A> {
-    ghost use Rattle.cap_codec.specs.Changeset.{change_bytes};
-    ghost use Rattle.cap_codec.specs.KindByte.{changeset_kind};
-
-    ghost kind = { changeset_kind };
-
-    ghost bytes = { λ change. change_bytes change };
-
-    fn kind() -> u8 {
-        CHANGESET_KIND
-    }
-
-    fn push_to(&self, out: &mut Vec<u8, A>) -> Result<(), OutOfMemory> {
-        match self {
-            RowChange::Insert { indirect, new } => {
-                push_operation(out, Operation::Insert, *indirect)?;
-                push_record(out, new.fields())?;
-            }
-            RowChange::Update { indirect, old, new } => {
-                push_operation(out, Operation::Update, *indirect)?;
-                push_record(out, old.fields())?;
-                push_record(out, new.fields())?;
-            }
-            RowChange::Delete { indirect, old } => {
-                push_operation(out, Operation::Delete, *indirect)?;
-                push_record(out, old.fields())?;
-            }
+    let before = out.len();
+    match push_header(out, key_flags, CHANGESET_KIND, table, schema) {
+        Ok(()) => Ok(()),
+        Err(_) => {
+            out.truncate(before);
+            Err(OutOfMemory)
         }
-        Ok(())
     }
-}
-
-impl<A: AllocHandle> Encode<A> for Patch<A> {
-    ghost use Rattle.cap_codec.specs.KindByte.{patchset_kind};
-    ghost use Rattle.cap_codec.specs.Operation.{operation_byte};
-    ghost use Rattle.cap_codec.specs.Patchset.{patch_bytes};
-
-    ghost kind = { patchset_kind };
-
-    ghost bytes = { λ patch. patch_bytes patch };
-
-    fn kind() -> u8 {
-        PATCHSET_KIND
-    }
-
-    fn push_to(&self, out: &mut Vec<u8, A>) -> Result<(), OutOfMemory> {
-        match self {
-            Patch::Insert { indirect, new } => {
-                push_operation(out, Operation::Insert, *indirect)?;
-                push_record(out, new.fields())?;
-            }
-            Patch::Update { indirect, new } => {
-                push_operation(out, Operation::Update, *indirect)?;
-                push_record(out, new.fields())?;
-            }
-            Patch::Delete { indirect, key } => {
-                push_operation(out, Operation::Delete, *indirect)?;
-                push_key(out, key.fields())?;
-            }
-        }
-        Ok(())
-    }
-}
-
-fn push_changes<C: Encode<A>, A: AllocHandle>(
-    out: &mut Vec<u8, A>,
-    changes: &[C],
-) -> Result<(), OutOfMemory>
-    ensures { OnOk result (out.new.items ≡ out.old.items ++ flat_map C.bytes changes.now) }
-{
-    for change in changes {
-        change.push_to(out)?;
-    }
-    Ok(())
 }
 
 // Appends a group. A group without changes has no bytes.
-fn push_group<C: Encode<A>, A: AllocHandle>(
+fn push_group<C: Entry, A: AllocHandle>(
     out: &mut Vec<u8, A>,
     key_flags: KeyFlags,
     group: &TableGroup<C, A>,
 ) -> Result<(), OutOfMemory>
     ensures { OnOk result (out.new.items
-        ≡ out.old.items ++ entries_bytes key_flags C.kind C.bytes group.now) }
+        ≡ out.old.items ++ entries_bytes key_flags C.kind C.bytes_of group.now) }
 {
-    let changes = group.changes();
-    if changes.is_empty() {
+    if group.changes().is_empty() {
         return Ok(());
     }
     push_header(out, key_flags, C::kind(), group.table(), group.schema())?;
-    push_changes(out, changes)
+    out.extend_from_slice(group.as_bytes())?;
+    Ok(())
 }
 
-fn write_groups<C: Encode<A>, A: AllocHandle>(
+fn write_groups<C: Entry, A: AllocHandle>(
     alloc: A,
     key_flags: KeyFlags,
     list: &GroupList<C, A>,
 ) -> Result<Vec<u8, A>, OutOfMemory>
     ensures { IfOk result (λ bytes. bytes.items
-        ≡ flat_map (entries_bytes key_flags C.kind C.bytes) list.now) }
+        ≡ flat_map (entries_bytes key_flags C.kind C.bytes_of) list.now) }
 {
     let mut out = Vec::new(alloc);
     for group in list.groups() {

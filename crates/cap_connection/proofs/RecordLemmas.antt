@@ -3,7 +3,7 @@ use Rattle.std.proofs.Common.{◌≡◌, ◌∙◌, ℕ, ◌+◌, zero, suc, Lis
 use Rattle.std.proofs.lemmas.List.Sums.{sum_by-cons}
 use Rattle.std.specs.Prelude.{slice_index_or, sum}
 use Rattle.cap_value.specs.declared.value.Value.{Value}
-use Rattle.cap_codec.specs.Field.{field_bytes}
+use Rattle.cap_changes.specs.Field.{field_bytes}
 use Rattle.cap_connection.specs.Fields.{fields_before}
 
 -- one field more

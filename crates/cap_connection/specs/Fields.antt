@@ -10,8 +10,8 @@ use Rattle.cap_changes.specs.declared.patch.Patch.{Patch}
 use Rattle.cap_changes.specs.declared.patch.Patch.TheVariants as patched
 use Rattle.cap_changes.specs.declared.row_change.RowChange.{RowChange}
 use Rattle.cap_changes.specs.declared.row_change.RowChange.TheVariants as changed
-use Rattle.cap_codec.specs.Field.{field_bytes}
-use Rattle.cap_codec.specs.declared.operation.Operation.TheVariants as does
+use Rattle.cap_changes.specs.Field.{field_bytes}
+use Rattle.cap_changes.specs.declared.operation.Operation.TheVariants as does
 use Rattle.cap_codec.specs.declared.read.Contents.{Contents}
 use Rattle.cap_codec.specs.declared.read.Contents.TheVariants.{Changes, Patches}
 use Rattle.cap_connection.specs.declared.iter_fields.ChangeHead.{ChangeHead}

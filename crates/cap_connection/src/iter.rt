@@ -1,6 +1,7 @@
 //! An iterator over the changes of a blob.
 ghost use Rattle.std.specs.Prelude.{◌≡◌, [], IfOk, OnErr, is_some};
 ghost use Rattle.std.specs.Option.{option_copied, option_map, option_map_or};
+ghost use Rattle.cap_changes.specs.FieldReading.{field_of};
 ghost use Rattle.cap_value.specs.Memory.{AnswersUnlessMemory, RefusesFirst};
 ghost use Rattle.cap_codec.specs.FirstByte.{first_fault};
 ghost use Rattle.cap_codec.specs.Spelling.{Spells};
@@ -14,8 +15,9 @@ use crate::iter_record::{Side, side_record};
 use cap_apply::{Answer, Conflict, ConflictKind, Report};
 use cap_changes::ChangeList;
 use cap_codec::{BlobFault, Contents, KeyFlags, read_blob, write_changes_with};
+use cap_field::ValueRef;
 use cap_rebase::buffer_of;
-use cap_value::{Fault, Name, OutOfMemory, Value};
+use cap_value::{Fault, Name, OutOfMemory};
 use std::alloc::Global;
 use std::marker::Model;
 use std::mem;
@@ -190,8 +192,8 @@ impl BlobIter {
     }
 
     /// The value of a column before the change, where it is defined (sqlite3changeset_old).
-    pub fn old(&self, column: usize) -> Option<&Value<Global>>
-        ensures { option_copied result ≡ old_of self.now column }
+    pub fn old(&self, column: usize) -> Option<ValueRef<'_>>
+        ensures { field_of result ≡ old_of self.now column }
     {
         match self.current {
             Some(position) => old_at(&self.contents, position, column),
@@ -200,8 +202,8 @@ impl BlobIter {
     }
 
     /// The value of a column after the change, where it is defined (sqlite3changeset_new).
-    pub fn new_value(&self, column: usize) -> Option<&Value<Global>>
-        ensures { option_copied result ≡ new_of self.now column }
+    pub fn new_value(&self, column: usize) -> Option<ValueRef<'_>>
+        ensures { field_of result ≡ new_of self.now column }
     {
         match self.current {
             Some(position) => new_at(&self.contents, position, column),

@@ -1,16 +1,18 @@
 //! What is at a position of a blob: the table, the change, and its fields.
 ghost use Rattle.std.specs.Prelude.{◌≡◌};
 ghost use Rattle.std.specs.Option.{option_copied};
+ghost use Rattle.cap_changes.specs.FieldReading.{field_of};
 ghost use Rattle.cap_connection.specs.Fields.{change_new, change_old, entry_at, new_at, old_at};
 ghost use Rattle.cap_connection.specs.Fields.{head_at, head_of_change, head_of_patch};
 ghost use Rattle.cap_connection.specs.Fields.{patch_new, patch_old};
 ghost use Rattle.cap_connection.specs.Fields.{schema_at, table_at};
 
 use crate::iter_position::Position;
-use cap_changes::{ChangeList, Patch, PatchList, RowChange};
+use cap_changes::{ChangeList, ChangeRef, EntryRef, Patch, PatchList, PatchRef, RowChange};
 use cap_codec::{Contents, Operation};
+use cap_field::ValueRef;
 use cap_row::Schema;
-use cap_value::{Name, Value};
+use cap_value::Name;
 use std::alloc::Global;
 
 /// What a change does to its row, and whether it is indirect.
@@ -61,14 +63,14 @@ pub(crate) fn head_at(contents: &Contents<Global>, position: Position) -> Option
     match contents {
         Contents::Changes(list) => match list.groups().get(position.group) {
             Some(group) => match group.changes().get(position.change) {
-                Some(change) => Some(head_of_change(change)),
+                Some(change) => Some(head_of_change(&change)),
                 None => None,
             },
             None => None,
         },
         Contents::Patches(list) => match list.groups().get(position.group) {
             Some(group) => match group.changes().get(position.change) {
-                Some(patch) => Some(head_of_patch(patch)),
+                Some(patch) => Some(head_of_patch(&patch)),
                 None => None,
             },
             None => None,
@@ -76,40 +78,40 @@ pub(crate) fn head_at(contents: &Contents<Global>, position: Position) -> Option
     }
 }
 
-fn head_of_change(change: &RowChange<Global>) -> ChangeHead
+fn head_of_change(change: &EntryRef<'_, RowChange<Global>>) -> ChangeHead
     ensures { result ≡ head_of_change change.now }
 {
-    match change {
-        RowChange::Insert { indirect, .. } => ChangeHead {
+    match change.read() {
+        ChangeRef::Insert { indirect, .. } => ChangeHead {
             operation: Operation::Insert,
-            indirect: *indirect,
+            indirect,
         },
-        RowChange::Update { indirect, .. } => ChangeHead {
+        ChangeRef::Update { indirect, .. } => ChangeHead {
             operation: Operation::Update,
-            indirect: *indirect,
+            indirect,
         },
-        RowChange::Delete { indirect, .. } => ChangeHead {
+        ChangeRef::Delete { indirect, .. } => ChangeHead {
             operation: Operation::Delete,
-            indirect: *indirect,
+            indirect,
         },
     }
 }
 
-fn head_of_patch(patch: &Patch<Global>) -> ChangeHead
+fn head_of_patch(patch: &EntryRef<'_, Patch<Global>>) -> ChangeHead
     ensures { result ≡ head_of_patch patch.now }
 {
-    match patch {
-        Patch::Insert { indirect, .. } => ChangeHead {
+    match patch.read() {
+        PatchRef::Insert { indirect, .. } => ChangeHead {
             operation: Operation::Insert,
-            indirect: *indirect,
+            indirect,
         },
-        Patch::Update { indirect, .. } => ChangeHead {
+        PatchRef::Update { indirect, .. } => ChangeHead {
             operation: Operation::Update,
-            indirect: *indirect,
+            indirect,
         },
-        Patch::Delete { indirect, .. } => ChangeHead {
+        PatchRef::Delete { indirect, .. } => ChangeHead {
             operation: Operation::Delete,
-            indirect: *indirect,
+            indirect,
         },
     }
 }
@@ -119,8 +121,8 @@ pub(crate) fn old_at(
     contents: &Contents<Global>,
     position: Position,
     column: usize,
-) -> Option<&Value<Global>>
-    ensures { option_copied result ≡ old_at contents.now position column }
+) -> Option<ValueRef<'_>>
+    ensures { field_of result ≡ old_at contents.now position column }
 {
     match contents {
         Contents::Changes(list) => old_in_changes(list, position, column),
@@ -133,8 +135,8 @@ pub(crate) fn new_at(
     contents: &Contents<Global>,
     position: Position,
     column: usize,
-) -> Option<&Value<Global>>
-    ensures { option_copied result ≡ new_at contents.now position column }
+) -> Option<ValueRef<'_>>
+    ensures { field_of result ≡ new_at contents.now position column }
 {
     match contents {
         Contents::Changes(list) => new_in_changes(list, position, column),
@@ -146,12 +148,12 @@ fn old_in_changes(
     list: &ChangeList<Global>,
     position: Position,
     column: usize,
-) -> Option<&Value<Global>>
-    ensures { option_copied result ≡ entry_at (λ group change. change_old change column) list.now position }
+) -> Option<ValueRef<'_>>
+    ensures { field_of result ≡ entry_at (λ group change. change_old change column) list.now position }
 {
     match list.groups().get(position.group) {
         Some(group) => match group.changes().get(position.change) {
-            Some(change) => change_old(change, column),
+            Some(change) => change_old(&change, column),
             None => None,
         },
         None => None,
@@ -162,12 +164,12 @@ fn new_in_changes(
     list: &ChangeList<Global>,
     position: Position,
     column: usize,
-) -> Option<&Value<Global>>
-    ensures { option_copied result ≡ entry_at (λ group change. change_new change column) list.now position }
+) -> Option<ValueRef<'_>>
+    ensures { field_of result ≡ entry_at (λ group change. change_new change column) list.now position }
 {
     match list.groups().get(position.group) {
         Some(group) => match group.changes().get(position.change) {
-            Some(change) => change_new(change, column),
+            Some(change) => change_new(&change, column),
             None => None,
         },
         None => None,
@@ -178,13 +180,13 @@ fn old_in_patches(
     list: &PatchList<Global>,
     position: Position,
     column: usize,
-) -> Option<&Value<Global>>
-    ensures { option_copied result
+) -> Option<ValueRef<'_>>
+    ensures { field_of result
         ≡ entry_at (λ group patch. patch_old group.schema patch column) list.now position }
 {
     match list.groups().get(position.group) {
         Some(group) => match group.changes().get(position.change) {
-            Some(patch) => patch_old(group.schema(), patch, column),
+            Some(patch) => patch_old(group.schema(), &patch, column),
             None => None,
         },
         None => None,
@@ -195,71 +197,71 @@ fn new_in_patches(
     list: &PatchList<Global>,
     position: Position,
     column: usize,
-) -> Option<&Value<Global>>
-    ensures { option_copied result
+) -> Option<ValueRef<'_>>
+    ensures { field_of result
         ≡ entry_at (λ group patch. patch_new group.schema patch column) list.now position }
 {
     match list.groups().get(position.group) {
         Some(group) => match group.changes().get(position.change) {
-            Some(patch) => patch_new(group.schema(), patch, column),
+            Some(patch) => patch_new(group.schema(), &patch, column),
             None => None,
         },
         None => None,
     }
 }
 
-fn change_old(change: &RowChange<Global>, column: usize) -> Option<&Value<Global>>
-    ensures { option_copied result ≡ change_old change.now column }
+fn change_old<'a>(change: &EntryRef<'a, RowChange<Global>>, column: usize) -> Option<ValueRef<'a>>
+    ensures { field_of result ≡ change_old change.now column }
 {
-    match change {
-        RowChange::Insert { .. } => None,
-        RowChange::Update { old, .. } => old.get(column),
-        RowChange::Delete { old, .. } => old.get(column),
+    match change.read() {
+        ChangeRef::Insert { .. } => None,
+        ChangeRef::Update { old, .. } => old.get(column),
+        ChangeRef::Delete { old, .. } => old.get(column),
     }
 }
 
-fn change_new(change: &RowChange<Global>, column: usize) -> Option<&Value<Global>>
-    ensures { option_copied result ≡ change_new change.now column }
+fn change_new<'a>(change: &EntryRef<'a, RowChange<Global>>, column: usize) -> Option<ValueRef<'a>>
+    ensures { field_of result ≡ change_new change.now column }
 {
-    match change {
-        RowChange::Insert { new, .. } => new.get(column),
-        RowChange::Update { new, .. } => new.get(column),
-        RowChange::Delete { .. } => None,
+    match change.read() {
+        ChangeRef::Insert { new, .. } => new.get(column),
+        ChangeRef::Update { new, .. } => new.get(column),
+        ChangeRef::Delete { .. } => None,
     }
 }
 
 fn patch_old<'a>(
     schema: &Schema<Global>,
-    patch: &'a Patch<Global>,
+    patch: &EntryRef<'a, Patch<Global>>,
     column: usize,
-) -> Option<&'a Value<Global>>
-    ensures { option_copied result ≡ patch_old schema.now patch.now column }
+) -> Option<ValueRef<'a>>
+    ensures { field_of result ≡ patch_old schema.now patch.now column }
 {
-    match patch {
-        Patch::Insert { .. } => None,
-        Patch::Update { new, .. } => if schema.is_key(column) {
+    match patch.read() {
+        PatchRef::Insert { .. } => None,
+        PatchRef::Update { new, .. } => if schema.is_key(column) {
             new.get(column)
         } else {
             None
         },
-        Patch::Delete { key, .. } => key.get(column),
+        PatchRef::Delete { key, .. } => key.get(column),
     }
 }
 
 fn patch_new<'a>(
     schema: &Schema<Global>,
-    patch: &'a Patch<Global>,
+    patch: &EntryRef<'a, Patch<Global>>,
     column: usize,
-) -> Option<&'a Value<Global>>
-    ensures { option_copied result ≡ patch_new schema.now patch.now column }
+) -> Option<ValueRef<'a>>
+    ensures { field_of result ≡ patch_new schema.now patch.now column }
 {
-    match patch {
-        Patch::Insert { new, .. } => new.get(column),
-        Patch::Update { new, .. } => if schema.is_key(column) {
+    match patch.read() {
+        PatchRef::Insert { new, .. } => new.get(column),
+        PatchRef::Update { new, .. } => if schema.is_key(column) {
             None
         } else {
             new.get(column)
         },
-        Patch::Delete { .. } => None,
+        PatchRef::Delete { .. } => None,
     }
 }

@@ -1,13 +1,15 @@
 //! The record of one side of a change.
 ghost use Rattle.std.specs.Prelude.{◌≡◌, ◌++◌, IfOk, OnOk};
-ghost use Rattle.std.specs.Option.{option_copied};
-ghost use Rattle.cap_codec.specs.Field.{field_bytes};
+ghost use Rattle.std.specs.Global.{Global};
+ghost use Rattle.cap_changes.specs.Field.{field_bytes};
+ghost use Rattle.cap_changes.specs.FieldReading.{field_of};
 ghost use Rattle.cap_connection.specs.Fields.{fields_before, side_at};
 
 use crate::iter_fields::{new_at, old_at};
 use crate::iter_position::Position;
-use cap_codec::{Contents, push_value};
-use cap_value::{OutOfMemory, Value};
+use cap_codec::Contents;
+use cap_field::{ValueRef, push_blob, push_int, push_null, push_text};
+use cap_value::OutOfMemory;
 use std::alloc::Global;
 
 /// The row before a change, or the row after it.
@@ -45,8 +47,8 @@ fn side_at(
     position: Position,
     side: Side,
     column: usize,
-) -> Option<&Value<Global>>
-    ensures { option_copied result ≡ side_at side contents.now position column }
+) -> Option<ValueRef<'_>>
+    ensures { field_of result ≡ side_at side contents.now position column }
 {
     match side {
         Side::Old => old_at(contents, position, column),
@@ -54,12 +56,14 @@ fn side_at(
     }
 }
 
-fn push_field(out: &mut Vec<u8, Global>, field: Option<&Value<Global>>) -> Result<(), OutOfMemory>
-    ensures { OnOk result (out.new.items ≡ out.old.items ++ field_bytes (option_copied field.entry)) }
+fn push_field(out: &mut Vec<u8, Global>, field: Option<ValueRef<'_>>) -> Result<(), OutOfMemory>
+    ensures { OnOk result (out.new.items ≡ out.old.items ++ field_bytes (field_of {A = Global} field.entry)) }
 {
     match field {
-        Some(value) => push_value(out, value)?,
-        None => out.push(UNDEFINED)?,
+        None => Ok(out.push(UNDEFINED)?),
+        Some(ValueRef::Null) => push_null(out),
+        Some(ValueRef::Int(number)) => push_int(out, number),
+        Some(ValueRef::Text(text)) => push_text(out, text),
+        Some(ValueRef::Blob(blob)) => push_blob(out, blob),
     }
-    Ok(())
 }

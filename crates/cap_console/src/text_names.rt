@@ -1,6 +1,8 @@
 //! The text of a blob with names for its columns.
 use crate::columns::{TableColumns, columns_of};
-use cap_changes::{Entry, FieldRecord, GroupList, Patch, RowChange, TableGroup};
+use cap_changes::{
+    ChangeRef, Entry, EntryRef, GroupList, Patch, PatchRef, RecordRef, RowChange, TableGroup,
+};
 use cap_codec::Contents;
 use cap_show::ValueText;
 use std::alloc::{AllocError, Global};
@@ -22,25 +24,35 @@ pub fn named_text(
 
 // What a group holds, as a line.
 trait NamedEntry: Entry {
-    fn push_line(&self, text: &mut String, names: &[String]) -> Result<(), AllocError>;
+    fn push_line(
+        change: &EntryRef<'_, Self>,
+        text: &mut String,
+        names: &[String],
+    ) -> Result<(), AllocError>
+    where
+        Self: Sized;
 }
 
 impl NamedEntry for RowChange<Global> {
-    fn push_line(&self, text: &mut String, names: &[String]) -> Result<(), AllocError> {
-        match self {
-            RowChange::Insert { indirect, new } => {
-                push_operation(text, "insert", *indirect)?;
+    fn push_line(
+        change: &EntryRef<'_, Self>,
+        text: &mut String,
+        names: &[String],
+    ) -> Result<(), AllocError> {
+        match change.read() {
+            ChangeRef::Insert { indirect, new } => {
+                push_operation(text, "insert", indirect)?;
                 push_record(text, new, names)?;
             }
-            RowChange::Update { indirect, old, new } => {
-                push_operation(text, "update", *indirect)?;
+            ChangeRef::Update { indirect, old, new } => {
+                push_operation(text, "update", indirect)?;
                 text.push_str("old ")?;
                 push_record(text, old, names)?;
                 text.push_str(" new ")?;
                 push_record(text, new, names)?;
             }
-            RowChange::Delete { indirect, old } => {
-                push_operation(text, "delete", *indirect)?;
+            ChangeRef::Delete { indirect, old } => {
+                push_operation(text, "delete", indirect)?;
                 push_record(text, old, names)?;
             }
         }
@@ -49,18 +61,22 @@ impl NamedEntry for RowChange<Global> {
 }
 
 impl NamedEntry for Patch<Global> {
-    fn push_line(&self, text: &mut String, names: &[String]) -> Result<(), AllocError> {
-        match self {
-            Patch::Insert { indirect, new } => {
-                push_operation(text, "insert", *indirect)?;
+    fn push_line(
+        change: &EntryRef<'_, Self>,
+        text: &mut String,
+        names: &[String],
+    ) -> Result<(), AllocError> {
+        match change.read() {
+            PatchRef::Insert { indirect, new } => {
+                push_operation(text, "insert", indirect)?;
                 push_record(text, new, names)?;
             }
-            Patch::Update { indirect, new } => {
-                push_operation(text, "update", *indirect)?;
+            PatchRef::Update { indirect, new } => {
+                push_operation(text, "update", indirect)?;
                 push_record(text, new, names)?;
             }
-            Patch::Delete { indirect, key } => {
-                push_operation(text, "delete", *indirect)?;
+            PatchRef::Delete { indirect, key } => {
+                push_operation(text, "delete", indirect)?;
                 push_record(text, key, names)?;
             }
         }
@@ -101,24 +117,26 @@ fn push_group<C: NamedEntry>(
     }
     text.push_str("\n")?;
     for change in group.changes() {
-        change.push_line(text, names)?;
+        C::push_line(&change, text, names)?;
     }
     Ok(())
 }
 
 fn push_record(
     text: &mut String,
-    of: &FieldRecord<Global>,
+    of: RecordRef<'_, Global>,
     names: &[String],
 ) -> Result<(), AllocError> {
     let mut before = "(";
-    for (column, field) in of.fields().iter().enumerate() {
+    let mut column = 0usize;
+    for field in of {
         if let Some(value) = field {
             text.push_str(before)?;
             push_name(text, column, names)?;
-            write!(text, "={}", ValueText::of(value))?;
+            write!(text, "={}", ValueText::<Global>::of_ref(value))?;
             before = ",";
         }
+        column = column.saturating_add(1);
     }
     if before == "(" {
         text.push_str("(")?;

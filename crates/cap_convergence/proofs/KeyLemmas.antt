@@ -15,8 +15,8 @@ use Rattle.cap_changes.specs.FieldRecord.{RecordFields}
 use Rattle.cap_changes.specs.Fits.{change_fits}
 use Rattle.cap_changes.specs.Group.{TableChanges}
 use Rattle.cap_changes.specs.Patch.{patch_of}
-use Rattle.cap_changes.specs.Requirements.{new_requirements, requirement_of, requirements, satisfy}
-use Rattle.cap_changes.specs.declared.record_kind.RecordKind.TheVariants.{Full, Keyed}
+use Rattle.cap_changes.specs.Requirements.{new_requirements, requirements, satisfy}
+use Rattle.cap_changes.specs.declared.record_kind.RecordKind.TheVariants.{Keyed}
 use Rattle.cap_changes.specs.declared.row_change.RowChange.{RowChange}
 use Rattle.cap_changes.specs.declared.row_change.RowChange.TheVariants.{Insert, Update, Delete}
 use Rattle.cap_changes.proofs.ChangeLemmas as captured
@@ -24,10 +24,10 @@ use Rattle.cap_changes.proofs.PatchLemmas.{update_fits}
 use Rattle.cap_codec.specs.Writable.{has_some}
 use Rattle.cap_apply.specs.Difference.{IsUnder}
 use Rattle.cap_apply.specs.Row as applied
+use Rattle.cap_apply.proofs.KeyLemmas.{change_has_key}
 use Rattle.cap_apply.proofs.RowLemmas.{record_key, update_key}
 use Rattle.cap_group.specs.ChangeKey.{change_key, key_values}
 use Rattle.cap_group.specs.Rows.{IsRowUnder, changes_of_row}
-use Rattle.cap_group.proofs.KeyLemmas.{key_is}
 use Rattle.cap_rebase.specs.Flag.{flagged}
 use Rattle.cap_captures.specs.Rows.{row_changes}
 
@@ -184,10 +184,9 @@ module _ {A : Type 0} where
   applied_key flags (Delete indirect old) fits = record_key flags old ∙ same_values flags old
 
   pub has_its_key : (flags : List Bool) (change : RowChange A) → has_key flags ≡ true → change_fits flags change ≡ true → is_key (change_key flags change) ≡ true
-  has_its_key flags (Insert indirect new) keyed fits = key_is (requirement_of Full) refl flags new fits keyed
-  has_its_key flags (Update indirect old new) keyed fits =
-      key_is (requirement_of Keyed) refl flags old (and_parts (satisfy (requirements Keyed flags) old) (satisfy (new_requirements flags old) new) fits).0 keyed
-  has_its_key flags (Delete indirect old) keyed fits = key_is (requirement_of Full) refl flags old fits keyed
+  has_its_key flags (Insert indirect new) keyed fits = ap is_key (sym (same_values flags new)) ∙ change_has_key flags (Insert indirect new) keyed fits
+  has_its_key flags (Update indirect old new) keyed fits = ap is_key (sym (same_values flags old)) ∙ change_has_key flags (Update indirect old new) keyed fits
+  has_its_key flags (Delete indirect old) keyed fits = ap is_key (sym (same_values flags old)) ∙ change_has_key flags (Delete indirect old) keyed fits
 
   pub flagged_key : (flags : List Bool) (flag : Bool) (change : RowChange A) → change_key flags (flagged flag change) ≡ change_key flags change
   flagged_key flags flag (Insert indirect new) = refl

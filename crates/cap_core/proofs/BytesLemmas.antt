@@ -19,7 +19,8 @@ use Rattle.cap_field.specs.declared.fault.BlobFault.{BlobFault}
 use Rattle.cap_codec.specs.declared.key_flags.KeyFlags.{KeyFlags}
 use Rattle.cap_codec.specs.declared.read.Contents.{Contents}
 use Rattle.cap_codec.specs.declared.read.Contents.TheVariants.{Changes, Patches}
-use Rattle.cap_codec.specs.Writable.{AreValues, HasNoEmptyGroup, HasValues, IsGroup, IsPatchGroup, IsWritable, PatchHasValues, blob_bytes_with, has_some, of_patches, with_some}
+use Rattle.cap_changes.specs.HasValues.{AreValues, HasValues, PatchHasValues}
+use Rattle.cap_codec.specs.Writable.{HasNoEmptyGroup, IsGroup, IsPatchGroup, IsWritable, blob_bytes_with, has_some, of_patches, with_some}
 use Rattle.cap_session.specs.Records.{Records}
 use Rattle.cap_session.specs.Session.{AttachedTables}
 use Rattle.cap_apply.specs.Apply.{apply}

@@ -12,8 +12,9 @@ use Rattle.cap_changes.specs.Column.{by_column}
 use Rattle.cap_changes.specs.Change.{change_of, new_field, old_field}
 use Rattle.cap_changes.specs.Group.{TableChanges}
 use Rattle.cap_codec.specs.declared.key_flags.KeyFlags.{KeyFlags}
-use Rattle.cap_codec.specs.Changeset.{change_bytes, changes_under, group_bytes, header_bytes, list_bytes_with}
-use Rattle.cap_codec.specs.Touched.{is_changed}
+use Rattle.cap_changes.specs.ChangeBytes.{change_bytes}
+use Rattle.cap_codec.specs.Changeset.{changes_under, group_bytes, header_bytes, list_bytes_with}
+use Rattle.cap_changes.specs.Touched.{is_changed}
 use Rattle.cap_core.specs.Capture.{group_of}
 use Rattle.cap_core.specs.Code.ChangesetBytes.{behind, header_unless}
 

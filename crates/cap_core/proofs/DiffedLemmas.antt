@@ -181,10 +181,10 @@ module _ {A : Type 0} where
   record-after-command : (session : ℕ) (c : Command A) (now : SnapshotState A) (databases : Databases A) (s : SessionState A) (name : List ℕ) (key : Fields A) → is_write c ≡ false → renews session c ≡ false
       → record_of (session_after session c now databases s).tables name key ≡ record_of s.tables name key
   record-after-command session c now databases s name key writes renewed =
-      let commit : Result (Effect A) Refused → SessionState A = λ r. record_commit now.database (changes_shown session c (effect_of now.database r).changes) s in
+      let commit : Result (Effect A) Refused → SessionState A = λ r. record_commit (changes_shown session c (effect_of now.database r).changes) s in
       elim (speaks_to session c) as (λ b. speaks_to session c ≡ b → record_of (cond b (unwrap_or (session_left now.database databases c s) s) (commit (outcome now c))).tables name key ≡ record_of s.tables name key) [
         | true ↦ λ speaks. left-records session c now.database databases s name key speaks renewed
-        | false ↦ λ _. ap (λ r. record_of (commit r).tables name key) (leaves-tables now c writes) ∙ ap (λ changes. record_of (record_commit now.database changes s).tables name key) (shown-none session c [] refl) ∙ ap (λ t. record_of t.tables name key) (record_commit-nothing now.database s)
+        | false ↦ λ _. ap (λ r. record_of (commit r).tables name key) (leaves-tables now c writes) ∙ ap (λ changes. record_of (record_commit changes s).tables name key) (shown-none session c [] refl) ∙ ap (λ t. record_of t.tables name key) (record_commit-nothing s)
       ] refl
 
   quiet-record : (session : ℕ) (past : Past A) (event : Event A) (name : List ℕ) (key : Fields A) → (is_accepted event.reply && (is_write event.command || renews session event.command)) ≡ false
@@ -296,7 +296,7 @@ module _ {A : Type 0} where
     after-is =
         ap (λ s. s.tables) (session-of-command past event session d.accepted
         ∙ ap (λ c. session_after session c (snapshot past) (saved past) (session_of past session)) d.diffs
-        ∙ ap (λ b. cond b (compared name (diff (main past) (saved past) d.from name) (session_of past session)) (record_commit (main past) [] (session_of past session))) (same_number session)
+        ∙ ap (λ b. cond b (compared name (diff (main past) (saved past) d.from name) (session_of past session)) (record_commit [] (session_of past session))) (same_number session)
         ∙ ap (λ r. compared name r (session_of past session)) made.is)
 
     none-before : (other : List ℕ) (key : Fields A) → record_of (attach name before) other key ≡ None

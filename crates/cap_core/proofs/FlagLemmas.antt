@@ -187,12 +187,12 @@ module _ {A : Type 0} where
   -- what the command makes of a session, by the tables and the saved databases before it and the session as it was
   abbrev pub session_after : ℕ → Command A → SnapshotState A → Databases A → SessionState A → SessionState A
   session_after number c now saved session =
-      cond (speaks_to number c) (unwrap_or (session_left now.database saved c session) session) (record_commit now.database (changes_shown number c (effect_of now.database (outcome now c)).changes) session)
+      cond (speaks_to number c) (unwrap_or (session_left now.database saved c session) session) (record_commit (changes_shown number c (effect_of now.database (outcome now c)).changes) session)
 
   done-session : (past : Past A) (number : ℕ) (c : Command A) → session_of (done c ∷ past) number ≡ session_after number c (snapshot past) (saved past) (session_of past number)
   done-session past number c =
       elim (speaks_to number c) as (λ b. speaks_to number c ≡ b → session_of (done c ∷ past) number
-      ≡ cond b (unwrap_or (session_left (main past) (saved past) c (session_of past number)) (session_of past number)) (record_commit (main past) (changes_shown number c (effect_of (main past) (outcome (snapshot past) c)).changes) (session_of past number))) [
+      ≡ cond b (unwrap_or (session_left (main past) (saved past) c (session_of past number)) (session_of past number)) (record_commit (changes_shown number c (effect_of (main past) (outcome (snapshot past) c)).changes) (session_of past number))) [
         | true ↦ λ is. here past number c (named_number number (session_named c) is)
         | false ↦ λ is. session-elsewhere number (done c) past is
       ] refl

@@ -15,7 +15,8 @@ use Rattle.cap_database.specs.Read.{row_at}
 use Rattle.cap_database.specs.declared.change.Change.{Change}
 use Rattle.cap_compare.specs.declared.difference.Difference.{Difference}
 use Rattle.cap_session.specs.declared.rule.AutomaticRule.{AutomaticRule}
-use Rattle.cap_session.specs.Recording.{attach_by, is_cascade, touches_of as told_by}
+use Rattle.cap_session.specs.Recording.{attach_by, is_cascade}
+use Rattle.cap_core.proofs.CarriedLemmas.{told_by}
 use Rattle.cap_session.specs.Records.{Records}
 use Rattle.cap_session.specs.Session.{AttachedTables, accepts_by, attach}
 use Rattle.cap_core.specs.Flags.{changes_shown, is_enabled, is_indirect, rule as rule_of}

@@ -26,7 +26,7 @@ use Rattle.cap_database.specs.Read.{row_at}
 use Rattle.cap_database.specs.Tables.{Tables, table_of}
 use Rattle.cap_database.specs.declared.cause.Cause.TheVariants.{Direct}
 use Rattle.cap_session.specs.declared.record.Record.{Record}
-use Rattle.cap_session.specs.Recording.{touches_of as told_by}
+use Rattle.cap_core.proofs.CarriedLemmas.{told_by}
 use Rattle.cap_session.specs.Records.{Records, record_after, touch as with_touch, with_touches}
 use Rattle.cap_core.specs.declared.command.Command.{Command}
 use Rattle.cap_core.specs.declared.event.Event.{Event}
@@ -136,7 +136,7 @@ module _ {A : Type 0} where
   abbrev insertion : Tables A → List ℕ → TableState A → Fields A → Fields A → Effect A
   insertion tables name table key row = record {
     database = put_entry bytes_cmp tables name (with_key table key row);
-    changes = record { table = name; key = Some key; cause = Direct } ∷ [];
+    changes = record { table = name; key = Some key; cause = Direct; before = None } ∷ [];
     report = None;
   }
 
@@ -147,7 +147,7 @@ module _ {A : Type 0} where
 
   -- one insert of a row that has this key, which left this of its table
   abbrev ran : Tables A → List ℕ → Option (Fields A) → Result (TableState A) Refusal → Result (Effect A) Why
-  ran tables name own after = made (and_then (changes_to name Direct (own ∷ [])) (in_place tables name after) (λ next. run next []))
+  ran tables name own after = made (and_then (changes_to name Direct ((own, None) ∷ [])) (in_place tables name after) (λ next. run next []))
 
   module _ (state : State A) (tables : Tables A) (name : List ℕ) (table : TableState A) (key row : Fields A) where
     keyed_inserted : is_accepted (write_reply state (ran tables name (Some key) (placed table row (Some key)))) ≡ true → WasInserted tables name table key row (ran tables name (Some key) (placed table row (Some key)))

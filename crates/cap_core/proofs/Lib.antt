@@ -3,6 +3,7 @@ pub mod AppliedCaptureLemmas
 pub mod BytesLemmas
 pub mod CanCaptureLemmas
 pub mod ChangesetBytesLemmas
+pub mod CarriedLemmas
 pub mod CommitLemmas
 pub mod Crossing
 pub mod DiffLemmas

@@ -3,16 +3,7 @@ use Rattle.std.proofs.Common.{◌≡◌, ◌<◌, ◌+◌, ℕ, List, [], ◌∷
 use Rattle.std.proofs.lemmas.List.{map-append}
 use Rattle.std.proofs.Math.Seq.{take-suc}
 
-module _ {X Y Z : Type 0} (see : X → Y) (list : Y → Z) where
-  -- one more that is listed
-  pub list-more : (listed : List Z) (xs : List X) (i : ℕ) (item : X) (one : Z) → i < length xs → item ≡ get_or xs i item → one ≡ list (see item) → listed ≡ map list (map see (take i xs))
-      → listed ++ one ∷ [] ≡ map list (map see (take (i + 1) xs))
-  list-more listed xs i item one lt is same sofar =
-      ap₂ (λ a b. a ++ b ∷ []) sofar (same ∙ ap (λ x. list (see x)) is)
-      ∙ sym (ap (λ n. map list (map see (take n xs))) (add-one i) ∙ ap (λ t. map list (map see t)) (take-suc xs i item lt)
-      ∙ ap (map list) (map-append see (take i xs) (get_or xs i item ∷ [])) ∙ map-append list (map see (take i xs)) (see (get_or xs i item) ∷ []))
-
--- one more that is listed as it is
+-- one more that is listed
 pub list-each : {X Z : Type 0} (list : X → Z) (listed : List Z) (xs : List X) (i : ℕ) (item : X) (one : Z) → i < length xs → item ≡ get_or xs i item → one ≡ list item → listed ≡ map list (take i xs)
     → listed ++ one ∷ [] ≡ map list (take (i + 1) xs)
 list-each list listed xs i item one lt same is sofar =

@@ -73,7 +73,7 @@ module _ {A : Type 0} where
       let changes = changes_shown number event.command (event_effect (snapshot past) event).changes in (
         elim (speaks_to number event.command) as (λ b. speaks_to number event.command ≡ b → session_of (event ∷ past) number ≡ new_session) [
           | true ↦ λ speaks. session-refused number event past (ap is_accepted legal.0 ∙ unknown-refused (state_after past) number none event.command speaks) ∙ known.0
-          | false ↦ λ apart. session-elsewhere number event past apart ∙ ap (record_commit (main past) changes) known.0 ∙ record_commit-new (main past) changes
+          | false ↦ λ apart. session-elsewhere number event past apart ∙ ap (record_commit changes) known.0 ∙ record_commit-new changes
         ] refl,
         ap (λ reply. (is_accepted reply && drops number event.command) || is_dropped past number) legal.0
             ∙ ap₂ (λ a b. a || b) (unknown-stays (state_after past) number none event.command) known.1,
@@ -111,9 +111,9 @@ module _ {A : Type 0} where
       → written (state_after past) effect.database effect.changes (quiet_sessions event.command) ≡ state_after (event ∷ past)
   next-written past event effect write accepted is =
       let effected : event_effect (snapshot past) event ≡ effect = λ i. cond (accepted i) (effect_of (main past) (is i)) (no_effect (main past)) in
-      let recorded : (number : ℕ) → cond (is_quiet number event.command) (session_of past number) (record_commit (main past) effect.changes (session_of past number)) ≡ session_of (event ∷ past) number =
-      λ number. shown-recorded (main past) effect.changes (is_quiet number event.command) (session_of past number)
-      ∙ sym (session-elsewhere number event past (write.speaks number) ∙ ap (λ e. record_commit (main past) (changes_shown number event.command e.changes) (session_of past number)) effected) in
+      let recorded : (number : ℕ) → cond (is_quiet number event.command) (session_of past number) (record_commit effect.changes (session_of past number)) ≡ session_of (event ∷ past) number =
+      λ number. shown-recorded effect.changes (is_quiet number event.command) (session_of past number)
+      ∙ sym (session-elsewhere number event past (write.speaks number) ∙ ap (λ e. record_commit (changes_shown number event.command e.changes) (session_of past number)) effected) in
       let made : sessions_made (event ∷ past) ≡ sessions_made past = λ i. cond (accepted i && write.makes i) (sessions_made past + 1) (sessions_made past) in
       let live : live_sessions (event ∷ past) ≡ live_sessions past = λ i. filter (λ number. not ((accepted i && write.drops number i) || is_dropped past number)) (range_with_len 1 (made i)) in
       same_state _ _ (add-one (length past))
@@ -121,7 +121,7 @@ module _ {A : Type 0} where
       (sym (λ i. cond (accepted i && write.writes i) (version past + 1) (version past)))
       (sym (λ i. cond (accepted i) (write.saves (main past) (saved past) i) (saved past)))
       (sym made)
-      (map-map (λ session. (session.0, cond (is_quiet session.0 event.command) session.1 (record_commit (main past) effect.changes session.1))) (λ number. (number, session_of past number)) (live_sessions past)
+      (map-map (λ session. (session.0, cond (is_quiet session.0 event.command) session.1 (record_commit effect.changes session.1))) (λ number. (number, session_of past number)) (live_sessions past)
       ∙ (λ i. map (λ number. (number, recorded number i)) (live_sessions past))
       ∙ ap (numbered (session_of (event ∷ past))) (sym live))
 

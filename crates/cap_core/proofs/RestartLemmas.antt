@@ -25,7 +25,8 @@ use Rattle.cap_apply.specs.Captured.{AllBefore, AllDiffer, GivesAllRowsNow, Tabl
 use Rattle.cap_apply.specs.declared.policy.Policy.{Policy}
 use Rattle.cap_database.specs.Tables.{AreRising, Tables, create, schema_of, table_of}
 use Rattle.cap_database.specs.declared.change.Change.{Change}
-use Rattle.cap_session.specs.Recording.{is_cascade, touches_of as told_by}
+use Rattle.cap_session.specs.Recording.{is_cascade}
+use Rattle.cap_core.proofs.CarriedLemmas.{told_by}
 use Rattle.cap_session.specs.declared.record.Record.{Record}
 use Rattle.cap_session.specs.Records.{Records, Touch as RowTouch}
 use Rattle.cap_session.specs.Session.{AttachedTables, record_of, records_of as attached_records}
@@ -34,7 +35,8 @@ use Rattle.cap_core.specs.declared.command.Command.TheVariants as command
 use Rattle.cap_core.specs.declared.event.Event.{Event}
 use Rattle.cap_core.specs.Flags.{is_enabled, is_indirect, is_quiet}
 use Rattle.cap_core.specs.History.{event_effect, is_write, main, snapshot}
-use Rattle.cap_core.specs.Outcome.{Effect, is_of_row, no_effect}
+use Rattle.cap_core.specs.Outcome.{Effect, no_effect}
+use Rattle.cap_database.specs.Carried.{is_of_row}
 use Rattle.cap_core.specs.Past.{Past, is_accepted}
 use Rattle.cap_core.specs.Capture.{session_changes}
 use Rattle.cap_core.specs.AppliedCapture.{AppliesWhole, HoldsImages, but_keyed, changes_in}

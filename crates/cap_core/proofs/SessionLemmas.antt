@@ -10,7 +10,8 @@ use Rattle.cap_database.specs.Snapshot.{SnapshotState}
 use Rattle.cap_database.specs.Tables.{Tables}
 use Rattle.cap_database.specs.declared.change.Change.{Change}
 use Rattle.cap_session.specs.declared.rule.AutomaticRule.TheVariants.{Nothing}
-use Rattle.cap_session.specs.Recording.{attach_by, attach_by_rule, record_commit, touch_tables, touches_of as told_by}
+use Rattle.cap_session.specs.Recording.{attach_by, attach_by_rule, record_commit, touch_tables, touches_of as carried_by}
+use Rattle.cap_core.proofs.CarriedLemmas.{carried-told, event-carries, shown-carries, told_by}
 use Rattle.cap_session.specs.Records.{Records, Touch as RowTouch, with_touches}
 use Rattle.cap_session.specs.Session.{AttachedTables, SessionState, new_session}
 use Rattle.cap_core.specs.declared.command.Command.{Command}
@@ -123,14 +124,20 @@ module _ {A : Type 0} where
           ∙ records_of-append (touches_of name (touches session past)) (touches_of name touched)
           ∙ ap (with_touches (kept past session name)) (told-on name listed)
 
-      tables-on : (session_of (event ∷ past) session).tables ≡ touch_tables (main past) (is_indirect session past) changes_made (attach_by_rule (rule_of session past) changes_made (session_of past session).tables)
+      -- the rows that the changes carry are the rows before the event, where they come first
+      recorded-on : (name : List ℕ) → is_among name (attach_list session (event ∷ past)) ≡ true → kept (event ∷ past) session name ≡ with_touches (kept past session name) (carried_by (is_indirect session past) name changes_made)
+      recorded-on name listed =
+          kept-on name listed
+          ∙ sym (carried-told (main past) (is_indirect session past) name changes_made (kept past session name) (shown-carries (main past) (event_effect (snapshot past) event).changes session event.command (event-carries (snapshot past) event) name))
+
+      tables-on : (session_of (event ∷ past) session).tables ≡ touch_tables (is_indirect session past) changes_made (attach_by_rule (rule_of session past) changes_made (session_of past session).tables)
       tables-on =
-          let more : List ℕ → List ℕ × Records A = λ name. (name, with_touches (kept past session name) (told_of_table name)) in
+          let more : List ℕ → List ℕ × Records A = λ name. (name, with_touches (kept past session name) (carried_by (is_indirect session past) name changes_made)) in
           let pushed = fold (push_by (rule_of session past)) names_before (map (λ change. change.table) changes_made) in
-          map-listed (λ name. (name, kept (event ∷ past) session name)) more (attach_list session (event ∷ past)) (λ name listed. ap (λ records. (name, records)) (kept-on name listed))
+          map-listed (λ name. (name, kept (event ∷ past) session name)) more (attach_list session (event ∷ past)) (λ name listed. ap (λ records. (name, records)) (recorded-on name listed))
           ∙ ap (map more) list-on
-          ∙ sym (map-map (λ attached. (attached.0, with_touches attached.1 (told_of_table attached.0))) (λ name. (name, kept past session name)) pushed)
-          ∙ sym (ap (touch_tables (main past) (is_indirect session past) changes_made) (attach_by-named (rule_of session past) (kept past session) (map (λ change. change.table) changes_made) names_before (kept-none past session)))
+          ∙ sym (map-map (λ attached. (attached.0, with_touches attached.1 (carried_by (is_indirect session past) attached.0 changes_made))) (λ name. (name, kept past session name)) pushed)
+          ∙ sym (ap (touch_tables (is_indirect session past) changes_made) (attach_by-named (rule_of session past) (kept past session) (map (λ change. change.table) changes_made) names_before (kept-none past session)))
 
     tables-off : is_enabled session past ≡ false → (session_of (event ∷ past) session).tables ≡ (session_of past session).tables
     tables-off off =
@@ -144,9 +151,9 @@ module _ {A : Type 0} where
 
     -- the tables of a session after an event that is silent to it
     pub tables-silent : (session_of (event ∷ past) session).tables
-        ≡ cond (is_enabled session past) (touch_tables (main past) (is_indirect session past) changes_made (attach_by_rule (rule_of session past) changes_made (session_of past session).tables)) (session_of past session).tables
+        ≡ cond (is_enabled session past) (touch_tables (is_indirect session past) changes_made (attach_by_rule (rule_of session past) changes_made (session_of past session).tables)) (session_of past session).tables
     tables-silent =
-        let staged = touch_tables (main past) (is_indirect session past) changes_made (attach_by_rule (rule_of session past) changes_made (session_of past session).tables) in
+        let staged = touch_tables (is_indirect session past) changes_made (attach_by_rule (rule_of session past) changes_made (session_of past session).tables) in
         elim (is_enabled session past) as (λ b. is_enabled session past ≡ b → (session_of (event ∷ past) session).tables ≡ cond b staged (session_of past session).tables) [
           | true ↦ λ on. tables-on on
           | false ↦ λ off. tables-off off
@@ -154,14 +161,14 @@ module _ {A : Type 0} where
 
   -- ---- recording changes
 
-  record_commit-is : (before : Tables A) (changes : List (Change A)) (s : SessionState A)
-      → record_commit before changes s ≡ record s { tables = cond s.enabled (touch_tables before s.indirect changes (attach_by_rule s.rule changes s.tables)) s.tables }
-  record_commit-is before changes s =
-      let tables = touch_tables before s.indirect changes (attach_by_rule s.rule changes s.tables) in
+  record_commit-is : (changes : List (Change A)) (s : SessionState A)
+      → record_commit changes s ≡ record s { tables = cond s.enabled (touch_tables s.indirect changes (attach_by_rule s.rule changes s.tables)) s.tables }
+  record_commit-is changes s =
+      let tables = touch_tables s.indirect changes (attach_by_rule s.rule changes s.tables) in
       elim s.enabled as (λ b. cond b (record s { tables = tables }) s ≡ record s { tables = cond b tables s.tables }) [ true ↦ refl | false ↦ refl ]
 
-  pub record_commit-nothing : (before : Tables A) (s : SessionState A) → record_commit before [] s ≡ s
-  record_commit-nothing before s =
+  pub record_commit-nothing : (s : SessionState A) → record_commit [] s ≡ s
+  record_commit-nothing s =
       ap (λ tables. cond s.enabled (record s { tables = tables }) s) (map-same s.tables) ∙ cond-same s.enabled s
 
   attach_by-nothing : (names : List (List ℕ)) (tables : AttachedTables A) → fold (attach_by Nothing) tables names ≡ tables
@@ -169,25 +176,25 @@ module _ {A : Type 0} where
   attach_by-nothing (name ∷ names) tables = attach_by-nothing names tables
 
   -- a new session attaches nothing, so that no change touches it
-  pub record_commit-new : (before : Tables A) (changes : List (Change A)) → record_commit before changes new_session ≡ new_session
-  record_commit-new before changes =
-      ap (λ tables. record new_session { tables = touch_tables before false changes tables }) (attach_by-nothing (map (λ change. change.table) changes) [])
+  pub record_commit-new : (changes : List (Change A)) → record_commit changes new_session ≡ new_session
+  record_commit-new changes =
+      ap (λ tables. record new_session { tables = touch_tables false changes tables }) (attach_by-nothing (map (λ change. change.table) changes) [])
 
   -- no changes are none to each session
   pub shown-none : (session : ℕ) (c : Command A) (changes : List (Change A)) → changes ≡ [] → changes_shown session c changes ≡ []
   shown-none session c changes none = ap (cond (is_quiet session c) []) none ∙ cond-same (is_quiet session c) []
 
   -- a session that is shown none stays as it is
-  pub shown-recorded : (before : Tables A) (changes : List (Change A)) (quiet : Bool) (s : SessionState A) → cond quiet s (record_commit before changes s) ≡ record_commit before (cond quiet [] changes) s
-  shown-recorded before changes true s = sym (record_commit-nothing before s)
-  shown-recorded before changes false s = refl
+  pub shown-recorded : (changes : List (Change A)) (quiet : Bool) (s : SessionState A) → cond quiet s (record_commit changes s) ≡ record_commit (cond quiet [] changes) s
+  shown-recorded changes true s = sym (record_commit-nothing s)
+  shown-recorded changes false s = refl
 
   pub tables-quiet : (session : ℕ) (event : Event A) (past : Past A) → IsSilent session event past → (event_effect (snapshot past) event).changes ≡ []
       → (session_of (event ∷ past) session).tables ≡ (session_of past session).tables
   tables-quiet session event past silent none =
       let tables = (session_of past session).tables in
       tables-silent session event past silent
-      ∙ ap (λ changes. cond (is_enabled session past) (touch_tables (main past) (is_indirect session past) changes (attach_by_rule (rule_of session past) changes tables)) tables) (shown-none session event.command _ none)
+      ∙ ap (λ changes. cond (is_enabled session past) (touch_tables (is_indirect session past) changes (attach_by_rule (rule_of session past) changes tables)) tables) (shown-none session event.command _ none)
       ∙ ap (λ same. cond (is_enabled session past) same tables) (map-same tables)
       ∙ cond-same (is_enabled session past) tables
 
@@ -199,10 +206,10 @@ module _ {A : Type 0} where
     pub rule : rule_of session (event ∷ past) ≡ rule_of session past
 
   pub session-recorded : (session : ℕ) (event : Event A) (past : Past A) → IsSilent session event past → KeepsFlags session event past
-      → session_of (event ∷ past) session ≡ record_commit (main past) (changes_shown session event.command (event_effect (snapshot past) event).changes) (session_of past session)
+      → session_of (event ∷ past) session ≡ record_commit (changes_shown session event.command (event_effect (snapshot past) event).changes) (session_of past session)
   session-recorded session event past silent flags =
       same_session _ _ flags.enabled flags.indirect flags.rule (tables-silent session event past silent)
-      ∙ sym (record_commit-is (main past) (changes_shown session event.command (event_effect (snapshot past) event).changes) (session_of past session))
+      ∙ sym (record_commit-is (changes_shown session event.command (event_effect (snapshot past) event).changes) (session_of past session))
 
   -- the command is to the session
   abbrev pub speaks_to : ℕ → Command A → Bool
@@ -301,14 +308,14 @@ module _ {A : Type 0} where
   pub session-quiet : (session : ℕ) (event : Event A) (past : Past A) → IsSilent session event past → KeepsFlags session event past → (event_effect (snapshot past) event).changes ≡ []
       → session_of (event ∷ past) session ≡ session_of past session
   session-quiet session event past silent flags none =
-      session-recorded session event past silent flags ∙ ap (λ changes. record_commit (main past) changes (session_of past session)) (shown-none session event.command _ none) ∙ record_commit-nothing (main past) (session_of past session)
+      session-recorded session event past silent flags ∙ ap (λ changes. record_commit changes (session_of past session)) (shown-none session event.command _ none) ∙ record_commit-nothing (session_of past session)
 
   pub session-refused : (session : ℕ) (event : Event A) (past : Past A) → is_accepted event.reply ≡ false → session_of (event ∷ past) session ≡ session_of past session
   session-refused session event past refused =
       session-quiet session event past (silent-refused session event past refused) (flags-refused session event past refused) (ap (λ effect. effect.changes) (effect-refused event (snapshot past) refused))
 
   pub session-elsewhere : (session : ℕ) (event : Event A) (past : Past A) → speaks_to session event.command ≡ false
-      → session_of (event ∷ past) session ≡ record_commit (main past) (changes_shown session event.command (event_effect (snapshot past) event).changes) (session_of past session)
+      → session_of (event ∷ past) session ≡ record_commit (changes_shown session event.command (event_effect (snapshot past) event).changes) (session_of past session)
   session-elsewhere session event past is = session-recorded session event past (silent-elsewhere session event past is) (flags-elsewhere session event past is)
 
   -- a command that leaves a session as it is
@@ -320,5 +327,5 @@ module _ {A : Type 0} where
   pub quiet-stays : (past : Past A) (event : Event A) (session : ℕ) → is_quiet session event.command ≡ true → session_of (event ∷ past) session ≡ session_of past session
   quiet-stays past event session is =
       session-elsewhere session event past (quiet-elsewhere session event.command is)
-      ∙ ap (λ b. record_commit (main past) (cond b [] (event_effect (snapshot past) event).changes) (session_of past session)) is
-      ∙ record_commit-nothing (main past) (session_of past session)
+      ∙ ap (λ b. record_commit (cond b [] (event_effect (snapshot past) event).changes) (session_of past session)) is
+      ∙ record_commit-nothing (session_of past session)

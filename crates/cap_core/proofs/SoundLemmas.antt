@@ -1,5 +1,5 @@
 -- Images that stand under their own keys: after what changes sessions, and where one is found.
-use Rattle.std.proofs.Common.{◌≡◌, ℕ, ◌+◌, ◌<◌, Bool, true, false, cond, Option, Some, None, List, [], ◌∷◌, ◌&&◌, ◌||◌, ◌++◌, map, length, refl, sym, ap, ap₂, subst, ◌∙◌, arith, not, Ordering, Less, Equal, Greater, IsTrue, Bor, Result, Ok, Err, get_or, take, drop, drop-cons, add-one, nat_eq}
+use Rattle.std.proofs.Common.{◌≡◌, ℕ, ◌+◌, ◌<◌, Bool, true, false, cond, Option, Some, None, List, [], ◌∷◌, ◌&&◌, ◌||◌, ◌++◌, map, length, refl, sym, ap, ap₂, subst, ◌∙◌, arith, not, Ordering, Less, Equal, Greater, IsTrue, Bor, Result, Ok, get_or, take, drop, drop-cons, add-one, nat_eq}
 use Rattle.std.specs.Prelude.{IfSome, IfOk, nat_le, is_some, filter_map, option_and_then}
 use Rattle.std.specs.Option.{option_copied, option_map}
 use Rattle.std.specs.List.{cons_option, list_all, list_any}
@@ -15,8 +15,8 @@ use Rattle.cap_value.specs.Value.{is_null}
 use Rattle.cap_row.specs.Fields.{Fields}
 use Rattle.cap_row.specs.Key.{fields_cmp, fields_cmp-Equal, key_of, key_from, key_fields}
 use Rattle.cap_row.specs.Schema.{has_key}
-use Rattle.cap_changes.specs.Change.{IsKeyedRow, change_of}
-use Rattle.cap_changes.specs.declared.row_change.RowChange.{RowChange}
+use Rattle.cap_changes.specs.Change.{IsKeyedRow}
+use Rattle.cap_changes.specs.Touched.{is_changed}
 use Rattle.cap_compare.specs.declared.difference.Difference.{Difference}
 use Rattle.cap_table.specs.Sound.{IsRising, IsTable, is_key_of, keyed_stands}
 use Rattle.cap_table.specs.Table.{TableState}
@@ -30,7 +30,9 @@ use Rattle.cap_database.specs.declared.op.Op.{Op}
 use Rattle.cap_database.proofs.KeptLemmas.{each-found}
 use Rattle.cap_session.specs.declared.record.Record.{Record}
 use Rattle.cap_session.specs.declared.rule.AutomaticRule.{AutomaticRule}
-use Rattle.cap_session.specs.Recording.{attach_by, attach_by_rule, is_cascade, record_commit, record_diff, touch_of, touch_tables, touches_found, touches_of}
+use Rattle.cap_session.specs.Recording.{attach_by, attach_by_rule, is_cascade, record_commit, record_diff, touch_tables, touches_found, touches_of}
+use Rattle.cap_core.proofs.CarriedLemmas.{carried-told, told_by, told_of}
+use Rattle.cap_database.specs.Carried.{CarryFirstRows}
 use Rattle.cap_session.specs.Records.{Records, Touch, record_after, touch, with_touches}
 use Rattle.cap_session.specs.Session.{AttachedTables, SessionState, accepts_by, attach, forget, is_listed, new_session}
 use Rattle.cap_session.specs.Sessions.{NumberedSessions, is_one_of, record_commit_each, session_numbered, with_session, without_session}
@@ -148,8 +150,8 @@ module _ {A : Type 0} where
       inner None is = refl
       inner (Some table) is = let rising = each-found IsRising before name table rises is in found table rising.stand (get fields_cmp table.keyed key) refl
 
-  touch_of-stands : (before : Tables A) → EachRises before → (indirect : Bool) (name : List ℕ) (change : Change A) → IfSome (touch_of before indirect name change) (λ t. touch_stands (schema_of before name) t ≡ true)
-  touch_of-stands before rises indirect name change =
+  told_of-stands : (before : Tables A) → EachRises before → (indirect : Bool) (name : List ℕ) (change : Change A) → IfSome (told_of before indirect name change) (λ t. touch_stands (schema_of before name) t ≡ true)
+  told_of-stands before rises indirect name change =
       elim (bytes_eq name change.table) as (λ b. IfSome (cond b (option_map (λ key. let t : Touch A = record { key = key; image = row_at before name key; indirect = indirect || is_cascade change.cause } in t) change.key) None) (λ t. touch_stands (schema_of before name) t ≡ true)) [
         | true ↦ keyed change.key
         | false ↦ tt
@@ -159,16 +161,18 @@ module _ {A : Type 0} where
       keyed None = tt
       keyed (Some key) = image_before before rises name key
 
-  touches_of-stand : (before : Tables A) → EachRises before → (indirect : Bool) (name : List ℕ) (changes : List (Change A)) → list_all (touch_stands (schema_of before name)) (touches_of before indirect name changes) ≡ true
-  touches_of-stand before rises indirect name changes = list_all-filter_map (touch_stands (schema_of before name)) (touch_of before indirect name) (touch_of-stands before rises indirect name) changes
+  told_by-stand : (before : Tables A) → EachRises before → (indirect : Bool) (name : List ℕ) (changes : List (Change A)) → list_all (touch_stands (schema_of before name)) (told_by before indirect name changes) ≡ true
+  told_by-stand before rises indirect name changes = list_all-filter_map (touch_stands (schema_of before name)) (told_of before indirect name) (told_of-stands before rises indirect name) changes
 
   -- ---- what changes a session
 
-  touch_tables-stand : (before : Tables A) → EachRises before → (indirect : Bool) (changes : List (Change A)) (tables : AttachedTables A) → tables_stand before tables ≡ true → tables_stand before (touch_tables before indirect changes tables) ≡ true
-  touch_tables-stand before rises indirect changes =
+  touch_tables-stand : (before : Tables A) → EachRises before → (indirect : Bool) (changes : List (Change A)) → CarryFirstRows before changes → (tables : AttachedTables A) → tables_stand before tables ≡ true → tables_stand before (touch_tables indirect changes tables) ≡ true
+  touch_tables-stand before rises indirect changes carry =
       list_all-map (λ attached. records_stand (schema_of before attached.0) attached.1) (λ attached. records_stand (schema_of before attached.0) attached.1)
-      (λ attached. (attached.0, with_touches attached.1 (touches_of before indirect attached.0 changes)))
-      (λ attached all. with_touches-stand (schema_of before attached.0) (touches_of before indirect attached.0 changes) attached.1 (touches_of-stand before rises indirect attached.0 changes) all)
+      (λ attached. (attached.0, with_touches attached.1 (touches_of indirect attached.0 changes)))
+      (λ attached all.
+      ap (records_stand (schema_of before attached.0)) (carried-told before indirect attached.0 changes attached.1 (carry attached.0))
+      ∙ with_touches-stand (schema_of before attached.0) (told_by before indirect attached.0 changes) attached.1 (told_by-stand before rises indirect attached.0 changes) all)
 
   pub attach-stands : (database : Tables A) (name : List ℕ) (tables : AttachedTables A) → tables_stand database tables ≡ true → tables_stand database (attach name tables) ≡ true
   attach-stands database name tables all =
@@ -189,22 +193,22 @@ module _ {A : Type 0} where
   attach_by_rule-stands database rule (change ∷ changes) tables all =
       attach_by_rule-stands database rule changes (attach_by rule tables change.table) (attach_by-stands database rule change.table tables all)
 
-  record_commit-stands : (before : Tables A) → EachRises before → (changes : List (Change A)) (session : SessionState A) → session_stands before session ≡ true → session_stands before (record_commit before changes session) ≡ true
-  record_commit-stands before rises changes session all =
-      elim session.enabled as (λ b. session_stands before (cond b (record session { tables = touch_tables before session.indirect changes (attach_by_rule session.rule changes session.tables) }) session) ≡ true) [
-        | true ↦ touch_tables-stand before rises session.indirect changes (attach_by_rule session.rule changes session.tables) (attach_by_rule-stands before session.rule changes session.tables all)
+  record_commit-stands : (before : Tables A) → EachRises before → (changes : List (Change A)) → CarryFirstRows before changes → (session : SessionState A) → session_stands before session ≡ true → session_stands before (record_commit changes session) ≡ true
+  record_commit-stands before rises changes carry session all =
+      elim session.enabled as (λ b. session_stands before (cond b (record session { tables = touch_tables session.indirect changes (attach_by_rule session.rule changes session.tables) }) session) ≡ true) [
+        | true ↦ touch_tables-stand before rises session.indirect changes carry (attach_by_rule session.rule changes session.tables) (attach_by_rule-stands before session.rule changes session.tables all)
         | false ↦ all
       ]
 
   -- the sessions after a commit that keeps the columns of the tables
-  pub record_commit_each-stand : (before after : Tables A) → EachRises before → KeepsColumns before after → (changes : List (Change A)) (quiet : List ℕ) (sessions : NumberedSessions A) → sessions_stand before sessions ≡ true → sessions_stand after (record_commit_each before changes quiet sessions) ≡ true
-  record_commit_each-stand before after rises kept changes quiet =
-      list_all-map (λ session. session_stands before session.1) (λ session. session_stands after session.1) (λ session. (session.0, cond (is_one_of quiet session.0) session.1 (record_commit before changes session.1)))
-      (λ session all. session_stands-kept before after kept (cond (is_one_of quiet session.0) session.1 (record_commit before changes session.1)) (each session all (is_one_of quiet session.0)))
+  pub record_commit_each-stand : (before after : Tables A) → EachRises before → KeepsColumns before after → (changes : List (Change A)) → CarryFirstRows before changes → (quiet : List ℕ) (sessions : NumberedSessions A) → sessions_stand before sessions ≡ true → sessions_stand after (record_commit_each changes quiet sessions) ≡ true
+  record_commit_each-stand before after rises kept changes carry quiet =
+      list_all-map (λ session. session_stands before session.1) (λ session. session_stands after session.1) (λ session. (session.0, cond (is_one_of quiet session.0) session.1 (record_commit changes session.1)))
+      (λ session all. session_stands-kept before after kept (cond (is_one_of quiet session.0) session.1 (record_commit changes session.1)) (each session all (is_one_of quiet session.0)))
     where
-      each : (session : ℕ × SessionState A) → session_stands before session.1 ≡ true → (b : Bool) → session_stands before (cond b session.1 (record_commit before changes session.1)) ≡ true
+      each : (session : ℕ × SessionState A) → session_stands before session.1 ≡ true → (b : Bool) → session_stands before (cond b session.1 (record_commit changes session.1)) ≡ true
       each session all true = all
-      each session all false = record_commit-stands before rises changes session.1 all
+      each session all false = record_commit-stands before rises changes carry session.1 all
 
   -- a session after a diff of a table, which found rows of the table's width under their own keys
   pub record_diff-stands : (database : Tables A) (name : List ℕ) (differences : List (Difference A)) (session : SessionState A) → differences_stand (schema_of database name) differences ≡ true → session_stands database session ≡ true
@@ -341,14 +345,8 @@ module _ {A : Type 0} where
   pub images-keyed : (schema : List Bool) (key : Fields A) (image : Option (Fields A)) → image_stands (Some schema) key image ≡ true → (x : Fields A) → image ≡ Some x → IsKeyedRow schema x
   images-keyed schema key image a x is = stands-IsKeyedRow schema key x (image-IsKeyedRow schema key image x a is)
 
-  keyed-change : (schema : List Bool) (key : Fields A) (indirect : Bool) (image now : Option (Fields A)) (change : Option (RowChange A)) → image_stands (Some schema) key image ≡ true → image_stands (Some schema) key now ≡ true
-      → change ≡ change_of schema indirect image now → IfSome change (λ _. IsTrue (has_key schema))
-  keyed-change schema key indirect image now None a b is = tt
-  keyed-change schema key indirect (Some x) now (Some change) a b is = stands-has_key schema key x a
-  keyed-change schema key indirect None (Some y) (Some change) a b is = stands-has_key schema key y b
-  keyed-change schema key indirect None None (Some change) a b is = cc
-
-  pub keyed-changes : {E : Type 0} (schema : List Bool) (key : Fields A) (indirect : Bool) (image now : Option (Fields A)) (r : Result (Option (RowChange A)) E) → image_stands (Some schema) key image ≡ true → image_stands (Some schema) key now ≡ true
-      → IfOk r (λ change. change ≡ change_of schema indirect image now) → IfOk r (λ change. IfSome change (λ _. IsTrue (has_key schema)))
-  keyed-changes schema key indirect image now (Ok change) a b is = keyed-change schema key indirect image now change a b is
-  keyed-changes schema key indirect image now (Err e) a b is = tt
+  -- a key whose row has changed is one of a table with a key
+  pub changed-keyed : (schema : List Bool) (key : Fields A) (image now : Option (Fields A)) → image_stands (Some schema) key image ≡ true → image_stands (Some schema) key now ≡ true → is_changed image now ≡ true → has_key schema ≡ true
+  changed-keyed schema key (Some x) now a b is = stands-has_key schema key x a
+  changed-keyed schema key None (Some y) a b is = stands-has_key schema key y b
+  changed-keyed schema key None None a b is = cc

@@ -1,10 +1,7 @@
 -- The effect of a command on the tables, or why it is refused.
-use Rattle.std.specs.Prelude.{ℕ, Bool, ◌&&◌, Option, Some, None, Result, Ok, Err, List, []}
-use Rattle.cap_value.specs.Bytes.{bytes_eq}
+use Rattle.std.specs.Prelude.{ℕ, Option, Some, None, Result, Ok, Err, List, []}
 use Rattle.cap_value.specs.declared.refusal.Refusal.{Refusal}
 use Rattle.cap_value.specs.declared.refusal.Refusal.TheVariants.{Aborted, Misuse}
-use Rattle.cap_row.specs.Fields.{Fields}
-use Rattle.cap_table.specs.Sound.{is_key_of}
 use Rattle.cap_database.specs.Snapshot.{SnapshotState}
 use Rattle.cap_database.specs.Operation.{run}
 use Rattle.cap_database.specs.Outcome.{OutcomeState}
@@ -64,7 +61,3 @@ module _ {A : Type 0} where
   outcome now (Commit batch) = commit_unless (stale batch.base batch.seen now) now.database batch.ops
   outcome now (Apply blob policy quiet) = applied (apply now.database blob policy)
   outcome now _ = Ok (no_effect now.database)
-
-  -- the change is of the row under this key of the table
-  abbrev pub is_of_row : List ℕ → Fields A → Change A → Bool
-  is_of_row name key change = bytes_eq name change.table && is_key_of change.key key

@@ -33,7 +33,7 @@ module _ {A : Type 0} where
       record (one_more state) {
         main = tables;
         version = state.version + 1;
-        sessions = record_commit_each state.main changes quiet state.sessions;
+        sessions = record_commit_each changes quiet state.sessions;
       }
 
   abbrev pub after_write : State A → List ℕ → Result (Effect A) Refused → State A

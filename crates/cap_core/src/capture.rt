@@ -1,23 +1,24 @@
 //! Captures: the changes of a session as a list and as bytes.
-ghost use Rattle.std.specs.Prelude.{◌≡◌, [], ◌∷◌, ◌++◌, Some, IfOk, IfSome, IsTrue, OnOk};
+ghost use Rattle.std.specs.Prelude.{◌≡◌, [], ◌++◌, Some, IfOk, IfSome, IsTrue, OnOk};
 ghost use Rattle.std.specs.List.{cons_option, filter_map, list_all};
 ghost use Rattle.std.specs.Option.{option_copied, option_map, ForSome};
 ghost use Rattle.cap_row.specs.Key.{fields_cmp};
 ghost use Rattle.cap_row.specs.Schema.{has_key};
 ghost use Rattle.cap_table.specs.Sound.{keyed_stands};
 ghost use Rattle.cap_tree.specs.Tree.{get};
-ghost use Rattle.cap_changes.specs.Fits.{change_fits};
+ghost use Rattle.cap_changes.specs.Change.{HaveSameKey, IsKeyedRow, change_of};
 ghost use Rattle.cap_changes.specs.Patch.{patch_list_of};
+ghost use Rattle.cap_changes.specs.Touched.{is_changed};
 ghost use Rattle.cap_codec.specs.Changeset.{list_bytes, list_bytes_with};
 ghost use Rattle.cap_codec.specs.Patchset.{patch_list_bytes, patch_list_bytes_with};
 ghost use Rattle.cap_codec.specs.Writable.{IsWritable};
 ghost use Rattle.cap_codec.specs.declared.read.Contents.TheVariants as contents;
-ghost use Rattle.cap_core.specs.Capture.{change_now, changes_of, session_changes, table_changes};
+ghost use Rattle.cap_core.specs.Capture.{changes_of, session_changes, table_changes};
 ghost use Rattle.cap_core.specs.Code.Grouped.{IsGroupOf, changes_in};
 ghost use Rattle.cap_core.specs.CanCapture.{image_stands, records_stand, session_stands, tables_stand};
 
 use crate::changeset_bytes::changeset_of;
-use cap_changes::{ChangeList, Group, RowChange, change_between, to_patches};
+use cap_changes::{ChangeList, Group, is_changed, to_patches};
 use cap_codec::{KeyFlags, changes_are_writable, write_patches, write_patches_with};
 use cap_database::Database;
 use cap_row::{Key, Row, Schema};
@@ -46,17 +47,17 @@ impl<A: AllocHandle> Model for Capture<A> {
 
     ghost view = { λ c. record {
       version = c.version;
-      changes = session_changes c.main c.session.live;
+      changes = session_changes c.main c.session;
     } };
 
-    ghost invariant = { λ c. IsTrue (session_stands c.main c.session.live) };
+    ghost invariant = { λ c. IsTrue (session_stands c.main c.session) };
 }
 
 impl<A: AllocHandle> Capture<A> {
     // What the session captures against the tables of this version.
     pub(crate) fn new(version: u64, session: Session<A>, main: Database<A>) -> Self
-        requires { IsTrue (session_stands main session.live) }
-        ensures { result ≡ record { version = version; changes = session_changes main session.live } }
+        requires { IsTrue (session_stands main session) }
+        ensures { result ≡ record { version = version; changes = session_changes main session } }
     {
         Capture {
             version,
@@ -187,33 +188,13 @@ fn group_of<A: AllocHandle>(
 {
     let mut group = None;
     for (key, kept) in records {
-        if let Some(change) = change_now(alloc, table, key, kept)? {
-            group = Some(with_change(alloc, name, table.schema(), group, change)?);
+        let now = row_now(table, key);
+        if is_changed(kept.image.as_ref(), now) {
+            let more = with_change(alloc, name, table.schema(), group, kept, now)?;
+            group = Some(more);
         }
     }
     Ok(group)
-}
-
-// The change of one touched key.
-fn change_now<A: AllocHandle>(
-    alloc: A,
-    table: &Table<A>,
-    key: &Key<A>,
-    kept: &Record<A>,
-) -> Result<Option<RowChange<A>>, OutOfMemory>
-    requires { IsTrue (image_stands (Some table.now.schema) key.now kept.now.image) }
-    ensures change { IfOk result (λ change. change ≡ change_now table.now (key.now, kept.now)) }
-    ensures fits { IfOk result (λ change. IfSome change
-        (λ made. IsTrue (change_fits table.now.schema made))) }
-    ensures keyed { IfOk result (λ change. IfSome change (λ _. IsTrue (has_key table.now.schema))) }
-{
-    change_between(
-        alloc,
-        table.schema(),
-        kept.indirect,
-        kept.image.as_ref(),
-        row_now(table, key),
-    )
 }
 
 // The row with this primary key, if there is one.
@@ -224,34 +205,47 @@ pub(crate) fn row_now<'a, A: AllocHandle>(table: &'a Table<A>, key: &Key<A>) -> 
     table.keyed().get(key)
 }
 
-// The group with the change appended, or a new group of this change.
+// The group with the change of a key that has changed appended, or a new group of this change.
 fn with_change<A: AllocHandle>(
     alloc: A,
     name: &Name<A>,
     schema: &Schema<A>,
     group: Option<Group<A>>,
-    change: RowChange<A>,
+    kept: &Record<A>,
+    now: Option<&Row<A>>,
 ) -> Result<Group<A>, OutOfMemory>
     requires keyed { IsTrue (has_key schema.now) }
-    requires fits { IsTrue (change_fits schema.now change) }
+    requires image_keyed { ForSome kept.now.image (IsKeyedRow schema.now) }
+    requires now_keyed { ForSome (option_copied now) (IsKeyedRow schema.now) }
+    requires same_key { ForSome kept.now.image (λ before.
+        ForSome (option_copied now) (HaveSameKey schema.now before)) }
+    requires changed { IsTrue (is_changed kept.now.image (option_copied now)) }
     requires same { ForSome group (IsGroupOf name.now schema.now) }
-    ensures { IfOk result (λ g. g
-        ≡ record { table = name.now; schema = schema.now; changes = changes_in group ++ change ∷ [] }) }
+    ensures { IfOk result (λ g. g ≡ record {
+      table = name.now;
+      schema = schema.now;
+      changes = changes_in group ++ cons_option
+          (change_of schema.now kept.now.indirect kept.now.image (option_copied now.entry)) [];
+    }) }
 {
-    match group {
-        Some(group) => with_last(group, change),
-        None => with_last(Group::new(alloc, name.copy()?, schema.copy()?), change),
-    }
+    let mut group = group_or_new(alloc, name, schema, group)?;
+    group.push_between(kept.indirect, kept.image.as_ref(), now)?;
+    Ok(group)
 }
 
-// The group with the change appended.
-fn with_last<A: AllocHandle>(
-    mut group: Group<A>,
-    change: RowChange<A>,
+fn group_or_new<A: AllocHandle>(
+    alloc: A,
+    name: &Name<A>,
+    schema: &Schema<A>,
+    group: Option<Group<A>>,
 ) -> Result<Group<A>, OutOfMemory>
-    requires { IsTrue (change_fits group.schema change) }
-    ensures { IfOk result (λ g. g ≡ record group { changes = group.changes ++ change ∷ [] }) }
+    requires keyed { IsTrue (has_key schema.now) }
+    requires same { ForSome group (IsGroupOf name.now schema.now) }
+    ensures { IfOk result (λ g. g
+        ≡ record { table = name.now; schema = schema.now; changes = changes_in group }) }
 {
-    group.push(change)?;
-    Ok(group)
+    match group {
+        Some(group) => Ok(group),
+        None => Ok(Group::new(alloc, name.copy()?, schema.copy()?)),
+    }
 }

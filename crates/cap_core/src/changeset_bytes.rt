@@ -4,8 +4,9 @@ ghost use Rattle.std.specs.Prelude.{◌≡◌, ◌++◌, [], IfOk, OnOk, Some, L
 ghost use Rattle.std.specs.List.{cons_option};
 ghost use Rattle.std.specs.Option.{option_copied};
 ghost use Rattle.cap_changes.specs.declared.row_change.RowChange.{RowChange};
-ghost use Rattle.cap_codec.specs.Changeset.{change_bytes, changes_under, header_bytes, list_bytes_with};
-ghost use Rattle.cap_codec.specs.KindByte.{changeset_kind};
+ghost use Rattle.cap_changes.specs.ChangeBytes.{change_bytes};
+ghost use Rattle.cap_codec.specs.Changeset.{changes_under, header_bytes, list_bytes_with};
+ghost use Rattle.cap_changes.specs.KindByte.{changeset_kind};
 ghost use Rattle.cap_changes.specs.Change.{change_of};
 ghost use Rattle.cap_core.specs.Capture.{change_now, changes_of, table_changes};
 ghost use Rattle.cap_core.specs.Code.ChangesetBytes.{behind, header_unless};

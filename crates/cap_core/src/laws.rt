@@ -38,7 +38,7 @@ ghost use Rattle.cap_core.specs.AppliedCapture.{changes_in};
 ghost use Rattle.cap_core.specs.Flags.{is_quiet, live_sessions, session_named};
 ghost use Rattle.cap_core.specs.History.{event_effect, main, version};
 ghost use Rattle.cap_core.specs.Insert.{HasChange, IsInsertOfAbsent, changes_by_key};
-ghost use Rattle.cap_core.specs.Outcome.{is_of_row};
+ghost use Rattle.cap_database.specs.Carried.{is_of_row};
 ghost use Rattle.cap_core.specs.Past.{Past, is_accepted};
 ghost use Rattle.cap_core.specs.Replies.{replies_after};
 ghost use Rattle.cap_core.specs.Restarts.{AppliesAll, AppliesAllPatches, HasRowsNow, HoldsFirst, IsSteady};

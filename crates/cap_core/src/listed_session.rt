@@ -25,7 +25,7 @@ pub struct ListedSession<A: AllocHandle> {
 impl<A: AllocHandle> ListedSession<A> {
     // The session with this number.
     pub(crate) fn of(alloc: A, number: u64, session: &Session<A>) -> Result<Self, OutOfMemory>
-        ensures { IfOk result (λ listed. listed ≡ listed_session (number, session.now.live)) }
+        ensures { IfOk result (λ listed. listed ≡ listed_session (number, session.now)) }
     {
         Ok(ListedSession {
             number,

@@ -73,7 +73,7 @@ pub(crate) fn names_attached<A: AllocHandle>(
     alloc: A,
     session: &Session<A>,
 ) -> Result<NameList<A>, OutOfMemory>
-    ensures { IfOk result (λ names. names ≡ keys_of session.now.live.tables) }
+    ensures { IfOk result (λ names. names ≡ keys_of session.now.tables) }
 {
     let mut names = NameList::empty(alloc);
     for (name, _records) in session.attached() {

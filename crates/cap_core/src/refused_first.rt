@@ -156,13 +156,13 @@ fn refused_step<A: AllocHandle>(tables: &Database<A>, op: &Op<A>) -> Option<Refu
 // Whether there is a session with each of these numbers.
 fn are_live<A: AllocHandle>(sessions: &Sessions<A>, numbers: &[u64]) -> bool
     ensures { result
-        ≡ list_all (λ number. is_some (session_numbered sessions.now.live number)) numbers.now }
+        ≡ list_all (λ number. is_some (session_numbered sessions.now number)) numbers.now }
 {
     numbers.iter().all(|number| is_live(sessions, *number))
 }
 
 fn is_live<A: AllocHandle>(sessions: &Sessions<A>, number: u64) -> bool
-    ensures { result ≡ is_some (session_numbered sessions.now.live number) }
+    ensures { result ≡ is_some (session_numbered sessions.now number) }
 {
     match sessions.get(number) {
         Some(_) => true,

@@ -53,11 +53,11 @@ impl<A: AllocHandle> Model for Core<A> {
       version = c.version;
       saved = c.saved;
       sessions_made = c.sessions_made;
-      sessions = c.sessions.live;
+      sessions = c.sessions;
     } };
 
     ghost invariant = { λ c. (c.version ≤ c.events) × (c.sessions_made ≤ c.events)
-        × IsTrue (sessions_stand c.main c.sessions.live) };
+        × IsTrue (sessions_stand c.main c.sessions) };
 }
 
 impl<A: AllocHandle> Core<A> {

@@ -23,8 +23,8 @@ pub fn changes_of<A: AllocHandle>(
     session: &Session<A>,
     database: &Database<A>,
 ) -> Result<ChangeList<A>, OutOfMemory>
-    requires { IsTrue (session_stands database.now session.now.live) }
-    ensures { IfOk result (λ list. list ≡ session_changes database.now session.now.live) }
+    requires { IsTrue (session_stands database.now session.now) }
+    ensures { IfOk result (λ list. list ≡ session_changes database.now session.now) }
 {
     capture::changes_of(alloc, session.attached(), database)
 }
@@ -32,7 +32,7 @@ pub fn changes_of<A: AllocHandle>(
 /// Whether a session can be captured against a database: each first image is a row of a table of the
 /// database, with the table's width, and has the key of its record. Takes no memory.
 pub fn can_capture<A: AllocHandle>(session: &Session<A>, database: &Database<A>) -> bool
-    ensures { result ≡ session_stands database.now session.now.live }
+    ensures { result ≡ session_stands database.now session.now }
 {
     for (name, records) in session.attached() {
         if !records_stand(database.table(name), records) {

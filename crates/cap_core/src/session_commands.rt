@@ -155,10 +155,10 @@ impl<A: AllocHandle> Core<A> {
         ensures { Reports C.gives Reply.Done (changed_session self.old number (attached name.now))
             self.old self.new hook.old hook.new result }
     {
-        self.sessions.stage_attach(number, name)?;
+        let delta = self.sessions.reserve_attach(number, name)?;
         let reply = Reply::Done;
         ask(hook, &reply)?;
-        self.sessions.publish();
+        self.sessions.publish(delta);
         self.events += 1;
         Ok(reply)
     }
@@ -217,10 +217,10 @@ impl<A: AllocHandle> Core<A> {
             (changed_session self.old number (record_diff name.now found.now))
             self.old self.new hook.old hook.new result }
     {
-        self.sessions.stage_diff(number, name, found)?;
+        let delta = self.sessions.reserve_diff(number, name, found)?;
         let reply = Reply::Done;
         ask(hook, &reply)?;
-        self.sessions.publish();
+        self.sessions.publish(delta);
         self.events += 1;
         Ok(reply)
     }
@@ -251,8 +251,8 @@ fn capture_reply<A: AllocHandle>(
     session: &Session<A>,
     main: &Database<A>,
 ) -> Result<Reply<A>, OutOfMemory>
-    requires { IsTrue (session_stands main.now session.now.live) }
-    ensures { IfOk result (λ reply. reply ≡ capture_reply version main.now session.now.live) }
+    requires { IsTrue (session_stands main.now session.now) }
+    ensures { IfOk result (λ reply. reply ≡ capture_reply version main.now session.now) }
 {
     let capture = Capture::new(version, session.copy()?, main.snapshot()?);
     Ok(Reply::Capture(capture))

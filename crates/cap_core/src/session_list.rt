@@ -31,13 +31,12 @@ impl<A: AllocHandle> Drop for SessionList<A> {
 impl<A: AllocHandle> SessionList<A> {
     // These sessions.
     pub(crate) fn of(alloc: A, sessions: &Sessions<A>) -> Result<Self, OutOfMemory>
-        ensures { IfOk result (λ list. list ≡ listed_sessions sessions.now.live) }
+        ensures { IfOk result (λ list. list ≡ listed_sessions sessions.now) }
     {
         let live = sessions.numbered();
         let mut list = Vec::with_capacity(alloc, live.len())?;
-        for numbered in live {
-            let session = ListedSession::of(alloc, numbered.number, &numbered.session)?;
-            list.push(session)?;
+        for (number, session) in live {
+            list.push(ListedSession::of(alloc, *number, session)?)?;
         }
         Ok(SessionList { sessions: list })
     }

@@ -1,6 +1,7 @@
 //! The commands that write: a new table, a transaction, and a blob that is applied.
 ghost use Rattle.std.specs.Prelude.{◌≡◌, ◌+◌, ◌∷◌, [], Ok, OnErr, OnOk, Some};
 ghost use Rattle.cap_table.specs.WithHook.{LeavesOnceAllowed};
+ghost use Rattle.cap_database.specs.Carried.{CarryFirstRows};
 ghost use Rattle.cap_database.specs.KeptKey.{kept_key};
 ghost use Rattle.cap_database.specs.Operation.{changes, run, step};
 ghost use Rattle.cap_database.specs.Tables.{Tables, create};
@@ -21,7 +22,7 @@ use cap_apply::{Applied, Policy, applied_blobs_keep_columns};
 use cap_codec::Contents;
 use cap_database::{Change, Database, Op, Outcome, run_ops, tables_keep_columns};
 use cap_row::{Key, Schema};
-use cap_session::{Sessions, changes_of_a_key_are_one_touch};
+use cap_session::Sessions;
 use cap_table::NotMade;
 use cap_txn::Batch;
 use cap_value::{AllocHandle, Fault, Name, Refusal};
@@ -171,9 +172,8 @@ impl<A: AllocHandle> Core<A> {
         let reply = Reply::Written {
             version: self.version + 1,
         };
-        match reserve_and_step(&mut self.main, &mut self.sessions, op, key, &reply, hook) {
+        match step_and_record(&mut self.main, &mut self.sessions, op, key, &reply, hook) {
             Ok(()) => {
-                self.sessions.publish();
                 self.version += 1;
                 self.events += 1;
                 Ok(reply)
@@ -190,6 +190,7 @@ impl<A: AllocHandle> Core<A> {
     ) -> Result<Reply<A>, Fault<C::Refusal>>
         requires room { HasRoom self.old.events }
         requires kept { KeepsColumns self.old.main outcome.database }
+        requires carried { CarryFirstRows self.old.main outcome.changes }
         requires can_ask { C.can_ask hook.old (write_reply self.old (made (Ok outcome))) }
         ensures { Reports C.gives (write_reply self.old (made (Ok outcome)))
             (after_write self.old [] (made (Ok outcome)))
@@ -262,6 +263,7 @@ impl<A: AllocHandle> Core<A> {
     ) -> Result<Reply<A>, Fault<C::Refusal>>
         requires room { HasRoom self.old.events }
         requires kept { KeepsColumns self.old.main blob.database }
+        requires carried { CarryFirstRows self.old.main blob.changes }
         requires can_ask { C.can_ask hook.old (write_reply self.old (applied (Ok blob))) }
         ensures { Reports C.gives (write_reply self.old (applied (Ok blob)))
             (after_write self.old quiet.now (applied (Ok blob)))
@@ -290,14 +292,15 @@ impl<A: AllocHandle> Core<A> {
     ) -> Result<Reply<A>, Fault<C::Refusal>>
         requires room { HasRoom self.old.events }
         requires kept { KeepsColumns self.old.main tables }
+        requires carried { CarryFirstRows self.old.main changes.now }
         requires can_ask { C.can_ask hook.old reply }
         ensures { Reports C.gives reply (written self.old tables changes.now quiet.now)
             self.old self.new hook.old hook.new result }
     {
         self.main.rows_stand();
-        self.sessions.stage_commit(&self.main, changes, quiet)?;
+        let delta = self.sessions.reserve(changes, quiet)?;
         ask(hook, &reply)?;
-        self.sessions.publish();
+        self.sessions.publish(delta);
         self.main = tables;
         self.version += 1;
         self.events += 1;
@@ -305,9 +308,9 @@ impl<A: AllocHandle> Core<A> {
     }
 }
 
-// Reserves what memory one operation on a row that keeps this key still needs, asks the hook, and makes it in
-// place. It is staged in each session.
-fn reserve_and_step<A: AllocHandle, C: CommitHook<A>>(
+// Reserves what memory one operation on a row that keeps this key still needs, asks the hook, makes it in
+// place, and records it in each session.
+fn step_and_record<A: AllocHandle, C: CommitHook<A>>(
     main: &mut Database<A>,
     sessions: &mut Sessions<A>,
     op: &Op<A>,
@@ -320,20 +323,26 @@ fn reserve_and_step<A: AllocHandle, C: CommitHook<A>>(
     ensures tables { LeavesOnceAllowed result (step main.old op.now) main.new
         (hook.new ≡ hook.old) (λ answer. C.gives hook.old reply.now answer hook.new) }
     ensures kept { OnErr result (main.new ≡ main.old) }
-    ensures live { sessions.new.live ≡ sessions.old.live }
-    ensures staged { OnOk result (sessions.new.staged
-        ≡ record_commit_each main.old (changes main.old op.now) [] sessions.old.live) }
+    ensures recorded { OnOk result (sessions.new
+        ≡ record_commit_each (changes main.old op.now) [] sessions.old) }
+    ensures unrecorded { OnErr result (sessions.new ≡ sessions.old) }
 {
-    changes_of_a_key_are_one_touch::<A>();
+    let mut delta = None;
     let mut recording = RecordingHook {
-        sessions,
+        sessions: &mut *sessions,
+        delta: &mut delta,
         op,
         key,
         reply,
         hook,
     };
     match main.step_keyed(op, key, &mut recording) {
-        Ok(()) => Ok(()),
+        Ok(()) => {
+            if let Some(delta) = delta {
+                sessions.publish(delta);
+            }
+            Ok(())
+        }
         Err(NotMade::Refused(why)) => Err(NotMade::Refused(why)),
         Err(NotMade::OutOfMemory) => Err(NotMade::OutOfMemory),
         Err(NotMade::Vetoed(fault)) => Err(not_made(fault)),

@@ -12,6 +12,7 @@ pub mod ReplaceLemmas
 pub mod RowsInLemmas
 pub mod RowsLemmas
 pub mod RunLemmas
+pub mod StayLemmas
 pub mod StepLemmas
 pub mod UndoneLemmas
 pub mod WritesLemmas

@@ -12,7 +12,7 @@ use Rattle.cap_table.specs.Operation.{with_key}
 use Rattle.cap_table.specs.Replace.{IsOwn, MakesOwn}
 use Rattle.cap_table.specs.Sound.{IsRising}
 use Rattle.cap_table.specs.Table.{TableState}
-use Rattle.cap_database.specs.Keyed.{IsOwnRow, row_set, set_in}
+use Rattle.cap_database.specs.Keyed.{IsOwnRow, set_in}
 use Rattle.cap_database.specs.Read.{row_at}
 use Rattle.cap_database.specs.Replace.{MakesOwnRows, ReplacesRow}
 use Rattle.cap_database.specs.Tables.{AreTables, Tables, table_of}

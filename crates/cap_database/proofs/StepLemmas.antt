@@ -25,7 +25,7 @@ use Rattle.cap_database.specs.Tables.{create, created}
 use Rattle.cap_table.specs.Table.{TableState}
 use Rattle.cap_database.specs.declared.change.Change.{Change}
 use Rattle.cap_database.specs.declared.op.Op.{Op}
-use Rattle.cap_database.specs.Operation.{act, changed_keys, changes_in, changes_to, changes, in_place, refused_act, step, stepped}
+use Rattle.cap_database.specs.Operation.{act, changed_rows, changes_in, changes_to, changes, in_place, refused_act, step, stepped}
 use Rattle.cap_database.specs.Tables.{AreTables, EachRises, Tables, table_of}
 use Rattle.cap_database.proofs.KeptLemmas.{each-put}
 use Rattle.cap_database.proofs.PlaceLemmas.{ordered_put, put_entry-longer}
@@ -41,7 +41,7 @@ module _ {A : Type 0} (ts : Tables A) (op : Op A) (t : TableState A) (there : ta
   step_leaves (Err (Refused why)) new l = ap (λ found. stepped ts found op) there ∙ ap (in_place ts op.table) l
   step_leaves (Err OutOfMemory) new l = tt
 
-  pub told : {X : Type 0} (r : Result X (Fault Refusal)) (f : X → List (Change A)) → IfOk r (λ x. f x ≡ changes_to op.table op.cause (changed_keys t op.action)) → IfOk r (λ x. f x ≡ changes ts op)
+  pub told : {X : Type 0} (r : Result X (Fault Refusal)) (f : X → List (Change A)) → IfOk r (λ x. f x ≡ changes_to op.table op.cause (changed_rows t op.action)) → IfOk r (λ x. f x ≡ changes ts op)
   told (Ok x) f l = l ∙ ap (λ found. changes_in found op) (sym there)
   told (Err e) f l = tt
 

@@ -25,7 +25,7 @@ module _ {K X : Type 0} (R : K → K → Ordering) (o : IsTotalOrder R) (same : 
   get-find [] q = refl
   get-find (e ∷ es) q = ap (cond (eq_by_cmp R q e.0) (Some e.1)) (get-find es q)
 
-  get-put : (es : List (K × X)) (k : K) (x : X) (q : K) → get R (put_entry R es k x) q ≡ cond (eq_by_cmp R q k) (Some x) (get R es q)
+  pub get-put : (es : List (K × X)) (k : K) (x : X) (q : K) → get R (put_entry R es k x) q ≡ cond (eq_by_cmp R q k) (Some x) (get R es q)
   get-put es k x q =
       ap (λ l. get R l q) (put_entry-put R same es k x) ∙ get-find (put R k x es) q ∙ find-put R o q k x es
       ∙ ap (λ found. cond (eq_by_cmp R q k) (Some x) found) (sym (get-find es q))

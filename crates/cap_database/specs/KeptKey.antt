@@ -30,10 +30,12 @@ module _ {A : Type 0} where
   row_left (Update name fields) before = option_map (row_with fields) before
   row_left (Delete name) before = None
 
-  abbrev pub change_of : Op A → Fields A → Change A
-  change_of op key = record { table = op.table; key = Some key; cause = op.cause }
+  abbrev pub change_of : Op A → Fields A → Option (Fields A) → Change A
+  change_of op key before = record { table = op.table; key = Some key; cause = op.cause; before = before }
 
-  -- the changes of such an operation: one of this key, or the two of an update, which are the same
-  abbrev pub AreOfKey : Op A → Fields A → List (Change A) → Type 0
-  AreOfKey op key changes =
-      (changes ≡ change_of op key ∷ []) ⊎ (changes ≡ change_of op key ∷ change_of op key ∷ [])
+  -- the changes of such an operation: one of this key, with the row before it, and of an update another, of
+  -- the row that comes
+  abbrev pub AreOfKey : Op A → Fields A → Option (Fields A) → List (Change A) → Type 0
+  AreOfKey op key before changes =
+      (changes ≡ change_of op key before ∷ [])
+      ⊎ (changes ≡ change_of op key before ∷ change_of op key None ∷ [])

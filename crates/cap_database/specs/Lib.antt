@@ -1,6 +1,7 @@
 pub mod Apart
 pub mod Assigned
 pub mod Batches
+pub mod Carried
 pub mod Front
 pub mod Ids
 pub mod Keyed

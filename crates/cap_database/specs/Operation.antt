@@ -13,6 +13,7 @@ use Rattle.cap_table.specs.Table.{TableState}
 use Rattle.cap_table.specs.Operation.{insert_row, update_row, delete_row, row_of, key_of_name, refused_insert}
 use Rattle.cap_table.specs.Operation.{refused_update, refused_delete}
 use Rattle.cap_table.specs.declared.row_ref.RowRef.{RowRef}
+use Rattle.cap_table.specs.declared.row_ref.RowRef.TheVariants.{Key, Loose}
 use Rattle.cap_database.specs.Assigned.{Assigned}
 use Rattle.cap_database.specs.Outcome.{OutcomeState}
 use Rattle.cap_database.specs.Tables.{Tables, table_of}
@@ -24,6 +25,10 @@ use Rattle.cap_database.specs.declared.op.Op.{Op}
 use Rattle.cap_database.specs.declared.refused_at.RefusedAt.{RefusedAt}
 use Rattle.cap_database.specs.declared.effect.Effect.{Effect}
 
+-- a row that changes: its key, none without one, and the row that goes from under it, none where a row comes
+abbrev pub Changed : Type 0 → Type 0
+Changed A = Option (Fields A) × Option (Fields A)
+
 module _ {A : Type 0} where
   -- the table after an operation on it
   abbrev pub act : TableState A → Action A → Result (TableState A) Refusal
@@ -31,27 +36,35 @@ module _ {A : Type 0} where
   act table (Update name fields) = update_row table name fields
   act table (Delete name) = delete_row table name
 
-  -- the keys that an update changes: the old row's, and then the new row's, also where they are equal
-  abbrev pub updated_keys : TableState A → RowRef A → Assigned A → Option (Fields A)
-      → List (Option (Fields A))
-  updated_keys table name fields None = []
-  updated_keys table name fields (Some row) =
-      key_of_name name ∷ key_of table.schema (row_with fields row) ∷ []
+  -- the row of this name, where it has a key
+  abbrev pub keyed_row : RowRef A → Option (Fields A) → Option (Fields A)
+  keyed_row (Key key) row = row
+  keyed_row (Loose id) row = None
 
-  -- the keys that an accepted operation changes, none for a row without a key
-  abbrev pub changed_keys : TableState A → Action A → List (Option (Fields A))
-  changed_keys table (Insert row) = key_of table.schema row ∷ []
-  changed_keys table (Update name fields) = updated_keys table name fields (row_of table name)
-  changed_keys table (Delete name) = key_of_name name ∷ []
+  -- the row of this name goes
+  abbrev pub goes : RowRef A → Option (Fields A) → Changed A
+  goes name row = (key_of_name name, keyed_row name row)
 
-  abbrev pub changes_to : List ℕ → Cause → List (Option (Fields A)) → List (Change A)
+  -- what an update changes: the old row goes, and then the new row comes, also where their keys are equal
+  abbrev pub updated_rows : TableState A → RowRef A → Assigned A → Option (Fields A) → List (Changed A)
+  updated_rows table name fields None = []
+  updated_rows table name fields (Some row) =
+      goes name (Some row) ∷ (key_of table.schema (row_with fields row), None) ∷ []
+
+  -- what an accepted operation changes
+  abbrev pub changed_rows : TableState A → Action A → List (Changed A)
+  changed_rows table (Insert row) = (key_of table.schema row, None) ∷ []
+  changed_rows table (Update name fields) = updated_rows table name fields (row_of table name)
+  changed_rows table (Delete name) = goes name (row_of table name) ∷ []
+
+  abbrev pub changes_to : List ℕ → Cause → List (Changed A) → List (Change A)
   changes_to table cause [] = []
-  changes_to table cause (key ∷ keys) =
-      record { table = table; key = key; cause = cause } ∷ changes_to table cause keys
+  changes_to table cause (row ∷ rows) =
+      record { table = table; key = row.0; cause = cause; before = row.1 } ∷ changes_to table cause rows
 
   abbrev pub changes_in : Option (TableState A) → Op A → List (Change A)
   changes_in None op = []
-  changes_in (Some table) op = changes_to op.table op.cause (changed_keys table op.action)
+  changes_in (Some table) op = changes_to op.table op.cause (changed_rows table op.action)
 
   -- the changes that an accepted operation makes
   abbrev pub changes : Tables A → Op A → List (Change A)

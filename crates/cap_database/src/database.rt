@@ -162,7 +162,8 @@ impl<A: AllocHandle> Database<A> {
             (λ answer. H.gives hook.old (row_at self.old op.now.table key.now)
             (row_left op.now.action (row_at self.old op.now.table key.now)) answer hook.new) }
         ensures kept { OnErr result (self.new ≡ self.old) }
-        ensures changes { OnOk result (AreOfKey op.now key.now (changes self.old op.now)) }
+        ensures changes { OnOk result (AreOfKey op.now key.now (row_at self.old op.now.table key.now)
+            (changes self.old op.now)) }
         ensures first { RefusesAtOnce (refused_step self.old op.now) result }
     {
         operations_keep_tables::<A>();

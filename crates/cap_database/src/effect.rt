@@ -1,12 +1,13 @@
 //! One operation on one table, and its changes.
-ghost use Rattle.std.specs.Prelude.{◌≡◌, IfOk, OnErr};
+ghost use Rattle.std.specs.Prelude.{◌≡◌, IfOk, OnErr, Some};
 ghost use Rattle.cap_value.specs.Memory.{LeavesUnlessMemory, RefusesFirst};
-ghost use Rattle.cap_database.specs.Operation.{act, changed_keys, changes_to, changes_made, refused_act};
+ghost use Rattle.cap_database.specs.Operation.{act, changed_rows, changes_to, changes_made, refused_act};
+ghost use Rattle.cap_database.specs.Operation.{keyed_row};
 ghost use Rattle.cap_table.specs.Operation.{key_of_name};
 
 use crate::{Action, Assignments, Cause, Change, Op};
 use cap_row::{Key, Row};
-use cap_table::{RowRef, Table};
+use cap_table::{Replaced, RowRef, Table};
 use cap_value::{AllocHandle, Fault, Name, OutOfMemory, Refusal};
 
 /// The changes of an accepted operation.
@@ -24,7 +25,7 @@ impl<A: AllocHandle> Effect<A> {
         ensures table { LeavesUnlessMemory result (act table.old op.now.action) table.new }
         ensures kept { OnErr result (table.new ≡ table.old) }
         ensures changes { IfOk result (λ step. changes_made step ≡ changes_to op.now.table op.now.cause
-            (changed_keys table.old op.now.action)) }
+            (changed_rows table.old op.now.action)) }
         ensures first { RefusesFirst (refused_act table.old op.now.action) result }
     {
         match make_all(table, op) {
@@ -43,7 +44,7 @@ fn make_all<A: AllocHandle>(table: &mut Table<A>, op: &Op<A>) -> Result<Effect<A
     ensures table { LeavesUnlessMemory result (act table.old op.now.action) table.new }
     ensures kept { OnErr result (table.new ≡ table.old) }
     ensures changes { IfOk result (λ step. changes_made step ≡ changes_to op.now.table op.now.cause
-        (changed_keys table.old op.now.action)) }
+        (changed_rows table.old op.now.action)) }
 {
     match &op.action {
         Action::Insert(row) => insert(table, op, row),
@@ -71,12 +72,12 @@ fn insert<A: AllocHandle>(
     ensures table { LeavesUnlessMemory result (act table.old (Action.Insert row.now)) table.new }
     ensures kept { OnErr result (table.new ≡ table.old) }
     ensures changes { IfOk result (λ step. changes_made step ≡ changes_to op.now.table op.now.cause
-        (changed_keys table.old (Action.Insert row.now))) }
+        (changed_rows table.old (Action.Insert row.now))) }
 {
     let name = op.table.copy()?;
     let key = table.insert(row.copy()?)?;
     Ok(Effect {
-        first: change(name, key, op.cause),
+        first: change(name, key, op.cause, None),
         second: None,
     })
 }
@@ -90,14 +91,14 @@ fn update<A: AllocHandle>(
     ensures table { LeavesUnlessMemory result (act table.old (Action.Update name.now fields.now)) table.new }
     ensures kept { OnErr result (table.new ≡ table.old) }
     ensures changes { IfOk result (λ step. changes_made step ≡ changes_to op.now.table op.now.cause
-        (changed_keys table.old (Action.Update name.now fields.now))) }
+        (changed_rows table.old (Action.Update name.now fields.now))) }
 {
-    let first = change(op.table.copy()?, key_named(name)?, op.cause);
-    let other = op.table.copy()?;
-    let replaced = table.update(name, fields.fields())?;
+    let (first, second) = (op.table.copy()?, op.table.copy()?);
+    let old = key_named(name)?;
+    let Replaced { key, row } = table.update(name, fields.fields())?;
     Ok(Effect {
-        first,
-        second: Some(change(other, replaced.key, op.cause)),
+        first: change(first, old, op.cause, keyed_row(name, row)),
+        second: Some(change(second, key, op.cause, None)),
     })
 }
 
@@ -109,24 +110,45 @@ fn delete<A: AllocHandle>(
     ensures table { LeavesUnlessMemory result (act table.old (Action.Delete name.now)) table.new }
     ensures kept { OnErr result (table.new ≡ table.old) }
     ensures changes { IfOk result (λ step. changes_made step ≡ changes_to op.now.table op.now.cause
-        (changed_keys table.old (Action.Delete name.now))) }
+        (changed_rows table.old (Action.Delete name.now))) }
 {
-    let first = change(op.table.copy()?, key_named(name)?, op.cause);
-    table.delete(name)?;
+    let first = op.table.copy()?;
+    let key = key_named(name)?;
+    let row = table.delete(name)?;
     Ok(Effect {
-        first,
+        first: change(first, key, op.cause, keyed_row(name, row)),
         second: None,
     })
 }
 
-pub(crate) fn change<A: AllocHandle>(table: Name<A>, key: Option<Key<A>>, cause: Cause) -> Change<A>
-    ensures { result ≡ record { table = table; key = key; cause = cause } }
+fn change<A: AllocHandle>(
+    table: Name<A>,
+    key: Option<Key<A>>,
+    cause: Cause,
+    before: Option<Row<A>>,
+) -> Change<A>
+    ensures { result ≡ record { table = table; key = key; cause = cause; before = before } }
 {
-    Change { table, key, cause }
+    Change {
+        table,
+        key,
+        cause,
+        before,
+    }
+}
+
+// The row of this name, where it has a key.
+fn keyed_row<A: AllocHandle>(name: &RowRef<A>, row: Row<A>) -> Option<Row<A>>
+    ensures { result ≡ keyed_row name.now (Some row) }
+{
+    match name {
+        RowRef::Key(_) => Some(row),
+        RowRef::Loose(_) => None,
+    }
 }
 
 // The key of the row of this name, none of a loose row.
-pub(crate) fn key_named<A: AllocHandle>(name: &RowRef<A>) -> Result<Option<Key<A>>, OutOfMemory>
+fn key_named<A: AllocHandle>(name: &RowRef<A>) -> Result<Option<Key<A>>, OutOfMemory>
     ensures { IfOk result (λ key. key ≡ key_of_name name.now) }
 {
     match name {

@@ -9,6 +9,7 @@ ghost use Rattle.cap_table.specs.Table.{TableState};
 ghost use Rattle.cap_table.specs.declared.row_ref.RowRef.{RowRef};
 ghost use Rattle.cap_database.specs.Apart.{AreApart, Commute, CommuteIn, rows_touched};
 ghost use Rattle.cap_database.specs.Batches.{accepted_ops, batches_left};
+ghost use Rattle.cap_database.specs.Carried.{CarryFirstRows};
 ghost use Rattle.cap_database.specs.Front.{IsFirstRefused};
 ghost use Rattle.cap_database.specs.Ids.{GiveIdsOnce};
 ghost use Rattle.cap_database.specs.Operation.{act, changes, run, step};
@@ -82,6 +83,13 @@ pub fn refused_batches_leave_nothing<A: AllocHandle>()
         batches_left tables (batch ∷ batches) ≡ batches_left tables batches }
     ensures accepted { (tables : Tables A) (batches : List (List (Op A))) →
         run tables (accepted_ops tables batches) ≡ Ok (batches_left tables batches) }
+{}
+
+/// The first change of each row by a list of operations carries the row that was there before all of them, or
+/// its absence: the first image of whoever follows the changes.
+pub fn first_changes_carry_the_rows_before<A: AllocHandle>()
+    ensures { (tables : Tables A) (ops : List (Op A)) →
+        IfOk (run tables ops) (λ left. CarryFirstRows tables left.changes) }
 {}
 
 /// In a database, too, an insert, and then a delete of the new row's key, leave everything as it was.

@@ -13,10 +13,12 @@ use Rattle.cap_database.specs.Tables.{EachRises, Tables}
 use Rattle.cap_changes.specs.Change.{full_record}
 use Rattle.cap_changes.specs.Fits.{change_fits}
 use Rattle.cap_codec.specs.BlobReading.{blob_at}
-use Rattle.cap_codec.specs.Changeset.{change_bytes, flag_byte, flags_bytes, header_bytes}
-use Rattle.cap_codec.specs.Spelling.{SpellsChange, SpellsChanges, SpellsEach}
+use Rattle.cap_changes.specs.ChangeBytes.{change_bytes, flag_byte}
+use Rattle.cap_codec.specs.Changeset.{flags_bytes, header_bytes}
+use Rattle.cap_changes.specs.Spelling.{SpellsChange, SpellsEach}
+use Rattle.cap_codec.specs.Spelling.{SpellsChanges}
 use Rattle.cap_field.specs.Varint.{varint_bytes}
-use Rattle.cap_codec.specs.Writable.{AreValues}
+use Rattle.cap_changes.specs.HasValues.{AreValues}
 use Rattle.cap_codec.specs.declared.key_flags.KeyFlags.{KeyFlags}
 use Rattle.cap_codec.specs.declared.read.Contents.TheVariants.{Changes}
 use Rattle.cap_codec.proofs.BlobAgain.{blob_again}

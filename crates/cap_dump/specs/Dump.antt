@@ -13,8 +13,9 @@ use Rattle.cap_changes.specs.Change.{full_record}
 use Rattle.cap_changes.specs.Group.{TableChanges}
 use Rattle.cap_changes.specs.declared.row_change.RowChange.{RowChange}
 use Rattle.cap_changes.specs.declared.row_change.RowChange.TheVariants.{Insert}
-use Rattle.cap_codec.specs.Changeset.{change_bytes, header_bytes}
-use Rattle.cap_codec.specs.KindByte.{changeset_kind}
+use Rattle.cap_changes.specs.ChangeBytes.{change_bytes}
+use Rattle.cap_codec.specs.Changeset.{header_bytes}
+use Rattle.cap_changes.specs.KindByte.{changeset_kind}
 use Rattle.cap_codec.specs.declared.key_flags.KeyFlags.{KeyFlags}
 
 module _ {A : Type 0} where

@@ -3,7 +3,7 @@ ghost use Rattle.std.specs.Prelude.{◌≡◌, ◌∷◌, ◌++◌, [], IfOk, No
 ghost use Rattle.std.specs.List.{flat_map};
 ghost use Rattle.std.specs.Result.{result_err};
 ghost use Rattle.cap_value.specs.Memory.{RefusesFirst, ShowsUnlessMemory};
-ghost use Rattle.cap_codec.specs.Changeset.{change_bytes};
+ghost use Rattle.cap_changes.specs.ChangeBytes.{change_bytes};
 ghost use Rattle.cap_codec.specs.declared.read.Contents.TheVariants.{Changes};
 ghost use Rattle.cap_dump.specs.Dump as whole;
 ghost use Rattle.cap_dump.specs.Dump.{dump_bytes, dump_table, insert_of, inserts_of, keyed_part, keyed_parts};

@@ -6,49 +6,8 @@ ghost use Rattle.cap_expected.specs.Expected.{later_words, listed, literals, rea
 ghost use Rattle.cap_expected.specs.Expected.{where_on, words_or_name};
 
 use cap_language::after_blanks;
-use cap_script::{ScriptFault, a_line_without_fault, read_line};
+use cap_script::{COMMAND_WORDS, ScriptFault, a_line_without_fault, read_line};
 use cap_value::{AllocHandle, Fault, OutOfMemory};
-
-const COMMAND_WORDS: [&str; 38] = [
-    "create",
-    "commit",
-    "commitat",
-    "apply",
-    "applyquiet",
-    "applyeach",
-    "get",
-    "scan",
-    "save",
-    "dropdatabase",
-    "attach",
-    "enable",
-    "indirect",
-    "diff",
-    "changeset",
-    "patchset",
-    "restart",
-    "dump",
-    "insert",
-    "update",
-    "delete",
-    "cascade",
-    "rollback",
-    "put",
-    "drop",
-    "attachall",
-    "filter",
-    "isempty",
-    "session",
-    "sessions",
-    "databases",
-    "tables",
-    "begin",
-    "savepoint",
-    "end",
-    "omit",
-    "replace",
-    "abort",
-];
 
 const INNER_WORDS: [&str; 19] = [
     "to", "key", "loose", "set", "on", "off", "ask", "places", "report", "buffer", "null", "all",

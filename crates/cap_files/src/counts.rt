@@ -2,7 +2,7 @@
 ghost use Rattle.std.specs.Prelude.{◌≡◌, ◌++◌, IfOk, OnOk, string_bytes};
 ghost use Rattle.cap_files.specs.Summary as spec;
 
-use cap_changes::{Entry, Patch, RowChange, TableGroup};
+use cap_changes::{ChangeRef, Entry, EntryRef, Patch, PatchRef, RowChange, TableGroup};
 use cap_codec::Contents;
 use cap_value::{AllocHandle, OutOfMemory};
 
@@ -23,8 +23,10 @@ trait CountedEntry: Entry {
     // Whether one is counted.
     ghost is: { Counted → Self → Bool };
 
-    fn is_counted(&self, counted: Counted) -> bool
-        ensures { result ≡ is counted self.now };
+    fn is_counted(change: &EntryRef<'_, Self>, counted: Counted) -> bool
+    where
+        Self: Sized,
+        ensures { result ≡ is counted change.now };
 }
 
 impl<A: AllocHandle> CountedEntry for RowChange<A> {
@@ -32,17 +34,17 @@ impl<A: AllocHandle> CountedEntry for RowChange<A> {
 
     ghost is = { is_change };
 
-    fn is_counted(&self, counted: Counted) -> bool {
-        match (counted, self) {
-            (Counted::Inserts, RowChange::Insert { .. })
-            | (Counted::Updates, RowChange::Update { .. })
-            | (Counted::Deletes, RowChange::Delete { .. }) => true,
+    fn is_counted(change: &EntryRef<'_, Self>, counted: Counted) -> bool {
+        match (counted, change.read()) {
+            (Counted::Inserts, ChangeRef::Insert { .. })
+            | (Counted::Updates, ChangeRef::Update { .. })
+            | (Counted::Deletes, ChangeRef::Delete { .. }) => true,
             (
                 Counted::Indirect,
-                RowChange::Insert { indirect, .. }
-                | RowChange::Update { indirect, .. }
-                | RowChange::Delete { indirect, .. },
-            ) => *indirect,
+                ChangeRef::Insert { indirect, .. }
+                | ChangeRef::Update { indirect, .. }
+                | ChangeRef::Delete { indirect, .. },
+            ) => indirect,
             _ => false,
         }
     }
@@ -53,17 +55,17 @@ impl<A: AllocHandle> CountedEntry for Patch<A> {
 
     ghost is = { is_patch };
 
-    fn is_counted(&self, counted: Counted) -> bool {
-        match (counted, self) {
-            (Counted::Inserts, Patch::Insert { .. })
-            | (Counted::Updates, Patch::Update { .. })
-            | (Counted::Deletes, Patch::Delete { .. }) => true,
+    fn is_counted(change: &EntryRef<'_, Self>, counted: Counted) -> bool {
+        match (counted, change.read()) {
+            (Counted::Inserts, PatchRef::Insert { .. })
+            | (Counted::Updates, PatchRef::Update { .. })
+            | (Counted::Deletes, PatchRef::Delete { .. }) => true,
             (
                 Counted::Indirect,
-                Patch::Insert { indirect, .. }
-                | Patch::Update { indirect, .. }
-                | Patch::Delete { indirect, .. },
-            ) => *indirect,
+                PatchRef::Insert { indirect, .. }
+                | PatchRef::Update { indirect, .. }
+                | PatchRef::Delete { indirect, .. },
+            ) => indirect,
             _ => false,
         }
     }
@@ -101,11 +103,10 @@ fn push_line<C: CountedEntry, A: AllocHandle>(
     ensures { OnOk result (string_bytes text.new
         ≡ string_bytes text.old ++ spec.table_line C.is group.now) }
 {
-    let changes = group.changes();
-    let inserts = count(Counted::Inserts, changes);
-    let updates = count(Counted::Updates, changes);
-    let deletes = count(Counted::Deletes, changes);
-    let indirect = count(Counted::Indirect, changes);
+    let inserts = count(Counted::Inserts, group);
+    let updates = count(Counted::Updates, group);
+    let deletes = count(Counted::Deletes, group);
+    let indirect = count(Counted::Indirect, group);
     let table = group.table().as_str();
     writeln!(
         text,
@@ -113,12 +114,15 @@ fn push_line<C: CountedEntry, A: AllocHandle>(
     )
 }
 
-fn count<C: CountedEntry>(counted: Counted, changes: &[C]) -> usize
-    ensures { result ≡ spec.count C.is counted changes.now }
+fn count<C: CountedEntry, A: AllocHandle>(counted: Counted, group: &TableGroup<C, A>) -> usize
+    ensures { result ≡ spec.count C.is counted group.now.changes }
 {
+    let mut left = group.changes();
     let mut found = 0usize;
-    for change in changes {
-        if change.is_counted(counted) {
+    for _place in 0..left.len() {
+        if let Some(change) = left.next_entry()
+            && C::is_counted(&change, counted)
+        {
             found += 1;
         }
     }

@@ -9,7 +9,7 @@ ghost use Rattle.cap_files.specs.Load.{refused_blob, with_group, with_groups, wi
 ghost use Rattle.cap_files.specs.Summary.{is_change};
 ghost use Rattle.cap_files.specs.declared.counts.Counted.TheVariants.{Inserts};
 
-use cap_changes::{Group, RowChange};
+use cap_changes::{ChangeRef, EntryRef, Group, RowChange};
 use cap_codec::Contents;
 use cap_filter::is_word_byte;
 use cap_row::Schema;
@@ -103,7 +103,7 @@ fn push_group<A: AllocHandle>(
     if !is_word(group.table().as_str().as_bytes()) {
         return Err(Fault::Refused(LoadFault::NoWord { group: at }));
     }
-    if !has_inserts_alone(group.changes()) {
+    if !has_inserts_alone(group) {
         return Err(Fault::Refused(LoadFault::NoInsert { group: at }));
     }
     push_table(at, group, created, lines)
@@ -229,13 +229,23 @@ fn is_letter(byte: u8) -> bool
     byte.is_ascii_alphabetic() || byte == b'_'
 }
 
-fn has_inserts_alone<A: AllocHandle>(changes: &[RowChange<A>]) -> bool
-    ensures { result ≡ list_all (is_change Inserts) changes.now }
+fn has_inserts_alone<A: AllocHandle>(group: &Group<A>) -> bool
+    ensures { result ≡ list_all (is_change Inserts) group.now.changes }
 {
-    for change in changes {
-        let RowChange::Insert { .. } = change else {
+    for change in group.changes() {
+        if !is_insert(&change) {
             return false;
-        };
+        }
     }
     true
+}
+
+fn is_insert<A: AllocHandle>(change: &EntryRef<'_, RowChange<A>>) -> bool
+    ensures { result ≡ is_change Inserts change.now }
+{
+    match change.read() {
+        ChangeRef::Insert { .. } => true,
+        ChangeRef::Update { .. } => false,
+        ChangeRef::Delete { .. } => false,
+    }
 }

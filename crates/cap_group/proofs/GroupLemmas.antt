@@ -1,6 +1,8 @@
 -- Changes and groups that are added, one more at a time.
 use Rattle.std.proofs.Common.{◌≡◌, ℕ, suc, ◌+◌, arith, ◌<◌, List, [], ◌∷◌, ◌++◌, length, take, drop, get_or, set, cond, Bool, true, false, Ok, Err, Result, drop-cons, refl, ap, sym, subst, ◌∙◌}
-use Rattle.std.specs.Prelude.{Option, Some, None}
+use Rattle.std.specs.Prelude.{Option, Some, None, map, not, ◌==◌}
+use Rattle.std.proofs.lemmas.List.{map-append}
+use Rattle.std.proofs.lemmas.Bool.Decides.{nat_tests}
 use Rattle.std.specs.Option.{unwrap_or}
 use Rattle.std.specs.List.{AllByRecursion}
 use Rattle.std.specs.declared.cmp.Ordering.TheVariants.{Less, Equal, Greater}
@@ -17,8 +19,8 @@ use Rattle.cap_row.specs.Schema.{flags_eq}
 use Rattle.cap_tree.specs.Tree.{get, put_entry, take_entry}
 use Rattle.cap_changes.specs.Entries.{TableEntries}
 use Rattle.cap_codec.specs.Writable.{has_some}
-use Rattle.cap_group.specs.KeyedChanges.{KeyedChanges, change_after, no_changes, set_change, table_at, with_change, with_changes, with_table}
-use Rattle.cap_group.specs.ChangeGroup.{GroupContent, added, all_added, and_then, with_group, with_groups}
+use Rattle.cap_group.specs.KeyedChanges.{KeyedChanges, entries_of, no_changes, table_at, with_change, with_changes, with_table}
+use Rattle.cap_group.specs.ChangeGroup.{GroupContent, added, all_added, and_then, groups_of, with_group, with_groups}
 use Rattle.cap_group.specs.declared.refusal.GroupRefusal.{GroupRefusal}
 use Rattle.cap_group.specs.declared.refusal.GroupRefusal.TheVariants.{OtherColumns}
 use Rattle.cap_codec.specs.declared.read.Contents.{Contents}
@@ -28,32 +30,7 @@ rest xs i x within is =
     let n : suc i ≡ i + 1 = omega arith in
     drop-cons xs i x within ∙ (λ k. sym is k ∷ drop (n k) xs)
 
--- what holds of each entry holds after one is put or taken
-module _ {A X : Type 0} (P : Fields A × X → Type 0) (k : Fields A) where
-  pub each_put : (x : X) (es : List (Fields A × X)) → P (k, x) → AllByRecursion P es → AllByRecursion P (put_entry fields_cmp es k x)
-  each_put x [] p h = (p, tt)
-  each_put x (e ∷ es) p h =
-      elim (fields_cmp k e.0) as (λ r. AllByRecursion P (match_ordering r ((k, x) ∷ e ∷ es) ((k, x) ∷ es) (e ∷ put_entry fields_cmp es k x))) [
-        | Less ↦ (p, h)
-        | Equal ↦ (p, h.1)
-        | Greater ↦ (h.0, each_put x es p h.1)
-      ]
-
-  pub each_take : (es : List (Fields A × X)) → AllByRecursion P es → AllByRecursion P (take_entry fields_cmp es k)
-  each_take [] h = tt
-  each_take (e ∷ es) h =
-      elim (is_at (fields_cmp k) e.0) as (λ b. AllByRecursion P (cond b es (e ∷ take_entry fields_cmp es k))) [
-        | true ↦ h.1
-        | false ↦ (h.0, each_take es h.1)
-      ]
-
 module _ {A X : Type 0} (key : List Bool → X → Fields A) (combine : List Bool → X → X → Option X) where
-  pub changes_more : (keyed : KeyedChanges A X) (changes : List X) (i : ℕ) (change : X) → i < length changes → change ≡ get_or changes i change →
-      with_changes key combine keyed (take (i + 1) changes) ≡ with_change key combine (with_changes key combine keyed (take i changes)) change
-  changes_more keyed changes i change within is =
-      ap (with_changes key combine keyed) (take_more changes i change within ∙ ap (λ (c : X). take i changes ++ c ∷ []) (sym is))
-      ∙ fold-append (with_change key combine) keyed (take i changes) (change ∷ [])
-
   module _ (i : ℕ) (tables : List (KeyedChanges A X)) (groups : List (TableEntries X)) (group : TableEntries X) (within : i < length groups) (is : group ≡ get_or groups i group) where
     at_group : with_groups key combine i tables (drop i groups) ≡ with_groups key combine i tables (group ∷ drop (i + 1) groups)
     at_group = ap (with_groups key combine i tables) (rest groups i group within is)
@@ -87,15 +64,6 @@ module _ {A : Type 0} (i : ℕ) (group : GroupContent A) (blobs : List (Contents
   pub blob_refused : (why : GroupRefusal) → added group blob ≡ Err why → all_added group (drop i blobs) ≡ Err why
   blob_refused why made = at_blob ∙ ap (λ (r : Result (GroupContent A) GroupRefusal). and_then r (λ more. all_added more (drop (i + 1) blobs))) made
 
--- what holds of each change holds of the one at a key
-pub each_found : {A X : Type 0} (P : X → Type 0) (k : Fields A) (es : List (Fields A × X)) (x : X) → AllByRecursion (λ e. P e.1) es → get fields_cmp es k ≡ Some x → P x
-each_found P k [] x h is = absurd (cc)
-each_found P k (e ∷ es) x h is =
-    elim (is_at (fields_cmp k) e.0) as (λ b. cond b (Some e.1) (get fields_cmp es k) ≡ Some x → P x) [
-      | true ↦ λ found. let same : e.1 ≡ x = cc in subst P same h.0
-      | false ↦ λ found. each_found P k es x h.1 found
-    ] is
-
 pub flags_same : (a b : List Bool) → flags_eq a b ≡ true → a ≡ b
 flags_same [] [] e = refl
 flags_same [] (y ∷ b) e = cc
@@ -111,18 +79,13 @@ flags_self (true ∷ a) = flags_self a
 flags_self (false ∷ a) = flags_self a
 
 module _ {A X : Type 0} (key : List Bool → X → Fields A) (combine : List Bool → X → X → Option X) where
-  -- what a change makes of the changes of its table
-  pub added-is : (keyed : KeyedChanges A X) (k : Fields A) (change : X) (one : Option X) (after : List (Fields A × X)) → k ≡ key keyed.schema change →
-      one ≡ change_after combine keyed.schema (get fields_cmp keyed.changes k) change → after ≡ set_change keyed.changes k one →
-      record { table = keyed.table; schema = keyed.schema; changes = after } ≡ with_change key combine keyed change
-  added-is keyed k change one after is made put =
-      let all : after ≡ set_change keyed.changes (key keyed.schema change) (change_after combine keyed.schema (get fields_cmp keyed.changes (key keyed.schema change)) change) =
-      put ∙ ap (set_change keyed.changes k) made ∙ ap (λ (at : Fields A). set_change keyed.changes at (change_after combine keyed.schema (get fields_cmp keyed.changes at) change)) is in
-      λ i. record { table = keyed.table; schema = keyed.schema; changes = all i }
-
   pub kept_table : (keyed : KeyedChanges A X) (changes : List X) → (with_changes key combine keyed changes).table ≡ keyed.table
   kept_table keyed [] = refl
   kept_table keyed (change ∷ changes) = kept_table (with_change key combine keyed change) changes
+
+  pub kept_schema : (keyed : KeyedChanges A X) (changes : List X) → (with_changes key combine keyed changes).schema ≡ keyed.schema
+  kept_schema keyed [] = refl
+  kept_schema keyed (change ∷ changes) = kept_schema (with_change key combine keyed change) changes
 
   module _ (place : ℕ) (tables : List (KeyedChanges A X)) (group : TableEntries X) where
     -- the group of a table that is there
@@ -156,3 +119,39 @@ pub leaves_err : {X Y E : Type 0} (fault : Fault E) (answer : Result X E) (next 
     LeavesUnlessMemory {X = Unit {0}} (Err fault) (and_then answer next) left
 leaves_err (Refused why) answer next left is = ap (λ (r : Result _ _). and_then r next) is
 leaves_err OutOfMemory answer next left is = tt
+
+-- what follows from a call that left this
+pub leaves_then : {X Y E : Type 0} (result : Result (Unit {0}) (Fault E)) (answer : Result X E) (x : X) (f : X → Y) → LeavesUnlessMemory result answer x →
+    LeavesUnlessMemory result (and_then answer (λ t. Ok (f t))) (f x)
+leaves_then (Ok u) answer x f is = ap (λ (r : Result _ _). and_then r (λ t. Ok (f t))) is
+leaves_then (Err (Refused why)) answer x f is = ap (λ (r : Result _ _). and_then r (λ t. Ok (f t))) is
+leaves_then (Err OutOfMemory) answer x f is = tt
+
+-- what comes first was refused, and the whole is then, or memory is out
+pub leaves_whole : {X E : Type 0} (fault : Fault E) (one whole : Result X E) (x y : X) → LeavesUnlessMemory {X = Unit {0}} (Err fault) one x →
+    ((why : E) → one ≡ Err why → whole ≡ Err why) → LeavesUnlessMemory {X = Unit {0}} (Err fault) whole y
+leaves_whole (Refused why) one whole x y is then = then why is
+leaves_whole OutOfMemory one whole x y is then = tt
+
+pub some_is : {X : Type 0} (xs : List X) → has_some xs ≡ not (length xs == 0)
+some_is [] = refl
+some_is (x ∷ xs) = grind (arith, nat_tests)
+
+-- the tables that have changes, with one more
+module _ {A X : Type 0} where
+  pub groups_push : (ts : List (KeyedChanges A X)) (t : KeyedChanges A X) → groups_of (ts ++ t ∷ []) ≡ groups_of ts ++ cond (has_some (entries_of t).changes) (entries_of t ∷ []) []
+  groups_push [] t = refl
+  groups_push (u ∷ us) t =
+      elim (has_some (entries_of u).changes) as (λ b. cond b (entries_of u ∷ groups_of (us ++ t ∷ [])) (groups_of (us ++ t ∷ []))
+      ≡ cond b (entries_of u ∷ groups_of us) (groups_of us) ++ cond (has_some (entries_of t).changes) (entries_of t ∷ []) []) [
+        | true ↦ ap (λ l. entries_of u ∷ l) (groups_push us t)
+        | false ↦ groups_push us t
+      ]
+
+  pub groups_more : (f : TableEntries X → KeyedChanges A X) (tables : List (TableEntries X)) (i : ℕ) (t : TableEntries X) (made : TableEntries X) → i < length tables → t ≡ get_or tables i t → made ≡ entries_of (f t) →
+      groups_of (map f (take (i + 1) tables)) ≡ groups_of (map f (take i tables)) ++ cond (has_some made.changes) (made ∷ []) []
+  groups_more f tables i t made within is made_is =
+      ap (λ l. groups_of (map f l)) (take_more tables i t within ∙ ap (λ (u : TableEntries X). take i tables ++ u ∷ []) (sym is))
+      ∙ ap groups_of (map-append f (take i tables) (t ∷ []))
+      ∙ groups_push (map f (take i tables)) (f t)
+      ∙ ap (λ (e : TableEntries X). groups_of (map f (take i tables)) ++ cond (has_some e.changes) (e ∷ []) []) (sym made_is)

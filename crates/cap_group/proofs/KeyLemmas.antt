@@ -1,56 +1,98 @@
--- A record that has all key fields has a key.
-use Rattle.std.proofs.Common.{◌≡◌, List, [], ◌∷◌, length, Bool, true, false, not, ◌||◌, map, Option, Some, None, refl, nat_le, subst, arith}
-use Rattle.std.specs.List.{list_any}
-use Rattle.std.specs.Cmp.Lexicographic.{pointwise}
-use Rattle.std.proofs.lemmas.Bool.{and_parts, and_from}
-use Rattle.std.proofs.lemmas.Bool.Decides.{nat_tests}
+-- The values of a key, one after another, and the order of keys by them.
+use Rattle.std.proofs.Common.{◌≡◌, ◌<◌, Bool, true, false, cond, List, [], ◌∷◌, length, Option, Some, None, refl, sym, ap, ◌∙◌, arith}
+use Rattle.std.specs.List.{cons_option}
+use Rattle.std.specs.Map.Iter.{TakesFirst}
+use Rattle.std.specs.Option.{option_map}
+use Rattle.std.specs.Ordering.{ordering_then}
+use Rattle.std.specs.declared.cmp.Ordering.{Ordering}
+use Rattle.std.specs.declared.cmp.Ordering.TheVariants.{Less, Equal, Greater}
 use Rattle.cap_value.specs.declared.value.Value.{Value}
-use Rattle.cap_value.specs.Value.{is_null}
-use Rattle.cap_row.specs.Key.{is_key}
-use Rattle.cap_row.specs.Schema.{has_key}
+use Rattle.cap_value.specs.Value.{value_cmp}
+use Rattle.cap_row.specs.Fields.{Fields}
+use Rattle.cap_row.specs.Key.{fields_cmp}
 use Rattle.cap_changes.specs.FieldRecord.{RecordFields}
-use Rattle.cap_changes.specs.Requirements.{satisfies}
-use Rattle.cap_changes.specs.declared.field_requirement.FieldRequirement.{FieldRequirement}
-use Rattle.cap_changes.specs.declared.field_requirement.FieldRequirement.TheVariants.{Key}
 use Rattle.cap_group.specs.ChangeKey.{key_values}
 
-not_null : (null rest : Bool) → not null ≡ true → rest ≡ false → (null || rest) ≡ false
-not_null true rest is e = cc
-not_null false rest is e = e
+module _ {A : Type 0} where
+  no_fields : (flags : List Bool) → key_values {A = A} flags [] ≡ []
+  no_fields [] = refl
+  no_fields (key ∷ flags) = refl
 
-not_of_false : (b : Bool) → b ≡ false → not b ≡ true
-not_of_false true e = cc
-not_of_false false e = refl
+  pub without_fields : (flags : List Bool) (fields : RecordFields A) → fields ≡ [] → key_values flags fields ≡ []
+  without_fields flags fields none = ap (key_values flags) none ∙ no_fields flags
 
-one_more : {X : Type 0} (x : X) (xs : List X) → nat_le 1 (length (x ∷ xs)) ≡ true
-one_more x xs = grind (arith, nat_tests)
+  module _ {V : Type 0} (shows : V → Value A) where
+    -- the first value, and the others
+    pub first_is : (old new : Fields A) (first : Option V) → TakesFirst shows old first new → cons_option (option_map shows first) new ≡ old
+    first_is old new None taken = taken.1 ∙ sym taken.0
+    first_is old new (Some v) taken = sym taken
 
-no_key_field : (A : Type 0) → satisfies {A = A} Key None ≡ true → ⊥
-no_key_field A e = cc
+    pub none_is : (old new : Fields A) (first : Option V) → TakesFirst shows old first new → first ≡ None → new ≡ []
+    none_is old new None taken none = taken.1
+    none_is old new (Some v) taken none = absurd cc
 
-module _ {A : Type 0} (f : Bool → FieldRequirement) (is : f true ≡ Key) where
-  key_field : (field : Option (Value A)) → satisfies (f true) field ≡ true → satisfies Key field ≡ true
-  key_field field met = subst (λ r. satisfies r field ≡ true) is met
+    -- the value of the first field, if it is of the key, and those of the others
+    pub value_next : (key : Bool) (flags : List Bool) (fields others : RecordFields A) (field found : Option V) → fields ≡ option_map shows field ∷ others → found ≡ cond key field None →
+        key_values (key ∷ flags) fields ≡ cons_option (option_map shows found) (key_values flags others)
+    value_next true flags fields others field found is found_is = (λ i. key_values (true ∷ flags) (is i)) ∙ (λ i. cons_option (option_map shows (sym found_is i)) (key_values flags others))
+    value_next false flags fields others field found is found_is = (λ i. key_values (false ∷ flags) (is i)) ∙ (λ i. cons_option (option_map shows (sym found_is i)) (key_values flags others))
 
-  no_null : (flags : List Bool) (fields : RecordFields A) → pointwise satisfies (map f flags) fields ≡ true → list_any is_null (key_values flags fields) ≡ false
-  no_null [] [] met = refl
-  no_null [] (field ∷ fields) met = cc
-  no_null (key ∷ flags) [] met = cc
-  no_null (true ∷ flags) (None ∷ fields) met = absurd (no_key_field A (key_field None (and_parts (satisfies (f true) None) (pointwise satisfies (map f flags) fields) met).0))
-  no_null (true ∷ flags) (Some value ∷ fields) met =
-      let parts = and_parts (satisfies (f true) (Some value)) (pointwise satisfies (map f flags) fields) met in
-      not_null (is_null value) _ (key_field (Some value) parts.0) (no_null flags fields parts.1)
-  no_null (false ∷ flags) (field ∷ fields) met =
-      no_null flags fields (and_parts (satisfies (f false) field) (pointwise satisfies (map f flags) fields) met).1
+    pub value_none : (key : Bool) (flags : List Bool) (fields others : RecordFields A) (field found : Option V) (all : Fields A) → fields ≡ option_map shows field ∷ others → found ≡ cond key field None → found ≡ None →
+        key_values (key ∷ flags) fields ≡ all → key_values flags others ≡ all
+    value_none key flags fields others field found all is found_is none so_far =
+        (λ i. cons_option (option_map shows (sym none i)) (key_values flags others)) ∙ sym (value_next key flags fields others field found is found_is) ∙ so_far
 
-  some_value : (flags : List Bool) (fields : RecordFields A) → pointwise satisfies (map f flags) fields ≡ true → has_key flags ≡ true → nat_le 1 (length (key_values flags fields)) ≡ true
-  some_value [] fields met keyed = cc
-  some_value (key ∷ flags) [] met keyed = cc
-  some_value (true ∷ flags) (None ∷ fields) met keyed = absurd (no_key_field A (key_field None (and_parts (satisfies (f true) None) (pointwise satisfies (map f flags) fields) met).0))
-  some_value (true ∷ flags) (Some value ∷ fields) met keyed = one_more value (key_values flags fields)
-  some_value (false ∷ flags) (field ∷ fields) met keyed =
-      some_value flags fields (and_parts (satisfies (f false) field) (pointwise satisfies (map f flags) fields) met).1 keyed
+    pub value_some : (key : Bool) (flags : List Bool) (fields others : RecordFields A) (field found : Option V) (value : V) (all : Fields A) → fields ≡ option_map shows field ∷ others → found ≡ cond key field None → found ≡ Some value →
+        key_values (key ∷ flags) fields ≡ all → all ≡ shows value ∷ key_values flags others
+    value_some key flags fields others field found value all is found_is some so_far =
+        sym so_far ∙ value_next key flags fields others field found is found_is ∙ (λ i. cons_option (option_map shows (some i)) (key_values flags others))
 
-  pub key_is : (flags : List Bool) (fields : RecordFields A) → pointwise satisfies (map f flags) fields ≡ true → has_key flags ≡ true → is_key (key_values flags fields) ≡ true
-  key_is flags fields met keyed =
-      and_from (nat_le 1 (length (key_values flags fields))) _ (some_value flags fields met keyed) (not_of_false _ (no_null flags fields met))
+    -- ---- the order of keys, by their first values
+
+    abbrev key : Option V → Fields A → Fields A
+    key first others = cons_option (option_map shows first) others
+
+    pub same_first : (a b : Option V) (x y : V) (l r : Fields A) → a ≡ Some x → b ≡ Some y → value_cmp (shows x) (shows y) ≡ Equal → fields_cmp l r ≡ fields_cmp (key a l) (key b r)
+    same_first a b x y l r is is' same =
+        ap (λ (o : Ordering). ordering_then o (fields_cmp l r)) (sym same) ∙ (λ i. fields_cmp (key (sym is i) l) (key (sym is' i) r))
+
+    decided : (o p : Ordering) → (o ≡ Equal → ⊥) → o ≡ ordering_then o p
+    decided Less p other = refl
+    decided Equal p other = absurd (other refl)
+    decided Greater p other = refl
+
+    pub other_first : (a b : Option V) (x y : V) (l r : Fields A) (o : Ordering) → a ≡ Some x → b ≡ Some y → o ≡ value_cmp (shows x) (shows y) → (o ≡ Equal → ⊥) → o ≡ fields_cmp (key a l) (key b r)
+    other_first a b x y l r o is is' made other =
+        decided o (fields_cmp l r) other ∙ ap (λ (o : Ordering). ordering_then o (fields_cmp l r)) made ∙ (λ i. fields_cmp (key (sym is i) l) (key (sym is' i) r))
+
+    pub longer : (a b : Option V) (x : V) (l r : Fields A) → a ≡ Some x → b ≡ None → r ≡ [] → Greater ≡ fields_cmp (key a l) (key b r)
+    longer a b x l r is is' none = λ i. fields_cmp (key (sym is i) l) (key (sym is' i) (sym none i))
+
+    pub shorter : (a b : Option V) (y : V) (l r : Fields A) → a ≡ None → b ≡ Some y → l ≡ [] → Less ≡ fields_cmp (key a l) (key b r)
+    shorter a b y l r is is' none = λ i. fields_cmp (key (sym is i) (sym none i)) (key (sym is' i) r)
+
+    pub both_end : (a b : Option V) (l r : Fields A) → a ≡ None → b ≡ None → l ≡ [] → r ≡ [] → Equal ≡ fields_cmp (key a l) (key b r)
+    both_end a b l r is is' none none' = λ i. fields_cmp (key (sym is i) (sym none i)) (key (sym is' i) (sym none' i))
+
+    -- the same of what is left of two keys, when a value of each is taken
+    module _ (l r l' r' : Fields A) (a b : Option V) (taken : TakesFirst shows l a l') (taken' : TakesFirst shows r b r') where
+      back : fields_cmp (key a l') (key b r') ≡ fields_cmp l r
+      back = λ i. fields_cmp (first_is l l' a taken i) (first_is r r' b taken' i)
+
+      pub left_same : (x y : V) → a ≡ Some x → b ≡ Some y → value_cmp (shows x) (shows y) ≡ Equal → fields_cmp l' r' ≡ fields_cmp l r
+      left_same x y is is' same = same_first a b x y l' r' is is' same ∙ back
+
+      pub left_other : (x y : V) (o : Ordering) → a ≡ Some x → b ≡ Some y → o ≡ value_cmp (shows x) (shows y) → (o ≡ Equal → ⊥) → o ≡ fields_cmp l r
+      left_other x y o is is' made other = other_first a b x y l' r' o is is' made other ∙ back
+
+      pub left_longer : (x : V) → a ≡ Some x → b ≡ None → Greater ≡ fields_cmp l r
+      left_longer x is is' = longer a b x l' r' is is' (none_is r r' b taken' is') ∙ back
+
+      pub left_shorter : (y : V) → a ≡ None → b ≡ Some y → Less ≡ fields_cmp l r
+      left_shorter y is is' = shorter a b y l' r' is is' (none_is l l' a taken is) ∙ back
+
+      pub left_end : a ≡ None → b ≡ None → Equal ≡ fields_cmp l r
+      left_end is is' = both_end a b l' r' is is' (none_is l l' a taken is) (none_is r r' b taken' is') ∙ back
+
+      pub left_less : (x : V) → a ≡ Some x → length l' < length l
+      left_less x is = omega (arith, ap length (sym (first_is l l' a taken) ∙ ap (λ (o : Option V). cons_option (option_map shows o) l') is))

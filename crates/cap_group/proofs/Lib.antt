@@ -1,5 +1,4 @@
 pub mod ColumnLemmas
-pub mod KeyLemmas
 pub mod FitLemmas
 pub mod GroupLemmas
 pub mod TableLemmas
@@ -7,3 +6,12 @@ pub mod JoinLemmas
 pub mod RowLemmas
 pub mod AloneLemmas
 pub mod BytesLemmas
+pub mod SameLemmas
+pub mod SortLemmas
+pub mod RunLemmas
+pub mod GrownLemmas
+pub mod FieldLemmas
+pub mod ValueLemmas
+pub mod TogetherLemmas
+pub mod PutLemmas
+pub mod KeyLemmas

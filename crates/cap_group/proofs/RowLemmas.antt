@@ -14,7 +14,7 @@ module _ {A X : Type 0} where
   set_at es s k q None = take_entry-Updates fields_cmp fields_cmp_total k es s q
   set_at es s k q (Some x) = put_entry-Updates fields_cmp fields_cmp_total k x es q
 
-  set_ordered : (es : List (Fields A × X)) → IsOrdered fields_cmp es → (k : Fields A) (o : Option X) → IsOrdered fields_cmp (set_change es k o)
+  pub set_ordered : (es : List (Fields A × X)) → IsOrdered fields_cmp es → (k : Fields A) (o : Option X) → IsOrdered fields_cmp (set_change es k o)
   set_ordered es s k None = ordered_take fields_cmp fields_cmp_total k es s
   set_ordered es s k (Some x) = ordered_put fields_cmp fields_cmp_total k x es s
 

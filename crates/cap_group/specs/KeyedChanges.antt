@@ -1,11 +1,9 @@
 -- The changes of one table by the keys of their rows, and those of several tables.
-use Rattle.std.specs.Prelude.{ℕ, Bool, List, [], ◌∷◌, Option, Some, None, map, fold, IsTrue}
+use Rattle.std.specs.Prelude.{ℕ, Bool, List, [], ◌∷◌, Option, Some, None, map, fold}
 use Rattle.std.specs.Prelude.{if◌then◌else◌}
-use Rattle.std.specs.List.{AllByRecursion}
 use Rattle.cap_value.specs.Bytes.{bytes_eq}
 use Rattle.cap_row.specs.Fields.{Fields}
 use Rattle.cap_row.specs.Key.{fields_cmp}
-use Rattle.cap_row.specs.Schema.{has_key}
 use Rattle.cap_tree.specs.Tree.{get, put_entry, take_entry}
 use Rattle.cap_changes.specs.Entries.{TableEntries}
 
@@ -16,11 +14,6 @@ pub record KeyedChanges (A X : Type 0) : Type 0 where
   pub changes : List (Fields A × X)
 
 module _ {A X : Type 0} where
-  -- each change fits the table
-  pub record IsKeyed (fits : List Bool → X → Bool) (keyed : KeyedChanges A X) : Type 0 where
-    pub keyed_schema : IsTrue (has_key keyed.schema)
-    pub fit : AllByRecursion (λ change. IsTrue (fits keyed.schema change.1)) keyed.changes
-
   -- a table without changes
   abbrev pub no_changes : List ℕ → List Bool → KeyedChanges A X
   no_changes table schema = record { table = table; schema = schema; changes = [] }
@@ -64,3 +57,7 @@ module _ {A X : Type 0} (key : List Bool → X → Fields A) (combined : List Bo
   -- changes are added, one after the other
   abbrev pub with_changes : KeyedChanges A X → List X → KeyedChanges A X
   with_changes keyed added = fold with_change keyed added
+
+  -- the changes of a group alone
+  abbrev pub keyed_of : TableEntries X → KeyedChanges A X
+  keyed_of group = with_changes (no_changes group.table group.schema) group.changes

@@ -2,6 +2,9 @@ pub mod Record
 pub mod ChangeKey
 pub mod Combined
 pub mod KeyedChanges
+pub mod Place
+pub mod Grown
 pub mod ChangeGroup
 pub mod Rows
 pub mod Bytes
+pub mod Put

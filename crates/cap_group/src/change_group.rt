@@ -15,8 +15,7 @@ ghost use Rattle.cap_group.specs.ChangeGroup.{empty_group, has_changes, refused_
 ghost use Rattle.cap_group.specs.Bytes.{bytes_added, contents_at};
 
 use crate::combine::Combine;
-use crate::keyed_changes::KeyedChanges;
-use crate::tables::{groups_of, with_groups};
+use crate::tables::{add_groups, groups_of};
 use crate::{BlobRefusal, GroupRefusal};
 use cap_changes::{ChangeList, Patch, PatchList, RowChange, TableGroup};
 use cap_codec::{Contents, KeyFlags, read_blob, write_changes_with, write_patches_with};
@@ -29,16 +28,24 @@ use std::marker::Model;
 /// of their first change, and the changes of a table in the order of their keys.
 pub struct ChangeGroup<A: AllocHandle> {
     alloc: A,
-    changes: Vec<KeyedChanges<RowChange<A>, A>, A>,
-    patches: Vec<KeyedChanges<Patch<A>, A>, A>,
+    // The changes of the blobs, one after the other.
+    changes: Vec<TableGroup<RowChange<A>, A>, A>,
+    patches: Vec<TableGroup<Patch<A>, A>, A>,
 }
 
 impl<A: AllocHandle> Model for ChangeGroup<A> {
+    ghost use Rattle.std.specs.Prelude.{map};
     ghost use Rattle.cap_group.specs.ChangeGroup.{GroupContent};
+    ghost use Rattle.cap_group.specs.ChangeKey.{change_key, patch_key};
+    ghost use Rattle.cap_group.specs.Combined.{combined, patches_combined};
+    ghost use Rattle.cap_group.specs.KeyedChanges.{keyed_of};
 
     ghost Value = { GroupContent A };
 
-    ghost view = { λ g. record { changes = g.changes.items; patches = g.patches.items } };
+    ghost view = { λ g. record {
+      changes = map (keyed_of change_key combined) g.changes.items;
+      patches = map (keyed_of patch_key (λ flags. patches_combined)) g.patches.items;
+    } };
 }
 
 // A derived `Drop` would be opened in each caller's loop.
@@ -88,26 +95,14 @@ impl<A: AllocHandle> ChangeGroup<A> {
         ensures content { LeavesUnlessMemory result (added_unless None self.old (Changes list.now)) self.new }
         ensures kept { OnErr result (self.new ≡ self.old) }
     {
-        match with_groups(self.alloc, &self.changes, list.groups()) {
-            Ok(tables) => {
-                self.changes = tables;
-                Ok(())
-            }
-            Err(fault) => Err(fault),
-        }
+        add_groups(self.alloc, &mut self.changes, list.groups())
     }
 
     fn add_patches(&mut self, list: &PatchList<A>) -> Result<(), Fault<GroupRefusal>>
         ensures content { LeavesUnlessMemory result (added_unless None self.old (Patches list.now)) self.new }
         ensures kept { OnErr result (self.new ≡ self.old) }
     {
-        match with_groups(self.alloc, &self.patches, list.groups()) {
-            Ok(tables) => {
-                self.patches = tables;
-                Ok(())
-            }
-            Err(fault) => Err(fault),
-        }
+        add_groups(self.alloc, &mut self.patches, list.groups())
     }
 
     fn refuses_kind_of(&self, blob: &Contents<A>) -> bool

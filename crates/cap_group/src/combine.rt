@@ -1,10 +1,12 @@
 //! Changes that combine with a later one of the same row.
-ghost use Rattle.std.specs.Prelude.{Bool, List, Option, ◌≡◌, IfOk, IfSome, IsTrue};
+ghost use Rattle.std.specs.Prelude.{Bool, List, ℕ, Option, ◌≡◌, ◌++◌, IfOk, IfSome, IsTrue, is_some};
+ghost use Rattle.std.specs.List.{flat_map};
+ghost use Rattle.std.specs.Option.{option_to_list};
 ghost use Rattle.cap_row.specs.Fields.{Fields};
-ghost use Rattle.cap_row.specs.Schema.{has_key};
+ghost use Rattle.cap_changes.specs.Stored.{IsEntry};
+ghost use Rattle.cap_group.specs.ChangeKey.{key_values};
 
-use cap_changes::Entry;
-use cap_row::{Key, Schema};
+use cap_changes::{Entry, EntryRef, RecordRef};
 use cap_value::{AllocHandle, OutOfMemory};
 
 /// A change of a changeset or of a patchset, which combines with a later one of the same row.
@@ -14,26 +16,33 @@ pub(crate) trait Combine<A: AllocHandle>: Entry {
     // What becomes of the present change when one is added.
     ghost combined: { List Bool → Self → Self → Option Self };
 
-    /// The key of its row.
-    fn key(&self, alloc: A, schema: &Schema<A>) -> Result<Key<A>, OutOfMemory>
-        requires keyed { IsTrue (has_key schema.now) }
-        requires fits { IsTrue (Self.fits_in schema.now self.now) }
-        ensures { IfOk result (λ found. found ≡ key schema.now self.now) };
+    /// The record with the fields of the key of its row.
+    fn key_record<'a>(change: &EntryRef<'a, Self>) -> RecordRef<'a, A>
+    where
+        Self: Sized,
+        ensures { (flags : List Bool) → key_values flags result ≡ key flags change.now };
 
-    /// The same change, which shares its values.
-    fn copy(&self, alloc: A) -> Result<Self, OutOfMemory>
-        ensures { IfOk result (λ copy. copy ≡ self.now) };
+    /// Appends the bytes of what becomes of `present` when `added` follows, and answers whether anything does.
+    fn push_combined(
+        out: &mut Vec<u8, A>,
+        flags: &[bool],
+        present: &EntryRef<'_, Self>,
+        added: &EntryRef<'_, Self>,
+    ) -> Result<bool, OutOfMemory>
+    where
+        Self: Sized,
+        requires present_fits { IsTrue (Self.fits_in flags.now present.now) }
+        requires added_fits { IsTrue (Self.fits_in flags.now added.now) }
+        ensures bytes { IfOk result (λ some. out.new.items ≡ out.old.items
+            ++ flat_map Self.bytes_of (option_to_list (combined flags.now present.now added.now))) }
+        ensures some { IfOk result (λ some. some ≡ is_some (combined flags.now present.now added.now)) }
+        // It fits the table that both fit, and its fields are values.
+        ensures fits { IfOk result (λ some. IfSome (combined flags.now present.now added.now)
+            (λ change. IsTrue (Self.fits_in flags.now change) × Self.has_values change)) };
 
-    /// What becomes of it when `added` follows.
-    fn combined(
-        &self,
-        alloc: A,
-        schema: &Schema<A>,
-        added: &Self,
-    ) -> Result<Option<Self>, OutOfMemory>
-        requires present_fits { IsTrue (Self.fits_in schema.now self.now) }
-        requires added_fits { IsTrue (Self.fits_in schema.now added.now) }
-        ensures change { IfOk result (λ change. change ≡ combined schema.now self.now added.now) }
-        ensures fits { IfOk result (λ change. IfSome change
-            (λ one. IsTrue (Self.fits_in schema.now one))) };
+    // The bytes of a change that fits are of just this one.
+    ghost stored_again: { (flags : List Bool) (change : Self) (bytes : List ℕ) →
+        IsTrue (Self.fits_in flags change) → Self.has_values change → bytes ≡ Self.bytes_of change →
+        (Self.stored flags bytes ≡ change)
+        × IsEntry Self.fits_in Self.has_values Self.bytes_of flags (Self.stored flags bytes) bytes };
 }

@@ -1,156 +1,158 @@
 //! Two changes of one row in changesets.
-ghost use Rattle.std.specs.Prelude.{◌≡◌, IfOk};
+ghost use Rattle.std.specs.Prelude.{◌≡◌, Bool, List, IfOk};
+ghost use Rattle.cap_changes.specs.ChangeRef.{change_of};
 ghost use Rattle.cap_changes.specs.declared.row_change.RowChange.TheVariants.{Insert, Update, Delete};
 ghost use Rattle.cap_group.specs.Combined.{combined};
+ghost use Rattle.cap_group.specs.Put.{IsPut};
 
-use crate::change_key::record_key;
 use crate::combine::Combine;
-use crate::record::{copy_record, record_over, update_between};
-use cap_changes::{FieldRecord, RowChange};
-use cap_row::{Key, Schema};
+use crate::record::{RecordOver, push_over, push_update_between};
+use cap_changes::{
+    ChangeRef, EntryRef, Operation, RecordRef, RowChange, push_operation, push_record,
+};
 use cap_value::{AllocHandle, OutOfMemory};
 
 impl<A: AllocHandle> Combine<A> for RowChange<A> {
     ghost use Rattle.cap_group.specs.ChangeKey.{change_key};
     ghost use Rattle.cap_group.specs.Combined.{combined};
+    ghost use Rattle.cap_changes.proofs.StoredChange.{change_entry};
 
     ghost key = { λ flags change. change_key flags change };
 
     ghost combined = { λ flags present added. combined flags present added };
 
-    fn key(&self, alloc: A, schema: &Schema<A>) -> Result<Key<A>, OutOfMemory> {
-        match self {
-            RowChange::Insert { new, .. } => record_key(alloc, schema, new),
-            RowChange::Update { old, .. } => record_key(alloc, schema, old),
-            RowChange::Delete { old, .. } => record_key(alloc, schema, old),
+    fn key_record<'a>(change: &EntryRef<'a, Self>) -> RecordRef<'a, A> {
+        match change.read() {
+            ChangeRef::Insert { new, .. } => new,
+            ChangeRef::Update { old, .. } => old,
+            ChangeRef::Delete { old, .. } => old,
         }
     }
 
-    fn copy(&self, alloc: A) -> Result<Self, OutOfMemory> {
-        copy_change(alloc, self)
+    fn push_combined(
+        out: &mut Vec<u8, A>,
+        flags: &[bool],
+        present: &EntryRef<'_, Self>,
+        added: &EntryRef<'_, Self>,
+    ) -> Result<bool, OutOfMemory> {
+        // For the proof: a clause of `as_bytes` says that the fields are values.
+        let _present = present.as_bytes();
+        let _added = added.as_bytes();
+        push_together(out, flags, present.read(), added.read())
     }
 
-    fn combined(
-        &self,
-        alloc: A,
-        schema: &Schema<A>,
-        added: &Self,
-    ) -> Result<Option<Self>, OutOfMemory> {
-        match self {
-            RowChange::Insert { indirect, new } => after_insert(
-                alloc, schema, *indirect, new, added,
-            ),
-            RowChange::Update { indirect, old, new } => after_update(
-                alloc, schema, *indirect, old, new, added,
-            ),
-            RowChange::Delete { indirect, old } => after_delete(
-                alloc, schema, *indirect, old, added,
-            ),
-        }
-    }
+    ghost stored_again = { λ flags change bytes fits values spelled.
+        change_entry flags change bytes fits values spelled };
 }
 
-fn copy_change<A: AllocHandle>(alloc: A, change: &RowChange<A>) -> Result<RowChange<A>, OutOfMemory>
-    ensures { IfOk result (λ copy. copy ≡ change.now) }
+// Appends what becomes of a change when another one of its row follows.
+fn push_together<A: AllocHandle>(
+    out: &mut Vec<u8, A>,
+    flags: &[bool],
+    present: ChangeRef<'_, A>,
+    added: ChangeRef<'_, A>,
+) -> Result<bool, OutOfMemory>
+    ensures { IfOk result (λ some. IsPut some out.old.items out.new.items
+        (combined flags.now (change_of present.entry) (change_of added.entry))) }
 {
-    match change {
-        RowChange::Insert { indirect, new } => Ok(RowChange::Insert {
-            indirect: *indirect,
-            new: copy_record(alloc, new)?,
-        }),
-        RowChange::Update { indirect, old, new } => Ok(RowChange::Update {
-            indirect: *indirect,
-            old: copy_record(alloc, old)?,
-            new: copy_record(alloc, new)?,
-        }),
-        RowChange::Delete { indirect, old } => Ok(RowChange::Delete {
-            indirect: *indirect,
-            old: copy_record(alloc, old)?,
-        }),
+    match present {
+        ChangeRef::Insert { indirect, new } => after_insert(out, indirect, new, added),
+        ChangeRef::Update { indirect, old, new } => {
+            after_update(out, flags, indirect, old, new, added)
+        }
+        ChangeRef::Delete { indirect, old } => { after_delete(out, flags, indirect, old, added) }
     }
 }
 
 fn after_insert<A: AllocHandle>(
-    alloc: A,
-    schema: &Schema<A>,
+    out: &mut Vec<u8, A>,
     indirect: bool,
-    new: &FieldRecord<A>,
-    added: &RowChange<A>,
-) -> Result<Option<RowChange<A>>, OutOfMemory>
-    ensures { IfOk result (λ change. change
-        ≡ combined schema.now (Insert indirect new.now) added.now) }
+    new: RecordRef<'_, A>,
+    added: ChangeRef<'_, A>,
+) -> Result<bool, OutOfMemory>
+    ensures { (flags : List Bool) → IfOk result (λ some. IsPut some out.old.items out.new.items
+        (combined flags (Insert indirect new.entry) (change_of added.entry))) }
 {
     match added {
-        RowChange::Insert { .. } => Ok(Some(RowChange::Insert {
-            indirect,
-            new: copy_record(alloc, new)?,
-        })),
-        RowChange::Update {
+        ChangeRef::Insert { .. } => {
+            push_operation(out, Operation::Insert, indirect)?;
+            push_record(out, new)?;
+            Ok(true)
+        }
+        ChangeRef::Update {
             indirect: added,
             new: last,
             ..
-        } => Ok(Some(RowChange::Insert {
-            indirect: indirect && *added,
-            new: record_over(alloc, new, last)?,
-        })),
-        RowChange::Delete { .. } => Ok(None),
+        } => {
+            push_operation(out, Operation::Insert, indirect && added)?;
+            push_over(out, RecordOver::new(new, last))?;
+            Ok(true)
+        }
+        ChangeRef::Delete { .. } => Ok(false),
     }
 }
 
 fn after_update<A: AllocHandle>(
-    alloc: A,
-    schema: &Schema<A>,
+    out: &mut Vec<u8, A>,
+    flags: &[bool],
     indirect: bool,
-    old: &FieldRecord<A>,
-    new: &FieldRecord<A>,
-    added: &RowChange<A>,
-) -> Result<Option<RowChange<A>>, OutOfMemory>
-    ensures { IfOk result (λ change. change
-        ≡ combined schema.now (Update indirect old.now new.now) added.now) }
+    old: RecordRef<'_, A>,
+    new: RecordRef<'_, A>,
+    added: ChangeRef<'_, A>,
+) -> Result<bool, OutOfMemory>
+    ensures { IfOk result (λ some. IsPut some out.old.items out.new.items
+        (combined flags.now (Update indirect old.entry new.entry) (change_of added.entry))) }
 {
     match added {
-        RowChange::Insert { .. } => Ok(Some(RowChange::Update {
-            indirect,
-            old: copy_record(alloc, old)?,
-            new: copy_record(alloc, new)?,
-        })),
-        RowChange::Update {
+        ChangeRef::Insert { .. } => {
+            push_operation(out, Operation::Update, indirect)?;
+            push_record(out, old)?;
+            push_record(out, new)?;
+            Ok(true)
+        }
+        ChangeRef::Update {
             indirect: added,
             old: then,
             new: last,
         } => {
-            let first = record_over(alloc, then, old)?;
-            let last = record_over(alloc, new, last)?;
-            update_between(alloc, schema.flags(), indirect && *added, &first, &last)
+            let first = RecordOver::new(then, old);
+            let last = RecordOver::new(new, last);
+            push_update_between(out, flags, indirect && added, &first, &last)
         }
-        RowChange::Delete {
+        ChangeRef::Delete {
             indirect: added,
             old: then,
-        } => Ok(Some(RowChange::Delete {
-            indirect: indirect && *added,
-            old: record_over(alloc, then, old)?,
-        })),
+        } => {
+            push_operation(out, Operation::Delete, indirect && added)?;
+            push_over(out, RecordOver::new(then, old))?;
+            Ok(true)
+        }
     }
 }
 
 fn after_delete<A: AllocHandle>(
-    alloc: A,
-    schema: &Schema<A>,
+    out: &mut Vec<u8, A>,
+    flags: &[bool],
     indirect: bool,
-    old: &FieldRecord<A>,
-    added: &RowChange<A>,
-) -> Result<Option<RowChange<A>>, OutOfMemory>
-    ensures { IfOk result (λ change. change
-        ≡ combined schema.now (Delete indirect old.now) added.now) }
+    old: RecordRef<'_, A>,
+    added: ChangeRef<'_, A>,
+) -> Result<bool, OutOfMemory>
+    ensures { IfOk result (λ some. IsPut some out.old.items out.new.items
+        (combined flags.now (Delete indirect old.entry) (change_of added.entry))) }
 {
     match added {
-        RowChange::Insert {
+        ChangeRef::Insert {
             indirect: added,
             new,
-        } => update_between(alloc, schema.flags(), indirect && *added, old, new),
-        _ => Ok(Some(RowChange::Delete {
-            indirect,
-            old: copy_record(alloc, old)?,
-        })),
+        } => {
+            let first = RecordOver::alone(old);
+            let last = RecordOver::alone(new);
+            push_update_between(out, flags, indirect && added, &first, &last)
+        }
+        _ => {
+            push_operation(out, Operation::Delete, indirect)?;
+            push_record(out, old)?;
+            Ok(true)
+        }
     }
 }

@@ -1,144 +1,149 @@
 //! Two changes of one row in patchsets.
 ghost use Rattle.std.specs.Prelude.{◌≡◌, IfOk};
+ghost use Rattle.cap_changes.specs.ChangeRef.{patch_of};
 ghost use Rattle.cap_changes.specs.declared.patch.Patch.TheVariants.{Insert, Update, Delete};
 ghost use Rattle.cap_group.specs.Combined.{patches_combined};
+ghost use Rattle.cap_group.specs.Put.{IsPatchPut};
 
-use crate::change_key::record_key;
 use crate::combine::Combine;
-use crate::record::{copy_record, record_over};
-use cap_changes::{FieldRecord, Patch};
-use cap_row::{Key, Schema};
+use crate::record::{RecordOver, push_over};
+use cap_changes::{
+    EntryRef, Operation, Patch, PatchRef, RecordRef, push_key, push_operation, push_record,
+};
 use cap_value::{AllocHandle, OutOfMemory};
 
 impl<A: AllocHandle> Combine<A> for Patch<A> {
     ghost use Rattle.cap_group.specs.ChangeKey.{patch_key};
     ghost use Rattle.cap_group.specs.Combined.{patches_combined};
+    ghost use Rattle.cap_changes.proofs.StoredChange.{patch_entry};
 
     ghost key = { λ flags patch. patch_key flags patch };
 
     ghost combined = { λ flags present added. patches_combined present added };
 
-    fn key(&self, alloc: A, schema: &Schema<A>) -> Result<Key<A>, OutOfMemory> {
-        match self {
-            Patch::Insert { new, .. } => record_key(alloc, schema, new),
-            Patch::Update { new, .. } => record_key(alloc, schema, new),
-            Patch::Delete { key, .. } => record_key(alloc, schema, key),
+    fn key_record<'a>(change: &EntryRef<'a, Self>) -> RecordRef<'a, A> {
+        match change.read() {
+            PatchRef::Insert { new, .. } => new,
+            PatchRef::Update { new, .. } => new,
+            PatchRef::Delete { key, .. } => key,
         }
     }
 
-    fn copy(&self, alloc: A) -> Result<Self, OutOfMemory> {
-        copy_patch(alloc, self)
+    fn push_combined(
+        out: &mut Vec<u8, A>,
+        _flags: &[bool],
+        present: &EntryRef<'_, Self>,
+        added: &EntryRef<'_, Self>,
+    ) -> Result<bool, OutOfMemory> {
+        // For the proof: a clause of `as_bytes` says that the fields are values.
+        let _present = present.as_bytes();
+        let _added = added.as_bytes();
+        push_together(out, present.read(), added.read())
     }
 
-    fn combined(
-        &self,
-        alloc: A,
-        _schema: &Schema<A>,
-        added: &Self,
-    ) -> Result<Option<Self>, OutOfMemory> {
-        match self {
-            Patch::Insert { indirect, new } => after_insert(alloc, *indirect, new, added),
-            Patch::Update { indirect, new } => after_update(alloc, *indirect, new, added),
-            Patch::Delete { indirect, key } => after_delete(alloc, *indirect, key, added),
-        }
-    }
+    ghost stored_again = { λ flags change bytes fits values spelled.
+        patch_entry flags change bytes fits values spelled };
 }
 
-fn copy_patch<A: AllocHandle>(alloc: A, patch: &Patch<A>) -> Result<Patch<A>, OutOfMemory>
-    ensures { IfOk result (λ copy. copy ≡ patch.now) }
+// Appends what becomes of a change when another one of its row follows.
+fn push_together<A: AllocHandle>(
+    out: &mut Vec<u8, A>,
+    present: PatchRef<'_, A>,
+    added: PatchRef<'_, A>,
+) -> Result<bool, OutOfMemory>
+    ensures { IfOk result (λ some. IsPatchPut some out.old.items out.new.items
+        (patches_combined (patch_of present.entry) (patch_of added.entry))) }
 {
-    match patch {
-        Patch::Insert { indirect, new } => Ok(Patch::Insert {
-            indirect: *indirect,
-            new: copy_record(alloc, new)?,
-        }),
-        Patch::Update { indirect, new } => Ok(Patch::Update {
-            indirect: *indirect,
-            new: copy_record(alloc, new)?,
-        }),
-        Patch::Delete { indirect, key } => Ok(Patch::Delete {
-            indirect: *indirect,
-            key: copy_record(alloc, key)?,
-        }),
+    match present {
+        PatchRef::Insert { indirect, new } => after_insert(out, indirect, new, added),
+        PatchRef::Update { indirect, new } => after_update(out, indirect, new, added),
+        PatchRef::Delete { indirect, key } => after_delete(out, indirect, key, added),
     }
 }
 
 fn after_insert<A: AllocHandle>(
-    alloc: A,
+    out: &mut Vec<u8, A>,
     indirect: bool,
-    new: &FieldRecord<A>,
-    added: &Patch<A>,
-) -> Result<Option<Patch<A>>, OutOfMemory>
-    ensures { IfOk result (λ patch. patch
-        ≡ patches_combined (Insert indirect new.now) added.now) }
+    new: RecordRef<'_, A>,
+    added: PatchRef<'_, A>,
+) -> Result<bool, OutOfMemory>
+    ensures { IfOk result (λ some. IsPatchPut some out.old.items out.new.items
+        (patches_combined (Insert indirect new.entry) (patch_of added.entry))) }
 {
     match added {
-        Patch::Insert { .. } => Ok(Some(Patch::Insert {
-            indirect,
-            new: copy_record(alloc, new)?,
-        })),
-        Patch::Update {
+        PatchRef::Insert { .. } => {
+            push_operation(out, Operation::Insert, indirect)?;
+            push_record(out, new)?;
+            Ok(true)
+        }
+        PatchRef::Update {
             indirect: added,
             new: last,
-        } => Ok(Some(Patch::Insert {
-            indirect: indirect && *added,
-            new: record_over(alloc, new, last)?,
-        })),
-        Patch::Delete { .. } => Ok(None),
+        } => {
+            push_operation(out, Operation::Insert, indirect && added)?;
+            push_over(out, RecordOver::new(new, last))?;
+            Ok(true)
+        }
+        PatchRef::Delete { .. } => Ok(false),
     }
 }
 
 fn after_update<A: AllocHandle>(
-    alloc: A,
+    out: &mut Vec<u8, A>,
     indirect: bool,
-    new: &FieldRecord<A>,
-    added: &Patch<A>,
-) -> Result<Option<Patch<A>>, OutOfMemory>
-    ensures { IfOk result (λ patch. patch
-        ≡ patches_combined (Update indirect new.now) added.now) }
+    new: RecordRef<'_, A>,
+    added: PatchRef<'_, A>,
+) -> Result<bool, OutOfMemory>
+    ensures { IfOk result (λ some. IsPatchPut some out.old.items out.new.items
+        (patches_combined (Update indirect new.entry) (patch_of added.entry))) }
 {
     match added {
-        Patch::Insert { .. } => Ok(Some(Patch::Update {
-            indirect,
-            new: copy_record(alloc, new)?,
-        })),
-        Patch::Update {
+        PatchRef::Insert { .. } => {
+            push_operation(out, Operation::Update, indirect)?;
+            push_record(out, new)?;
+            Ok(true)
+        }
+        PatchRef::Update {
             indirect: added,
             new: last,
-        } => Ok(Some(Patch::Update {
-            indirect: indirect && *added,
-            new: record_over(alloc, new, last)?,
-        })),
-        Patch::Delete {
+        } => {
+            push_operation(out, Operation::Update, indirect && added)?;
+            push_over(out, RecordOver::new(new, last))?;
+            Ok(true)
+        }
+        PatchRef::Delete {
             indirect: added,
             key,
-        } => Ok(Some(Patch::Delete {
-            indirect: indirect && *added,
-            key: copy_record(alloc, key)?,
-        })),
+        } => {
+            push_operation(out, Operation::Delete, indirect && added)?;
+            push_key(out, key)?;
+            Ok(true)
+        }
     }
 }
 
 fn after_delete<A: AllocHandle>(
-    alloc: A,
+    out: &mut Vec<u8, A>,
     indirect: bool,
-    key: &FieldRecord<A>,
-    added: &Patch<A>,
-) -> Result<Option<Patch<A>>, OutOfMemory>
-    ensures { IfOk result (λ patch. patch
-        ≡ patches_combined (Delete indirect key.now) added.now) }
+    key: RecordRef<'_, A>,
+    added: PatchRef<'_, A>,
+) -> Result<bool, OutOfMemory>
+    ensures { IfOk result (λ some. IsPatchPut some out.old.items out.new.items
+        (patches_combined (Delete indirect key.entry) (patch_of added.entry))) }
 {
     match added {
-        Patch::Insert {
+        PatchRef::Insert {
             indirect: added,
             new,
-        } => Ok(Some(Patch::Update {
-            indirect: indirect && *added,
-            new: copy_record(alloc, new)?,
-        })),
-        _ => Ok(Some(Patch::Delete {
-            indirect,
-            key: copy_record(alloc, key)?,
-        })),
+        } => {
+            push_operation(out, Operation::Update, indirect && added)?;
+            push_record(out, new)?;
+            Ok(true)
+        }
+        _ => {
+            push_operation(out, Operation::Delete, indirect)?;
+            push_key(out, key)?;
+            Ok(true)
+        }
     }
 }

@@ -4,19 +4,20 @@
 
 mod bytes;
 mod change_group;
-mod change_key;
 mod combine;
 mod combine_changes;
 mod combine_patches;
-mod keyed_changes;
+mod key_ref;
 mod laws;
+mod one_each;
+mod place;
 mod record;
 mod refusal;
-mod shared;
 mod tables;
+mod together;
 
 pub use bytes::concat_bytes;
 pub use change_group::{ChangeGroup, concat};
 pub use laws::{changes_that_follow, each_row_by_itself, one_list_alone};
-pub use record::{copy_field, copy_if, copy_record, is_same_field, record_over, update_between};
+pub use record::{RecordOver, push_if, push_over, push_update_between};
 pub use refusal::{BlobRefusal, ConcatRefusal, GroupRefusal};

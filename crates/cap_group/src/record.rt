@@ -1,153 +1,198 @@
 //! Two records of one row: the fields of both together, and those that differ.
-ghost use Rattle.std.specs.Prelude.{◌≡◌, IfOk, None, if◌then◌else◌};
+ghost use Rattle.std.specs.Prelude.{◌≡◌, ◌++◌, ◌∷◌, [], IfOk, MatchOption, OnOk, not, ◌&&◌, ◌||◌, if◌then◌else◌};
+ghost use Rattle.cap_value.specs.Bytes.{bytes_eq};
 ghost use Rattle.cap_changes.specs.Column.{by_column};
+ghost use Rattle.cap_changes.specs.Field.{record_bytes};
+ghost use Rattle.cap_changes.specs.Record.{BeginsWithField};
+ghost use Rattle.cap_group.specs.Put.{IsPut};
 ghost use Rattle.cap_group.specs.Record as together;
 
-use cap_changes::{FieldRecord, RowChange};
-use cap_value::{AllocHandle, OutOfMemory, Value};
+use cap_changes::{Operation, RecordRef, push_operation};
+use cap_field::UNDEFINED;
+use cap_value::{AllocHandle, OutOfMemory};
+use std::marker::Model;
 
-/// The same record, which shares its values.
-pub fn copy_record<A: AllocHandle>(
-    alloc: A,
-    record: &FieldRecord<A>,
-) -> Result<FieldRecord<A>, OutOfMemory>
-    ensures { IfOk result (λ copy. copy ≡ record.now) }
-{
-    let mut copies = Vec::with_capacity(alloc, record.width())?;
-    for field in record.fields() {
-        copies.push(copy_field(field)?)?;
-    }
-    Ok(FieldRecord::new(copies))
+/// The fields of a record, and those of the one below it where they are undefined.
+#[derive(Drop)]
+pub struct RecordOver<'a, A: AllocHandle> {
+    below: RecordRef<'a, A>,
+    above: RecordRef<'a, A>,
 }
 
-/// The fields of `above`, and those of `below` where they are undefined.
-pub fn record_over<A: AllocHandle>(
-    alloc: A,
-    below: &FieldRecord<A>,
-    above: &FieldRecord<A>,
-) -> Result<FieldRecord<A>, OutOfMemory>
-    ensures { IfOk result (λ over. over ≡ together.record_over below.now above.now) }
-{
-    let mut fields = Vec::with_capacity(alloc, below.width())?;
-    for (below, above) in below.fields().iter().zip(above.fields()) {
-        fields.push(copy_field(field_over(below, above))?)?;
-    }
-    Ok(FieldRecord::new(fields))
+impl<'a, A: AllocHandle> Model for RecordOver<'a, A> {
+    ghost use Rattle.cap_changes.specs.FieldRecord.{RecordFields};
+    ghost use Rattle.cap_group.specs.Record.{record_over};
+
+    ghost Value = { RecordFields A };
+
+    ghost view = { λ r. record_over r.below r.above };
 }
 
-fn field_over<'a, A: AllocHandle>(
-    below: &'a Option<Value<A>>,
-    above: &'a Option<Value<A>>,
-) -> &'a Option<Value<A>>
-    ensures { result.now ≡ together.field_over below.now above.now }
-{
-    match above {
-        None => below,
-        Some(_) => above,
+impl<'a, A: AllocHandle> RecordOver<'a, A> {
+    /// The fields of `above`, and those of `below` where they are undefined.
+    pub fn new(below: RecordRef<'a, A>, above: RecordRef<'a, A>) -> Self
+        ensures { result ≡ together.record_over below.entry above.entry }
+    {
+        RecordOver { below, above }
+    }
+
+    /// The fields of a record alone.
+    pub fn alone(fields: RecordRef<'a, A>) -> Self
+        ensures { result ≡ fields.entry }
+    {
+        RecordOver {
+            below: fields.copy(),
+            above: fields,
+        }
+    }
+
+    /// The same fields.
+    pub fn copy(&self) -> Self
+        ensures { result ≡ self.now }
+    {
+        RecordOver {
+            below: self.below.copy(),
+            above: self.above.copy(),
+        }
+    }
+
+    // The next field, as its bytes.
+    fn next_bytes(&mut self) -> Option<&'a [u8]>
+        ensures { MatchOption result ((self.old ≡ []) × (self.new ≡ []))
+            (λ field. BeginsWithField self.old field.now self.new) }
+    {
+        let below = self.below.next_bytes()?;
+        let Some(above) = self.above.next_bytes() else {
+            return None;
+        };
+        Some(over(below, above))
     }
 }
 
-/// The update from one record to another, none where no field outside the key differs.
-pub fn update_between<A: AllocHandle>(
-    alloc: A,
+// The bytes of the field above, or of the one below where that is undefined.
+fn over<'a>(below: &'a [u8], above: &'a [u8]) -> &'a [u8]
+    ensures { result.now ≡ (if bytes_eq above.now (0 ∷ []) then below.now else above.now) }
+{
+    if above == [UNDEFINED].as_slice() {
+        below
+    } else {
+        above
+    }
+}
+
+/// Appends the fields, in column order.
+pub fn push_over<A: AllocHandle>(
+    out: &mut Vec<u8, A>,
+    over: RecordOver<'_, A>,
+) -> Result<(), OutOfMemory>
+    ensures { OnOk result (out.new.items ≡ out.old.items ++ record_bytes over.entry) }
+{
+    let mut fields = over;
+    while let Some(field) = fields.next_bytes() {
+        out.extend_from_slice(field)?;
+    }
+    Ok(())
+}
+
+/// Appends the update from one record to another, where a field outside the key differs, and answers whether
+/// any does.
+pub fn push_update_between<A: AllocHandle>(
+    out: &mut Vec<u8, A>,
     flags: &[bool],
     indirect: bool,
-    before: &FieldRecord<A>,
-    after: &FieldRecord<A>,
-) -> Result<Option<RowChange<A>>, OutOfMemory>
-    ensures { IfOk result (λ update. update
-        ≡ together.update_between flags.now indirect before.now after.now) }
+    before: &RecordOver<'_, A>,
+    after: &RecordOver<'_, A>,
+) -> Result<bool, OutOfMemory>
+    ensures { IfOk result (λ some. IsPut some out.old.items out.new.items
+        (together.update_between flags.now indirect before.now after.now)) }
 {
-    if !differ(flags, before.fields(), after.fields()) {
-        return Ok(None);
+    if !differ(flags, before.copy(), after.copy()) {
+        return Ok(false);
     }
-    let old = old_record(alloc, flags, before.fields(), after.fields())?;
-    let new = new_record(alloc, flags, before.fields(), after.fields())?;
-    Ok(Some(RowChange::Update { indirect, old, new }))
+    push_operation(out, Operation::Update, indirect)?;
+    push_old(out, flags, before.copy(), after.copy())?;
+    push_new(out, flags, before.copy(), after.copy())?;
+    Ok(true)
 }
 
 fn differ<A: AllocHandle>(
     flags: &[bool],
-    before: &[Option<Value<A>>],
-    after: &[Option<Value<A>>],
+    before: RecordOver<'_, A>,
+    after: RecordOver<'_, A>,
 ) -> bool
-    ensures { result ≡ together.differ flags.now before.now after.now }
+    ensures { result ≡ together.differ flags.now before.entry after.entry }
 {
-    for (key, (before, after)) in flags.iter().zip(before.iter().zip(after)) {
-        if is_modified(*key, before, after) {
+    let (mut before, mut after) = (before, after);
+    for key in flags {
+        let (Some(was), Some(is)) = (before.next_bytes(), after.next_bytes()) else {
+            return false;
+        };
+        if is_modified(*key, was, is) {
             return true;
         }
     }
     false
 }
 
-fn old_record<A: AllocHandle>(
-    alloc: A,
+// Whether these are the bytes of a field outside the key that differs.
+fn is_modified(key: bool, was: &[u8], is: &[u8]) -> bool
+    ensures { result ≡ (not key && not (bytes_eq was.now is.now)) }
+{
+    !key && was != is
+}
+
+// Whether these are the bytes of a key field, or of one that differs.
+fn is_kept(key: bool, was: &[u8], is: &[u8]) -> bool
+    ensures { result ≡ (key || not (bytes_eq was.now is.now)) }
+{
+    key || was != is
+}
+
+fn push_old<A: AllocHandle>(
+    out: &mut Vec<u8, A>,
     flags: &[bool],
-    before: &[Option<Value<A>>],
-    after: &[Option<Value<A>>],
-) -> Result<FieldRecord<A>, OutOfMemory>
-    ensures { IfOk result (λ old. old ≡ by_column together.old_field flags.now before.now after.now) }
+    before: RecordOver<'_, A>,
+    after: RecordOver<'_, A>,
+) -> Result<(), OutOfMemory>
+    ensures { OnOk result (out.new.items ≡ out.old.items
+        ++ record_bytes (by_column together.old_field flags.now before.entry after.entry)) }
 {
-    let mut old = Vec::with_capacity(alloc, flags.len())?;
-    for (key, (before, after)) in flags.iter().zip(before.iter().zip(after)) {
-        old.push(copy_if(*key || is_modified(*key, before, after), before)?)?;
+    let (mut before, mut after) = (before, after);
+    for key in flags {
+        let (Some(was), Some(is)) = (before.next_bytes(), after.next_bytes()) else {
+            return Ok(());
+        };
+        push_if(out, is_kept(*key, was, is), was)?;
     }
-    Ok(FieldRecord::new(old))
+    Ok(())
 }
 
-fn new_record<A: AllocHandle>(
-    alloc: A,
+fn push_new<A: AllocHandle>(
+    out: &mut Vec<u8, A>,
     flags: &[bool],
-    before: &[Option<Value<A>>],
-    after: &[Option<Value<A>>],
-) -> Result<FieldRecord<A>, OutOfMemory>
-    ensures { IfOk result (λ new. new ≡ by_column together.new_field flags.now before.now after.now) }
+    before: RecordOver<'_, A>,
+    after: RecordOver<'_, A>,
+) -> Result<(), OutOfMemory>
+    ensures { OnOk result (out.new.items ≡ out.old.items
+        ++ record_bytes (by_column together.new_field flags.now before.entry after.entry)) }
 {
-    let mut new = Vec::with_capacity(alloc, flags.len())?;
-    for (key, (before, after)) in flags.iter().zip(before.iter().zip(after)) {
-        new.push(copy_if(is_modified(*key, before, after), after)?)?;
+    let (mut before, mut after) = (before, after);
+    for key in flags {
+        let (Some(was), Some(is)) = (before.next_bytes(), after.next_bytes()) else {
+            return Ok(());
+        };
+        push_if(out, is_modified(*key, was, is), is)?;
     }
-    Ok(FieldRecord::new(new))
+    Ok(())
 }
 
-fn is_modified<A: AllocHandle>(
-    key: bool,
-    before: &Option<Value<A>>,
-    after: &Option<Value<A>>,
-) -> bool
-    ensures { result ≡ together.is_modified key before.now after.now }
+/// Appends a field, or an undefined one.
+pub fn push_if<A: AllocHandle>(
+    out: &mut Vec<u8, A>,
+    defined: bool,
+    field: &[u8],
+) -> Result<(), OutOfMemory>
+    ensures { OnOk result (out.new.items ≡ out.old.items ++ (if defined then field.now else 0 ∷ [])) }
 {
-    !key && !is_same_field(before, after)
-}
-
-/// Whether two fields are the same.
-pub fn is_same_field<A: AllocHandle>(before: &Option<Value<A>>, after: &Option<Value<A>>) -> bool
-    ensures { result ≡ together.field_eq before.now after.now }
-{
-    match (before, after) {
-        (None, None) => true,
-        (Some(before), Some(after)) => before == after,
-        _ => false,
-    }
-}
-
-/// The field where it is wanted, and an undefined one else.
-pub fn copy_if<A: AllocHandle>(
-    wanted: bool,
-    field: &Option<Value<A>>,
-) -> Result<Option<Value<A>>, OutOfMemory>
-    ensures { IfOk result (λ copy. copy ≡ (if wanted then field.now else None)) }
-{
-    if wanted { copy_field(field) } else { Ok(None) }
-}
-
-/// The same field, which shares its value.
-pub fn copy_field<A: AllocHandle>(field: &Option<Value<A>>) -> Result<Option<Value<A>>, OutOfMemory>
-    ensures { IfOk result (λ copy. copy ≡ field.now) }
-{
-    match field {
-        None => Ok(None),
-        Some(value) => Ok(Some(value.copy()?)),
-    }
+    out.extend_from_slice(if defined { field } else { &[UNDEFINED] })
 }

@@ -1,147 +1,186 @@
-//! The tables of a changegroup, in the order of their first change.
-ghost use Rattle.std.specs.Prelude.{◌≡◌, ◌++◌, ◌∷◌, [], ◌<◌, length, slice_set, slice_index_or};
-ghost use Rattle.std.specs.Prelude.{IfNone, IfOk, IfSome, IsTrue, None, OnOk, Some};
+//! The tables of a changegroup, in the order of their first change. Each has the changes of the blobs, one after
+//! the other.
+ghost use Rattle.std.specs.Prelude.{◌≡◌, ◌++◌, ◌∷◌, [], ◌<◌, ◌≤◌, length, map, slice_set, slice_index_or};
+ghost use Rattle.std.specs.Prelude.{IfNone, IfOk, IfSome, IsTrue, None, OnErr, OnOk, Some};
 ghost use Rattle.cap_row.specs.Schema.{flags_eq};
-ghost use Rattle.cap_changes.specs.Entries.{AllFit};
-ghost use Rattle.cap_value.specs.Memory.{LeavesUnlessMemory, ShowsUnlessMemory};
+ghost use Rattle.cap_changes.specs.Entries.{AllFit, TableEntries};
+ghost use Rattle.cap_value.specs.Memory.{LeavesUnlessMemory};
 ghost use Rattle.cap_group.specs.ChangeGroup.{groups_of, with_group, with_groups};
+ghost use Rattle.cap_group.specs.Grown.{HaveGrown, IsGrown, cut_back};
 ghost use Rattle.cap_group.specs.KeyedChanges as keyed;
-ghost use Rattle.cap_group.specs.KeyedChanges.{no_changes, table_at, with_changes, with_table};
+ghost use Rattle.cap_group.specs.KeyedChanges.{keyed_of, table_at, with_table};
 
 use crate::GroupRefusal;
 use crate::combine::Combine;
-use crate::keyed_changes::KeyedChanges;
+use crate::one_each::one_each;
 use cap_changes::{GroupList, TableGroup};
 use cap_value::{AllocHandle, Fault, Name, OutOfMemory};
 
-// The tables with the changes of groups, added one after the other.
-pub(crate) fn with_groups<C: Combine<A> + Drop, A: AllocHandle>(
+// Adds the changes of groups, one after the other.
+pub(crate) fn add_groups<C: Combine<A> + Drop, A: AllocHandle>(
     alloc: A,
-    tables: &[KeyedChanges<C, A>],
+    tables: &mut Vec<TableGroup<C, A>, A>,
     groups: &[TableGroup<C, A>],
-) -> Result<Vec<KeyedChanges<C, A>, A>, Fault<GroupRefusal>>
-    ensures { ShowsUnlessMemory (λ made. made.items) result
-        (with_groups C.key C.combined 0 tables.now groups.now) }
+) -> Result<(), Fault<GroupRefusal>>
+    ensures content { LeavesUnlessMemory result
+        (with_groups C.key C.combined 0 (map (keyed_of C.key C.combined) tables.old.items) groups.now)
+        (map (keyed_of C.key C.combined) tables.new.items) }
+    ensures kept { OnErr result (tables.new.items ≡ tables.old.items) }
 {
-    let mut made = copies(alloc, tables)?;
-    for (place, group) in groups.iter().enumerate() {
-        if !group.changes().is_empty() {
-            add_group(alloc, &mut made, place, group)?;
+    let counts = counts_of(alloc, tables)?;
+    match push_groups(tables, groups) {
+        Ok(()) => Ok(()),
+        Err(fault) => {
+            go_back(tables, &counts);
+            Err(fault)
         }
     }
-    Ok(made)
 }
 
-fn copies<C: Combine<A> + Drop, A: AllocHandle>(
+// How many changes each group has.
+fn counts_of<C: Combine<A> + Drop, A: AllocHandle>(
     alloc: A,
-    tables: &[KeyedChanges<C, A>],
-) -> Result<Vec<KeyedChanges<C, A>, A>, OutOfMemory>
-    ensures { IfOk result (λ copies. copies.items ≡ tables.now) }
+    groups: &[TableGroup<C, A>],
+) -> Result<Vec<usize, A>, OutOfMemory>
+    ensures { IfOk result (λ counts. counts.items ≡ map (λ group. length group.changes) groups.now) }
 {
-    let mut copies = Vec::with_capacity(alloc, tables.len())?;
-    for table in tables {
-        copies.push(table.copy()?)?;
+    let mut counts = Vec::with_capacity(alloc, groups.len())?;
+    for group in groups {
+        counts.push(group.changes().len())?;
     }
-    Ok(copies)
+    Ok(counts)
+}
+
+// Takes off what was added since there were so many groups, each with so many changes.
+fn go_back<C: Combine<A> + Drop, A: AllocHandle>(
+    groups: &mut Vec<TableGroup<C, A>, A>,
+    counts: &[usize],
+)
+    requires { length counts.now ≤ length groups.old.items }
+    ensures { groups.new.items ≡ cut_back counts.now groups.old.items }
+{
+    groups.truncate(counts.len());
+    cut_each(groups, counts);
+}
+
+// Keeps so many changes of each group.
+fn cut_each<C: Combine<A> + Drop, A: AllocHandle>(groups: &mut [TableGroup<C, A>], counts: &[usize])
+    requires { length counts.now ≡ length groups.old }
+    ensures { groups.new ≡ cut_back counts.now groups.old }
+{
+    for number in 0..groups.len() {
+        groups[number].truncate(counts[number]);
+    }
+}
+
+fn push_groups<C: Combine<A> + Drop, A: AllocHandle>(
+    tables: &mut Vec<TableGroup<C, A>, A>,
+    groups: &[TableGroup<C, A>],
+) -> Result<(), Fault<GroupRefusal>>
+    ensures content { LeavesUnlessMemory result
+        (with_groups C.key C.combined 0 (map (keyed_of C.key C.combined) tables.old.items) groups.now)
+        (map (keyed_of C.key C.combined) tables.new.items) }
+    ensures grown { HaveGrown tables.old.items tables.new.items }
+{
+    for (place, group) in groups.iter().enumerate() {
+        if !group.changes().is_empty() {
+            push_group(tables, place, group)?;
+        }
+    }
+    Ok(())
 }
 
 // Adds the changes of a group, which is number `place` of its blob.
-fn add_group<C: Combine<A> + Drop, A: AllocHandle>(
-    alloc: A,
-    tables: &mut Vec<KeyedChanges<C, A>, A>,
+fn push_group<C: Combine<A> + Drop, A: AllocHandle>(
+    tables: &mut Vec<TableGroup<C, A>, A>,
     place: usize,
     group: &TableGroup<C, A>,
 ) -> Result<(), Fault<GroupRefusal>>
-    ensures { LeavesUnlessMemory result (with_group C.key C.combined place tables.old.items group.now)
-        tables.new.items }
+    ensures content { LeavesUnlessMemory result
+        (with_group C.key C.combined place (map (keyed_of C.key C.combined) tables.old.items) group.now)
+        (map (keyed_of C.key C.combined) tables.new.items) }
+    ensures grown { HaveGrown tables.old.items tables.new.items }
 {
     match index_of(tables, group.table()) {
-        Some(index) => add_at(alloc, tables, index, place, group),
-        None => Ok(add_table(alloc, tables, group)?),
+        Some(index) => push_at(tables, index, place, group),
+        None => Ok(push_copy(tables, group)?),
     }
 }
 
 // Adds the table of a group, of which there is none so far.
-fn add_table<C: Combine<A> + Drop, A: AllocHandle>(
-    alloc: A,
-    tables: &mut Vec<KeyedChanges<C, A>, A>,
+fn push_copy<C: Combine<A> + Drop, A: AllocHandle>(
+    tables: &mut Vec<TableGroup<C, A>, A>,
     group: &TableGroup<C, A>,
 ) -> Result<(), OutOfMemory>
-    ensures { OnOk result (tables.new.items ≡ tables.old.items ++ with_changes C.key C.combined
-        (no_changes group.now.table group.now.schema) group.now.changes ∷ []) }
+    ensures ok { OnOk result (tables.new.items ≡ tables.old.items ++ group.now ∷ []) }
+    ensures err { OnErr result (tables.new.items ≡ tables.old.items) }
 {
-    tables.push(first_changes(alloc, group)?)?;
+    tables.push(group.copy()?)?;
     Ok(())
 }
 
-// The changes of a group whose table has none so far.
-fn first_changes<C: Combine<A> + Drop, A: AllocHandle>(
-    alloc: A,
-    group: &TableGroup<C, A>,
-) -> Result<KeyedChanges<C, A>, OutOfMemory>
-    ensures { IfOk result (λ table. table ≡ with_changes C.key C.combined
-        (no_changes group.now.table group.now.schema) group.now.changes) }
-{
-    let (name, schema) = (group.table().copy()?, group.schema().copy()?);
-    let mut table = KeyedChanges::empty(alloc, name, schema);
-    table.add_all(alloc, group.changes())?;
-    Ok(table)
-}
-
 // Adds the changes of a group to the table at the index, which has its name.
-fn add_at<C: Combine<A> + Drop, A: AllocHandle>(
-    alloc: A,
-    tables: &mut [KeyedChanges<C, A>],
+fn push_at<C: Combine<A> + Drop, A: AllocHandle>(
+    tables: &mut [TableGroup<C, A>],
     index: usize,
     place: usize,
     group: &TableGroup<C, A>,
 ) -> Result<(), Fault<GroupRefusal>>
     requires within { index < length tables.old }
-    requires at { (d : keyed.KeyedChanges A C) → table_at tables.old group.now.table
-        ≡ Some (slice_index_or tables.old index d) }
-    requires named { (d : keyed.KeyedChanges A C) → (slice_index_or tables.old index d).table
-        ≡ group.now.table }
+    requires at { (d : TableEntries C) → table_at (map (keyed_of C.key C.combined) tables.old) group.now.table
+        ≡ Some (keyed_of C.key C.combined (slice_index_or tables.old index d)) }
+    requires named { (d : TableEntries C) → (slice_index_or tables.old index d).table ≡ group.now.table }
     requires put { (t : keyed.KeyedChanges A C) → t.table ≡ group.now.table
-        → with_table tables.old t ≡ slice_set tables.old index t }
-    ensures { LeavesUnlessMemory result (with_group C.key C.combined place tables.old group.now) tables.new }
+        → with_table (map (keyed_of C.key C.combined) tables.old) t
+        ≡ slice_set (map (keyed_of C.key C.combined) tables.old) index t }
+    ensures content { LeavesUnlessMemory result
+        (with_group C.key C.combined place (map (keyed_of C.key C.combined) tables.old) group.now)
+        (map (keyed_of C.key C.combined) tables.new) }
+    ensures grown { HaveGrown tables.old tables.new }
 {
     let table = &mut tables[index];
-    if has_columns_of(table, group) {
-        table.add_all(alloc, group.changes())?;
+    if table.schema() == group.schema() {
+        push_changes(table, group)?;
         Ok(())
     } else {
         Err(Fault::Refused(GroupRefusal::OtherColumns { group: place }))
     }
 }
 
-// Whether the table has the columns of the group, which its changes then fit.
-fn has_columns_of<C: Combine<A> + Drop, A: AllocHandle>(
-    table: &KeyedChanges<C, A>,
+// Appends the changes of another group of the same columns.
+fn push_changes<C: Combine<A> + Drop, A: AllocHandle>(
+    table: &mut TableGroup<C, A>,
     group: &TableGroup<C, A>,
-) -> bool
-    ensures columns { result ≡ flags_eq table.now.schema group.now.schema }
-    ensures fit { IsTrue result → AllFit C.fits_in table.now.schema group.now.changes }
+) -> Result<(), OutOfMemory>
+    requires { IsTrue (flags_eq table.old.schema group.now.schema) }
+    ensures changes { OnOk result (table.new ≡ record table.old {
+      changes = table.old.changes ++ group.now.changes;
+    }) }
+    ensures grown { IsGrown table.old table.new }
 {
-    // For the proof: a clause of `changes` says that they fit the columns of their group.
-    let _changes = group.changes();
-    table.schema() == group.schema()
+    for change in group.changes() {
+        table.push(change.as_bytes())?;
+    }
+    Ok(())
 }
 
 // The index of the table of the name, if there is one.
 fn index_of<C: Combine<A> + Drop, A: AllocHandle>(
-    tables: &[KeyedChanges<C, A>],
+    tables: &[TableGroup<C, A>],
     name: &Name<A>,
 ) -> Option<usize>
     ensures within { IfSome result (λ i. i < length tables.now) }
-    ensures at { IfSome result (λ i. (d : keyed.KeyedChanges A C) → table_at tables.now name.now
-        ≡ Some (slice_index_or tables.now i d)) }
-    ensures named { IfSome result (λ i. (d : keyed.KeyedChanges A C)
-        → (slice_index_or tables.now i d).table ≡ name.now) }
+    ensures at { IfSome result (λ i. (d : TableEntries C)
+        → table_at (map (keyed_of C.key C.combined) tables.now) name.now
+        ≡ Some (keyed_of C.key C.combined (slice_index_or tables.now i d))) }
+    ensures named { IfSome result (λ i. (d : TableEntries C) → (slice_index_or tables.now i d).table ≡ name.now) }
     ensures put { IfSome result (λ i. (t : keyed.KeyedChanges A C) → t.table ≡ name.now
-        → with_table tables.now t ≡ slice_set tables.now i t) }
-    ensures none { IfNone result (table_at tables.now name.now ≡ None) }
+        → with_table (map (keyed_of C.key C.combined) tables.now) t
+        ≡ slice_set (map (keyed_of C.key C.combined) tables.now) i t) }
+    ensures none { IfNone result (table_at (map (keyed_of C.key C.combined) tables.now) name.now ≡ None) }
     ensures push { IfNone result ((t : keyed.KeyedChanges A C) → t.table ≡ name.now
-        → with_table tables.now t ≡ tables.now ++ t ∷ []) }
+        → with_table (map (keyed_of C.key C.combined) tables.now) t
+        ≡ map (keyed_of C.key C.combined) tables.now ++ t ∷ []) }
 {
     let mut index = 0;
     while index < tables.len() {
@@ -153,17 +192,18 @@ fn index_of<C: Combine<A> + Drop, A: AllocHandle>(
     None
 }
 
-// The tables that have changes, each as a group of a list.
+// The tables that have changes, each as a group of a list with one change for each row.
 pub(crate) fn groups_of<C: Combine<A> + Drop, A: AllocHandle>(
     alloc: A,
-    tables: &[KeyedChanges<C, A>],
+    tables: &[TableGroup<C, A>],
 ) -> Result<GroupList<C, A>, OutOfMemory>
-    ensures { IfOk result (λ list. list ≡ groups_of tables.now) }
+    ensures { IfOk result (λ list. list ≡ groups_of (map (keyed_of C.key C.combined) tables.now)) }
 {
     let mut list = GroupList::new(alloc);
     for table in tables {
-        if table.has_some() {
-            list.push(table.group(alloc)?)?;
+        let made = one_each(alloc, table)?;
+        if !made.changes().is_empty() {
+            list.push(made)?;
         }
     }
     Ok(list)

@@ -1,6 +1,6 @@
 -- What becomes of one change over one remote change of its row: its flag, and that it fits its table.
-use Rattle.std.proofs.Common.{◌≡◌, List, [], ◌∷◌, Bool, true, false, Option, Some, None, is_some, is_none, cond, refl, sym, subst}
-use Rattle.std.specs.Prelude.{IfOk, IfSome, IsTrue, Result, Ok, Err}
+use Rattle.std.proofs.Common.{◌≡◌, List, [], ◌∷◌, Bool, true, false, Option, Some, None, is_some, is_none, cond, refl}
+use Rattle.std.specs.Prelude.{IfSome, IsTrue}
 use Rattle.std.specs.Option.{option_map}
 use Rattle.std.specs.List.{list_any}
 use Rattle.std.proofs.lemmas.Bool.{and_parts, and_from}
@@ -20,7 +20,7 @@ use Rattle.cap_group.specs.Record.{differ, old_field, new_field, update_between}
 use Rattle.cap_group.specs.Rows.{is_indirect}
 use Rattle.cap_group.proofs.FitLemmas.{combined-fits}
 use Rattle.cap_rebase.specs.Flag.{flagged}
-use Rattle.cap_rebase.specs.Rebase.{field_left, new_left, old_left, over_omitted, over_replaced}
+use Rattle.cap_rebase.specs.Rebase.{field_left, new_left, old_left, over_omitted, over_replaced, rebased}
 
 if_some : {X : Type 0} (b : Bool) (x : X) (fits : X → Bool) → fits x ≡ true → IfSome (cond b (Some x) None) (λ one. IsTrue (fits one))
 if_some true x fits h = h
@@ -113,9 +113,12 @@ module _ {A : Type 0} where
       if_some (list_any is_some (new_left new' new)) (Update indirect' (by_column old_left flags old' (new_left new' new)) (new_left new' new)) (change_fits flags)
       (and_from (satisfy (requirements record_kinds.Keyed flags) (by_column old_left flags old' (new_left new' new))) _ both.0 both.1)
 
-  -- what a call made fits, where it is what is left
-  pub made-fits : {E : Type 0} (flags : List Bool) (result : Result (Option (RowChange A)) E) (should : Option (RowChange A)) →
-      IfOk result (λ made. made ≡ should) → IfSome should (λ one. IsTrue (change_fits flags one)) →
-      IfOk result (λ made. IfSome made (λ one. IsTrue (change_fits flags one)))
-  made-fits flags (Ok made) should is h = subst (λ (o : Option (RowChange A)). IfSome o (λ one. IsTrue (change_fits flags one))) (sym is) h
-  made-fits flags (Err e) should is h = tt
+  either : (b : Bool) (x y : Option (RowChange A)) (P : RowChange A → Type 0) → IfSome x P → IfSome y P → IfSome (cond b x y) P
+  either true x y P h h' = h
+  either false x y P h h' = h'
+
+  pub rebased-fits : (flags : List Bool) (remote local : RowChange A) → change_fits flags remote ≡ true → change_fits flags local ≡ true →
+      IfSome (rebased flags remote local) (λ one. IsTrue (change_fits flags one))
+  rebased-fits flags remote local fit fit' =
+      either (is_indirect remote) (over_replaced flags remote local) (over_omitted flags remote local) (λ one. IsTrue (change_fits flags one))
+      (replaced-fits flags remote local fit fit') (omitted-fits flags remote local fit fit')

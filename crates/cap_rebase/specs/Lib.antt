@@ -4,3 +4,4 @@ pub mod Buffer
 pub mod Rebaser
 pub mod OneRow
 pub mod Bytes
+pub mod Left

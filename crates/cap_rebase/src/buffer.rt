@@ -3,10 +3,10 @@ ghost use Rattle.std.specs.Prelude.{◌≡◌, IfOk, IfSome, IsTrue};
 ghost use Rattle.cap_changes.specs.Fits.{change_fits};
 ghost use Rattle.cap_rebase.specs.Buffer as buffer;
 
-use crate::change::flagged_copy;
+use crate::ChangeLeft;
 use crate::push::{push_change, push_group};
 use cap_apply::{Answer, Conflict};
-use cap_changes::{ChangeList, Group, RowChange};
+use cap_changes::{ChangeList, EntryRef, Group, RowChange};
 use cap_value::{AllocHandle, OutOfMemory};
 
 /// The buffer of an application of a changeset: its changes that met a conflict, by the conflicts of the
@@ -43,43 +43,51 @@ fn group_met<A: AllocHandle>(
 {
     let mut met = Group::new(alloc, group.table().copy()?, group.schema().copy()?);
     for conflict in conflicts {
-        push_change(&mut met, met_in(alloc, first, group, conflict)?)?;
+        push_change(&mut met, &met_in(alloc, first, group, conflict)?)?;
     }
     Ok(met)
 }
 
 // The change of a group that met the conflict.
-fn met_in<A: AllocHandle>(
+fn met_in<'s, A: AllocHandle>(
     alloc: A,
     first: u64,
-    group: &Group<A>,
+    group: &'s Group<A>,
     conflict: &Conflict,
-) -> Result<Option<RowChange<A>>, OutOfMemory>
+) -> Result<ChangeLeft<'s, A>, OutOfMemory>
     ensures change { IfOk result (λ change. change ≡ buffer.met first group.now.changes conflict.now) }
     ensures fits { IfOk result (λ change. IfSome change
         (λ one. IsTrue (change_fits group.now.schema one))) }
 {
+    let flags = group.schema().flags();
     if conflict.change < first {
-        return Ok(None);
+        return Ok(ChangeLeft::nothing(alloc, flags));
     }
     let place = conflict.change - first;
-    if place >= group.changes().len() as u64 {
-        return Ok(None);
+    let changes = group.changes();
+    if place >= changes.len() as u64 {
+        return Ok(ChangeLeft::nothing(alloc, flags));
     }
-    answered(alloc, conflict.answer, &group.changes()[place as usize])
+    match changes.get(place as usize) {
+        Some(change) => answered(alloc, flags, conflict.answer, &change),
+        None => Ok(ChangeLeft::nothing(alloc, flags)),
+    }
 }
 
 // The change with the answer in the place of its indirect flag.
-fn answered<A: AllocHandle>(
+fn answered<'s, A: AllocHandle>(
     alloc: A,
+    flags: &'s [bool],
     answer: Answer,
-    change: &RowChange<A>,
-) -> Result<Option<RowChange<A>>, OutOfMemory>
-    ensures { IfOk result (λ made. made ≡ buffer.answered answer change.now) }
+    change: &EntryRef<'_, RowChange<A>>,
+) -> Result<ChangeLeft<'s, A>, OutOfMemory>
+    requires { IsTrue (change_fits flags.now change.now) }
+    ensures change { IfOk result (λ made. made ≡ buffer.answered answer change.now) }
+    ensures fits { IfOk result (λ made. IfSome made (λ one. IsTrue (change_fits flags.now one))) }
 {
     match answer {
-        Answer::Omit => Ok(Some(flagged_copy(alloc, false, change)?)),
-        Answer::Replace => Ok(Some(flagged_copy(alloc, true, change)?)),
-        Answer::Abort => Ok(None),
+        Answer::Omit => ChangeLeft::flagged(alloc, flags, false, change),
+        Answer::Replace => ChangeLeft::flagged(alloc, flags, true, change),
+        Answer::Abort => Ok(ChangeLeft::nothing(alloc, flags)),
     }
 }

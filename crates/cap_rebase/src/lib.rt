@@ -6,6 +6,7 @@ mod buffer;
 mod bytes;
 mod change;
 mod laws;
+mod left;
 mod push;
 mod rebaser;
 mod record;
@@ -18,5 +19,6 @@ pub use change::rebase_change;
 pub use laws::{
     one_row_has_one_key, rebased_from_the_hub_to_the_client, rebased_over_each_in_turn,
 };
+pub use left::ChangeLeft;
 pub use rebaser::Rebaser;
 pub use refusal::{BlobRefusal, NumberedRefusal, RebaseRefusal};

@@ -4,20 +4,21 @@ ghost use Rattle.std.specs.List.{cons_option};
 ghost use Rattle.cap_changes.specs.Fits.{change_fits};
 ghost use Rattle.cap_codec.specs.Writable.{has_some};
 
-use cap_changes::{ChangeList, Group, RowChange};
+use crate::ChangeLeft;
+use cap_changes::{ChangeList, Group};
 use cap_value::{AllocHandle, OutOfMemory};
 
 // Appends the change, if there is one.
 pub(crate) fn push_change<A: AllocHandle>(
     group: &mut Group<A>,
-    change: Option<RowChange<A>>,
+    change: &ChangeLeft<'_, A>,
 ) -> Result<(), OutOfMemory>
-    requires { IfSome change (λ one. IsTrue (change_fits group.old.schema one)) }
+    requires { IfSome change.now (λ one. IsTrue (change_fits group.old.schema one)) }
     ensures { OnOk result (group.new
-        ≡ record group.old { changes = group.old.changes ++ cons_option change [] }) }
+        ≡ record group.old { changes = group.old.changes ++ cons_option change.now [] }) }
 {
-    match change {
-        Some(change) => group.push(change),
+    match change.get() {
+        Some(change) => group.push(change.as_bytes()),
         None => Ok(()),
     }
 }

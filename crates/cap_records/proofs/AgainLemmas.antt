@@ -15,9 +15,9 @@ use Rattle.cap_changes.specs.declared.field_requirement.FieldRequirement.{FieldR
 use Rattle.cap_changes.specs.declared.field_requirement.FieldRequirement.TheVariants as required
 use Rattle.cap_field.specs.Reading.{◌>>=◌}
 use Rattle.cap_field.specs.Field.{value_bytes}
-use Rattle.cap_codec.specs.Field.{field_bytes, record_bytes}
-use Rattle.cap_codec.specs.FieldReading.{field_at}
-use Rattle.cap_codec.proofs.FieldAgain.{field_again}
+use Rattle.cap_changes.specs.Field.{field_bytes, record_bytes}
+use Rattle.cap_changes.specs.FieldReading.{field_at}
+use Rattle.cap_changes.proofs.FieldAgain.{field_again}
 use Rattle.cap_records.specs.Record.{defined, fields_at, has_byte, key_in, record_in, row_in, values_bytes}
 use Rattle.cap_records.proofs.FieldLemmas.{AreMet, a_byte, asked-is, fields_meet, no_more, one_more}
 

@@ -11,13 +11,13 @@ use Rattle.cap_changes.specs.declared.field_requirement.FieldRequirement.{FieldR
 use Rattle.cap_changes.specs.declared.field_requirement.FieldRequirement.TheVariants as required
 use Rattle.cap_field.specs.declared.fault.BlobFault.{BlobFault}
 use Rattle.cap_field.specs.Reading.{◌>>=◌}
-use Rattle.cap_codec.specs.Field.{field_bytes, record_bytes}
-use Rattle.cap_codec.specs.FieldReading.{field_at}
+use Rattle.cap_changes.specs.Field.{field_bytes, record_bytes}
+use Rattle.cap_changes.specs.FieldReading.{field_at}
 use Rattle.cap_field.proofs.Binds.{bind_ok, ok_is}
-use Rattle.cap_codec.proofs.FieldAgain.{asked_bytes}
-use Rattle.cap_codec.proofs.FitLemmas.{field_meets}
+use Rattle.cap_changes.proofs.FieldAgain.{asked_bytes}
+use Rattle.cap_changes.proofs.FitLemmas.{field_meets}
 use Rattle.cap_field.proofs.Spelled.{AreLow, low_behind}
-use Rattle.cap_codec.proofs.Spelled.{field_spelled}
+use Rattle.cap_changes.proofs.Spelled.{field_spelled}
 use Rattle.cap_records.specs.Record.{fields_at, has_byte, record_in}
 
 -- ---- a field and those behind it

@@ -14,7 +14,7 @@ use Rattle.cap_changes.specs.declared.field_requirement.FieldRequirement.TheVari
 use Rattle.cap_field.specs.declared.fault.BlobFault.{BlobFault}
 use Rattle.cap_field.specs.Reading.{◌>>=◌}
 use Rattle.cap_field.specs.Field.{value_bytes}
-use Rattle.cap_codec.specs.FieldReading.{field_at}
+use Rattle.cap_changes.specs.FieldReading.{field_at}
 
 -- a field with this requirement has a byte at least
 abbrev pub has_byte : FieldRequirement → Bool

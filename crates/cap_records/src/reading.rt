@@ -1,12 +1,16 @@
 //! Reading of records that stand alone.
-ghost use Rattle.std.specs.Prelude.{◌≡◌, ◌++◌, ◌∷◌, [], IfOk, IsTrue, OnOk};
+ghost use Rattle.std.specs.Prelude.{◌≡◌, ◌++◌, ◌∷◌, [], IfOk, IfSome, IsTrue, OnOk};
+ghost use Rattle.std.specs.declared.alloc.Global.{Global};
+ghost use Rattle.cap_value.specs.Value.{IsValue};
+ghost use Rattle.cap_changes.specs.FieldReading.{field_of};
 ghost use Rattle.cap_value.specs.Memory.{ShowsUnlessMemory};
-ghost use Rattle.cap_codec.specs.Field.{record_bytes};
+ghost use Rattle.cap_changes.specs.Field.{record_bytes};
 ghost use Rattle.cap_records.specs.Record.{columns_set, defined, has_byte, record_in};
 
 use cap_changes::FieldRequirement;
-use cap_codec::{BlobFault, own_field, take_field};
+use cap_codec::{BlobFault, take_field};
 use cap_database::Assignments;
+use cap_field::ValueRef;
 use cap_value::{Fault, OutOfMemory, Value};
 use std::alloc::Global;
 
@@ -44,6 +48,20 @@ pub(crate) fn take_fields(
         }
     }
     Ok(fields)
+}
+
+// An owned copy of a field.
+fn own_field(
+    alloc: Global,
+    field: Option<ValueRef<'_>>,
+) -> Result<Option<Value<Global>>, OutOfMemory>
+    requires { IfSome (field_of {A = Global} field) IsValue }
+    ensures { IfOk result (λ own. own ≡ field_of field.entry) }
+{
+    match field {
+        Some(value) => Ok(Some(value.own(alloc)?)),
+        None => Ok(None),
+    }
 }
 
 /// The values of the fields that are defined.

@@ -118,7 +118,7 @@ fn write_change<A: AllocHandle>(
         return writer.null();
     };
     match group.changes().get(place) {
-        Some(change) => { write_change_json(alloc, writer, group.table(), group.schema(), change) }
+        Some(change) => { write_change_json(alloc, writer, group.table(), group.schema(), &change) }
         None => writer.null(),
     }
 }
@@ -136,7 +136,7 @@ fn write_patch<A: AllocHandle>(
         return writer.null();
     };
     match group.changes().get(place) {
-        Some(patch) => write_patch_json(alloc, writer, group.table(), group.schema(), patch),
+        Some(patch) => write_patch_json(alloc, writer, group.table(), group.schema(), &patch),
         None => writer.null(),
     }
 }

@@ -9,7 +9,7 @@ use Rattle.cap_run.specs.Code.Unread.{Counted, CutsLine, Failed, HasLine, HasPar
 use Rattle.cap_run.specs.declared.unread.ReadFault.{ReadFault}
 use Rattle.cap_run.specs.declared.unread.ReadFault.TheVariants.{Failed as ReadFailed, OutOfMemory}
 use Rattle.cap_replies.proofs.TextLineLemmas.{has_line_feed, line_alone, line_cut}
-use Rattle.cap_stream.proofs.CallLemmas.{went_on}
+use Rattle.cap_stream.proofs.CallLemmas.{calls_on, went_on}
 
 -- the first line feed is here
 pub feed_at : (text : List ℕ) (i d : ℕ) → i < length text → get_or text i d ≡ 10 → text ≡ take i text ++ 10 ∷ drop (i + 1) text
@@ -143,15 +143,9 @@ module _ {R : Type 0} (gave : R → R → Type 0) where
   pub counted_none : (reads : ℕ) (old : R) → Counted gave reads reads old old
   counted_none reads old = (0, refl, omega arith)
 
-  calls_on : (m n : ℕ) (a b c : R) → Calls gave m a b → Calls gave n b c → (k : ℕ) × (k ≡ m + n) × Calls gave k a c
-  calls_on m zero a b c some same = (m, omega arith, subst (λ (x : R). Calls gave m a x) same some)
-  calls_on m (suc n) a b c some (before, calls, last) =
-      let all = calls_on m n a b before some calls in
-      (suc all.0, omega (arith, all.1), (before, all.2, last))
-
   pub counted_on : (a b c : ℕ) (x y z : R) → Counted gave a b x y → Counted gave b c y z → Counted gave a c x z
   counted_on a b c x y z (m, some, one) (n, others, two) =
-      let all = calls_on m n x y z some others in
+      let all = calls_on gave gave m n x y z some others in
       (all.0, all.2, omega (arith, all.1, one, two))
 
   -- one read more
@@ -161,7 +155,7 @@ module _ {R : Type 0} (gave : R → R → Type 0) where
   pub failed_on : (failed : R → R → Type 0) (a b : ℕ) (x y z : R) → Counted gave a b x y → Failed gave failed b y z → Failed gave failed a x z
   failed_on failed a b x y z (m, some, is) (inl (before, others, last)) = inl (before, went_on gave gave x y before (m, some) others, last)
   failed_on failed a b x y z (m, some, is) (inr most) =
-      let all = calls_on m b x y z some most in
+      let all = calls_on gave gave m b x y z some most in
       let same : all.0 ≡ a = omega (arith, all.1, is) in
       inr (subst (λ (n : ℕ). Calls gave n x z) same all.2)
 

@@ -22,6 +22,48 @@ use cap_row::Schema;
 use cap_txn::{Asked, Batch};
 use cap_value::{AllocHandle, OutOfMemory, Refusal, VALUE_BYTES_MAX};
 
+/// The words that a command begins with.
+pub const COMMAND_WORDS: [&str; 38] = [
+    "create",
+    "commit",
+    "commitat",
+    "apply",
+    "applyquiet",
+    "applyeach",
+    "get",
+    "scan",
+    "save",
+    "dropdatabase",
+    "attach",
+    "enable",
+    "indirect",
+    "diff",
+    "changeset",
+    "patchset",
+    "restart",
+    "dump",
+    "insert",
+    "update",
+    "delete",
+    "cascade",
+    "rollback",
+    "put",
+    "drop",
+    "attachall",
+    "filter",
+    "isempty",
+    "session",
+    "sessions",
+    "databases",
+    "tables",
+    "begin",
+    "savepoint",
+    "end",
+    "omit",
+    "replace",
+    "abort",
+];
+
 // What is spelled behind the worker.
 #[derive(Drop)]
 pub(crate) enum Spelled<A: AllocHandle> {

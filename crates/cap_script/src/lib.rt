@@ -23,6 +23,7 @@ mod stop_text;
 mod words;
 mod workload;
 
+pub use command::COMMAND_WORDS;
 pub use fault::ScriptFault;
 pub use fault_text::print_fault;
 pub use laws::{

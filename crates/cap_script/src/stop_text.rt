@@ -68,7 +68,7 @@ fn write_row_change<A: AllocHandle>(
     match group.changes().get(change) {
         Some(change) => {
             let head = GroupText::of(group.table(), group.schema());
-            write!(out, "{head}{}", ChangeText(change))
+            write!(out, "{head}{}", ChangeText(&change))
         }
         None => Ok(()),
     }
@@ -88,7 +88,7 @@ fn write_patch<A: AllocHandle>(
     match group.changes().get(change) {
         Some(patch) => {
             let head = GroupText::of(group.table(), group.schema());
-            write!(out, "{head}{}", PatchText(patch))
+            write!(out, "{head}{}", PatchText(&patch))
         }
         None => Ok(()),
     }

@@ -1,32 +1,28 @@
--- The changes of a commit, staged one after the other.
-use Rattle.std.proofs.Common.{◌≡◌, ℕ, Bool, true, false, cond, None, List, [], ◌∷◌, ◌||◌, map, refl, sym, ap, ap₂, ◌∙◌}
+-- The changes of a commit, one after the other.
+use Rattle.std.proofs.Common.{◌≡◌, ℕ, Bool, true, false, cond, None, List, [], ◌∷◌, ◌||◌, refl, sym, ap, ap₂, ◌∙◌}
 use Rattle.std.specs.Prelude.{fold}
 use Rattle.std.specs.Cmp.Lexicographic.{bytes_decides}
 use Rattle.std.specs.List.{cons_option}
 use Rattle.std.specs.Option.{option_map}
 use Rattle.cap_value.specs.Bytes.{bytes_eq}
-use Rattle.cap_database.specs.Read.{row_at}
-use Rattle.cap_database.specs.Tables.{Tables}
 use Rattle.cap_database.specs.declared.change.Change.{Change}
-use Rattle.cap_session.specs.declared.rule.AutomaticRule.{AutomaticRule}
-use Rattle.cap_session.specs.Recording.{attach_by, attach_by_rule, is_cascade, touch_of, touch_table, touch_tables, touches_of}
+use Rattle.cap_session.specs.Recording.{is_cascade, touch_of, touch_table, touch_tables, touches_of}
 use Rattle.cap_session.specs.Records.{Records, touch, with_touches}
-use Rattle.cap_session.specs.Session.{AttachedTables, accepts_by, attach}
+use Rattle.cap_session.specs.Session.{AttachedTables}
 use Rattle.cap_session.proofs.RecordLemmas.{touch-first}
 use Rattle.cap_session.proofs.TableLemmas.{other-way}
-use Rattle.cap_session.proofs.StageLemmas.{all-later, there-once}
 
-module _ {A : Type 0} (before : Tables A) (indirect : Bool) where
+module _ {A : Type 0} (indirect : Bool) where
   -- the records of a table after one change
   abbrev pub after_one : Change A → List ℕ → Records A → Records A
-  after_one change name records = with_touches records (touches_of before indirect name (change ∷ []))
+  after_one change name records = with_touches records (touches_of indirect name (change ∷ []))
 
   untouched : (change : Change A) (other : List ℕ) (records : Records A) → bytes_eq other change.table ≡ false → after_one change other records ≡ records
   untouched change other records not =
-      ap (λ b. with_touches records (cons_option (cond b (option_map (λ key. record { key = key; image = row_at before other key; indirect = indirect || is_cascade change.cause }) change.key) None) [])) not
+      ap (λ b. with_touches records (cons_option (cond b (option_map (λ key. record { key = key; image = change.before; indirect = indirect || is_cascade change.cause }) change.key) None) [])) not
 
   -- a change of one table alone
-  pub one-table : (change : Change A) (tables : AttachedTables A) → touch_table change.table (touches_of before indirect change.table (change ∷ [])) tables ≡ touch_tables before indirect (change ∷ []) tables
+  pub one-table : (change : Change A) (tables : AttachedTables A) → touch_table change.table (touches_of indirect change.table (change ∷ [])) tables ≡ touch_tables indirect (change ∷ []) tables
   one-table change [] = refl
   one-table change (t ∷ ts) =
       ap₂ (λ a b. a ∷ b)
@@ -36,30 +32,14 @@ module _ {A : Type 0} (before : Tables A) (indirect : Bool) where
       ] refl)
       (one-table change ts)
 
-  one-more : (change : Change A) (rest : List (Change A)) (tables : AttachedTables A) → touch_tables before indirect rest (touch_tables before indirect (change ∷ []) tables) ≡ touch_tables before indirect (change ∷ rest) tables
+  pub one-more : (change : Change A) (rest : List (Change A)) (tables : AttachedTables A) → touch_tables indirect rest (touch_tables indirect (change ∷ []) tables) ≡ touch_tables indirect (change ∷ rest) tables
   one-more change rest [] = refl
   one-more change rest (t ∷ ts) =
       ap₂ (λ (records : Records A) others. (t.0, records) ∷ others)
-      (ap (λ records. fold touch records (touches_of before indirect t.0 rest)) (sym (touch-first t.1 (touch_of before indirect t.0 change) []))
-      ∙ touch-first t.1 (touch_of before indirect t.0 change) (touches_of before indirect t.0 rest))
+      (ap (λ records. fold touch records (touches_of indirect t.0 rest)) (sym (touch-first t.1 (touch_of indirect t.0 change) []))
+      ∙ touch-first t.1 (touch_of indirect t.0 change) (touches_of indirect t.0 rest))
       (one-more change rest ts)
 
-  pub changes-later : (rule : AutomaticRule A) (change : Change A) (rest : List (Change A)) (tables after : AttachedTables A) → after ≡ touch_tables before indirect (change ∷ []) (attach_by rule tables change.table)
-      → touch_tables before indirect rest (attach_by_rule rule rest after) ≡ touch_tables before indirect (change ∷ rest) (attach_by_rule rule (change ∷ rest) tables)
-  changes-later rule change rest tables after is =
-      ap (λ ts. touch_tables before indirect rest (attach_by_rule rule rest ts)) is
-      ∙ sym (ap (touch_tables before indirect rest) (all-later [] change.table (after_one change) (untouched change) (accepts_by rule) (map (λ later. later.table) rest) (attach_by rule tables change.table) (there-once [] change.table (after_one change) (untouched change) (accepts_by rule) tables)))
-      ∙ one-more change rest (attach_by_rule rule rest (attach_by rule tables change.table))
-
-  pub no-change : (tables : AttachedTables A) → touch_tables before indirect [] tables ≡ tables
+  pub no-change : (tables : AttachedTables A) → touch_tables indirect [] tables ≡ tables
   no-change [] = refl
   no-change (t ∷ ts) = ap (λ others. t ∷ others) (no-change ts)
-
-module _ {A : Type 0} where
-  -- a rule attaches a name once
-  pub rule-there : (rule : AutomaticRule A) (name : List ℕ) (tables : AttachedTables A) → attach name tables ≡ tables → attach_by rule tables name ≡ tables
-  rule-there rule name tables there =
-      elim (accepts_by rule name) as (λ b. cond b (attach name tables) tables ≡ tables) [
-        | true ↦ there
-        | false ↦ refl
-      ]

@@ -22,9 +22,7 @@ use Rattle.cap_tree.proofs.Crossing.{tree_send, tree_sync}
 use Rattle.cap_filter.proofs.Crossing.{filter_send, filter_sync}
 use Rattle.cap_session.proofs.record.Record.TheSendSync as record_
 use Rattle.cap_session.specs.contracts.records.Records as Records
-use Rattle.cap_session.specs.contracts.staged_records.StagedRecords as StagedRecords
 use Rattle.cap_session.specs.contracts.session.Session as Session
-use Rattle.cap_session.specs.contracts.numbered.Numbered as Numbered
 use Rattle.cap_session.specs.contracts.sessions.Sessions as Sessions
 use Rattle.cap_row.specs.contracts.key.Key as Key
 use Rattle.cap_session.specs.contracts.record.Record as Record
@@ -78,12 +76,6 @@ module _ (A : RattleType) (h : handle.Ghosts A.Denot) (a : allocator.Ghosts A.De
   records_sync : IsSync (Records.the_row A h a c)
   records_sync = search (pair_sync, tree_sync, key.the_send, key.the_sync, record_.the_send, record_.the_sync, sendable) depth 20
 
-  staged_send : IsSend (StagedRecords.the_row A h a c)
-  staged_send = search (records_send, sendable, crosses) depth 20
-
-  staged_sync : IsSync (StagedRecords.the_row A h a c)
-  staged_sync = search (records_sync, sendable, crosses) depth 20
-
   fold_send : IsSend (BuildHasherDefault.the_row FoldHasher.the_row)
   fold_send = search sendable depth 20
 
@@ -91,19 +83,13 @@ module _ (A : RattleType) (h : handle.Ghosts A.Denot) (a : allocator.Ghosts A.De
   fold_sync = search sendable depth 20
 
   pub session_send : IsSend (Session.the_row A h a c)
-  session_send = search (fold_send, records_send, staged_send, map_send, name.the_send, filter_send, sendable, crosses) depth 60 fits 100000
+  session_send = search (fold_send, records_send, map_send, name.the_send, filter_send, sendable, crosses) depth 60 fits 100000
 
   pub session_sync : IsSync (Session.the_row A h a c)
-  session_sync = search (fold_sync, records_sync, staged_sync, map_sync, name.the_sync, filter_sync, sendable, crosses) depth 60 fits 100000
-
-  numbered_send : IsSend (Numbered.the_row A h a c)
-  numbered_send = search (session_send, sendable) depth 20
-
-  numbered_sync : IsSync (Numbered.the_row A h a c)
-  numbered_sync = search (session_sync, sendable) depth 20
+  session_sync = search (fold_sync, records_sync, map_sync, name.the_sync, filter_sync, sendable, crosses) depth 60 fits 100000
 
   pub sessions_send : IsSend (Sessions.the_row A h a c)
-  sessions_send = search (numbered_send, sendable, crosses) depth 20
+  sessions_send = search (session_send, sendable, crosses) depth 20
 
   pub sessions_sync : IsSync (Sessions.the_row A h a c)
-  sessions_sync = search (numbered_sync, sendable, crosses) depth 20
+  sessions_sync = search (session_sync, sendable, crosses) depth 20

@@ -1,12 +1,13 @@
 mod CommitLemmas
 pub mod Crossing
+mod DeltaLemmas
+mod EachLemmas
+pub mod KeyLemmas
 mod LatestLemmas
-mod KeyLemmas
 mod ListLemmas
-mod RecordingLemmas
+mod NoteLemmas
 mod NumberLemmas
 mod PlaceLemmas
-mod RecordLemmas
+pub mod RecordLemmas
+mod RecordingLemmas
 mod TableLemmas
-mod StageLemmas
-mod StagedLemmas

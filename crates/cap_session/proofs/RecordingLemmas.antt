@@ -1,16 +1,21 @@
 -- What the changes of a commit make of the attached tables.
 use Rattle.std.proofs.Common.{◌≡◌, ℕ, Bool, true, false, cond, Option, Some, None, List, [], ◌∷◌, ◌++◌, ◌&&◌, ◌||◌, refl, sym, ap, ◌∙◌}
 use Rattle.std.specs.Prelude.{is_some}
-use Rattle.std.specs.List.{AllByRecursion, cons_option, list_any}
+use Rattle.std.specs.List.{cons_option, find, list_any}
+use Rattle.std.specs.Cmp.{eq_by_cmp_equiv}
 use Rattle.std.specs.Option.{option_map}
 use Rattle.std.specs.Cmp.Lexicographic.{bytes_decides}
 use Rattle.cap_value.specs.Bytes.{bytes_eq}
+use Rattle.cap_row.specs.Fields.{Fields}
+use Rattle.cap_row.specs.Key.{fields_cmp_total, fields_eq}
+use Rattle.cap_table.specs.Sound.{is_key_of}
 use Rattle.cap_database.specs.Read.{row_at}
+use Rattle.cap_database.specs.Carried.{is_of_row}
 use Rattle.cap_database.specs.Tables.{Tables}
 use Rattle.cap_database.specs.declared.change.Change.{Change}
 use Rattle.cap_session.specs.declared.rule.AutomaticRule.{AutomaticRule}
 use Rattle.cap_session.specs.Recording.{attach_by, attach_by_rule, is_cascade, record_commit, touch_tables, touches_of}
-use Rattle.cap_session.specs.Records.{Records, Touch, with_touches}
+use Rattle.cap_session.specs.Records.{Records, Touch, touches_at, with_touches}
 use Rattle.cap_session.specs.Session.{AttachedTables, SessionState, accepts_by, attach, is_listed, records_of}
 
 and_true : (a : Bool) → (a && true) ≡ a
@@ -28,7 +33,13 @@ or_both true false true = refl
 or_both true false false = refl
 or_both false b c = refl
 
+first_same : {X : Type 0} (x y : X) (xs ys : List X) → x ∷ xs ≡ y ∷ ys → x ≡ y
+first_same x y xs ys is = cc
+
 module _ {A : Type 0} where
+  other_way : (own key : Fields A) → fields_eq key own ≡ fields_eq own key
+  other_way own key = (eq_by_cmp_equiv fields_cmp_total).symm key own
+
   -- the records of a table, or none where it is newly attached
   found_or : Option (Records A) → Bool → Option (Records A)
   found_or None b = cond b (Some []) None
@@ -50,7 +61,7 @@ module _ {A : Type 0} where
   found_or-there None b is = cc
   found_or-there (Some records) b is = refl
 
-  listed : (name : List ℕ) (tables : AttachedTables A) → is_listed name tables ≡ is_some (records_of tables name)
+  pub listed : (name : List ℕ) (tables : AttachedTables A) → is_listed name tables ≡ is_some (records_of tables name)
   listed name [] = refl
   listed name (t ∷ tables) =
       elim (bytes_eq name t.0) as (λ b. (b || is_listed name tables) ≡ is_some (cond b (Some t.1) (records_of tables name))) [
@@ -115,36 +126,49 @@ module _ {A : Type 0} where
   newly_attached rule changes tables name is =
       records_of-attach_by_rule rule changes name tables ∙ ap (λ found. found_or found (list_any (λ change. bytes_eq name change.table) changes && accepts_by rule name)) is
 
-  pub records_of-touch_tables : (before : Tables A) (indirect : Bool) (changes : List (Change A)) (tables : AttachedTables A) (name : List ℕ)
-      → records_of (touch_tables before indirect changes tables) name ≡ option_map (λ records. with_touches records (touches_of before indirect name changes)) (records_of tables name)
-  records_of-touch_tables before indirect changes [] name = refl
-  records_of-touch_tables before indirect changes (t ∷ tables) name =
-      elim (bytes_eq name t.0) as (λ b. bytes_eq name t.0 ≡ b → cond b (Some (with_touches t.1 (touches_of before indirect t.0 changes))) (records_of (touch_tables before indirect changes tables) name)
-      ≡ option_map (λ records. with_touches records (touches_of before indirect name changes)) (cond b (Some t.1) (records_of tables name))) [
-        | true ↦ λ same. ap (λ n. Some (with_touches t.1 (touches_of before indirect n changes))) (sym ((bytes_decides name t.0).0 same))
-        | false ↦ λ other. records_of-touch_tables before indirect changes tables name
+  pub records_of-touch_tables : (indirect : Bool) (changes : List (Change A)) (tables : AttachedTables A) (name : List ℕ)
+      → records_of (touch_tables indirect changes tables) name ≡ option_map (λ records. with_touches records (touches_of indirect name changes)) (records_of tables name)
+  records_of-touch_tables indirect changes [] name = refl
+  records_of-touch_tables indirect changes (t ∷ tables) name =
+      elim (bytes_eq name t.0) as (λ b. bytes_eq name t.0 ≡ b → cond b (Some (with_touches t.1 (touches_of indirect t.0 changes))) (records_of (touch_tables indirect changes tables) name)
+      ≡ option_map (λ records. with_touches records (touches_of indirect name changes)) (cond b (Some t.1) (records_of tables name))) [
+        | true ↦ λ same. ap (λ n. Some (with_touches t.1 (touches_of indirect n changes))) (sym ((bytes_decides name t.0).0 same))
+        | false ↦ λ other. records_of-touch_tables indirect changes tables name
       ] refl
 
-  -- each touch has the row before the event
-  pub rows_before : (before : Tables A) (indirect : Bool) (name : List ℕ) (changes : List (Change A)) → AllByRecursion (λ (t : Touch A). t.image ≡ row_at before name t.key) (touches_of before indirect name changes)
-  rows_before before indirect name [] = tt
-  rows_before before indirect name (change ∷ changes) =
-      elim (bytes_eq name change.table) as (λ b. AllByRecursion (λ (t : Touch A). t.image ≡ row_at before name t.key) (cons_option (cond b (option_map (λ key. record { key = key; image = row_at before name key; indirect = indirect || is_cascade change.cause }) change.key) None) (touches_of before indirect name changes))) [
-        | true ↦ elim change.key as (λ key. AllByRecursion (λ (t : Touch A). t.image ≡ row_at before name t.key) (cons_option (option_map (λ key. record { key = key; image = row_at before name key; indirect = indirect || is_cascade change.cause }) key) (touches_of before indirect name changes))) [
-          | None ↦ rows_before before indirect name changes
-          | Some key ↦ (refl, rows_before before indirect name changes)
+  -- the first touch of a key has the row before the commit, where the changes carry first rows
+  pub first-image : (before : Tables A) (indirect : Bool) (name : List ℕ) (key : Fields A) (changes : List (Change A)) (first : Touch A) (others : List (Touch A))
+      → ((change : Change A) → find (is_of_row name key) changes ≡ Some change → change.before ≡ row_at before name key)
+      → touches_at key (touches_of indirect name changes) ≡ first ∷ others → first.image ≡ row_at before name key
+  first-image before indirect name key [] first others carry is = cc
+  first-image before indirect name key (change ∷ changes) first others carry is =
+      let rest = touches_of indirect name changes in
+      let made : Fields A → Touch A = λ own. record { key = own; image = change.before; indirect = indirect || is_cascade change.cause } in
+      let Carried : Bool → Type 0 = λ b. (found : Change A) → cond b (Some change) (find (is_of_row name key) changes) ≡ Some found → found.before ≡ row_at before name key in
+      elim (bytes_eq name change.table) as (λ b. Carried (b && is_key_of change.key key) → touches_at key (cons_option (cond b (option_map made change.key) None) rest) ≡ first ∷ others → first.image ≡ row_at before name key) [
+        | false ↦ λ carry is. first-image before indirect name key changes first others carry is
+        | true ↦ elim change.key as (λ k. Carried (is_key_of k key) → touches_at key (cons_option (option_map made k) rest) ≡ first ∷ others → first.image ≡ row_at before name key) [
+          | None ↦ λ carry is. first-image before indirect name key changes first others carry is
+          | Some own ↦ λ carry is.
+              elim (fields_eq own key) as (λ b. fields_eq own key ≡ b → Carried b → first.image ≡ row_at before name key) [
+                | true ↦ λ same carry.
+                    let here : made own ∷ touches_at key rest ≡ first ∷ others = sym (ap (λ b. cond b (made own ∷ touches_at key rest) (touches_at key rest)) (other_way own key ∙ same)) ∙ is in
+                    ap (λ (t : Touch A). t.image) (sym (first_same (made own) first _ _ here)) ∙ carry change refl
+                | false ↦ λ apart carry.
+                    first-image before indirect name key changes first others carry
+                    (sym (ap (λ b. cond b (made own ∷ touches_at key rest) (touches_at key rest)) (other_way own key ∙ apart)) ∙ is)
+              ] refl carry
         ]
-        | false ↦ rows_before before indirect name changes
-      ]
+      ] carry is
 
-  abbrev recorded : Tables A → List (Change A) → SessionState A → Bool → SessionState A
-  recorded before changes session b = cond b (record session { tables = touch_tables before session.indirect changes (attach_by_rule session.rule changes session.tables) }) session
+  abbrev recorded : List (Change A) → SessionState A → Bool → SessionState A
+  recorded changes session b = cond b (record session { tables = touch_tables session.indirect changes (attach_by_rule session.rule changes session.tables) }) session
 
-  pub record_commit-records : (before : Tables A) (changes : List (Change A)) (session : SessionState A) (name : List ℕ) → session.enabled ≡ true
-      → records_of (record_commit before changes session).tables name ≡ option_map (λ records. with_touches records (touches_of before session.indirect name changes)) (records_of (attach_by_rule session.rule changes session.tables) name)
-  record_commit-records before changes session name enabled =
-      ap (λ b. records_of (recorded before changes session b).tables name) enabled
-      ∙ records_of-touch_tables before session.indirect changes (attach_by_rule session.rule changes session.tables) name
+  pub record_commit-records : (changes : List (Change A)) (session : SessionState A) (name : List ℕ) → session.enabled ≡ true
+      → records_of (record_commit changes session).tables name ≡ option_map (λ records. with_touches records (touches_of session.indirect name changes)) (records_of (attach_by_rule session.rule changes session.tables) name)
+  record_commit-records changes session name enabled =
+      ap (λ b. records_of (recorded changes session b).tables name) enabled
+      ∙ records_of-touch_tables session.indirect changes (attach_by_rule session.rule changes session.tables) name
 
-  pub record_commit-disabled : (before : Tables A) (changes : List (Change A)) (session : SessionState A) → session.enabled ≡ false → record_commit before changes session ≡ session
-  record_commit-disabled before changes session disabled = ap (recorded before changes session) disabled
+  pub record_commit-disabled : (changes : List (Change A)) (session : SessionState A) → session.enabled ≡ false → record_commit changes session ≡ session
+  record_commit-disabled changes session disabled = ap (recorded changes session) disabled

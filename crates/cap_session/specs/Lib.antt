@@ -1,4 +1,5 @@
 pub mod Code
+pub mod Delta
 pub mod Recording
 pub mod Records
 pub mod Session

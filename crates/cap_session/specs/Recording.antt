@@ -1,12 +1,8 @@
 -- Recording the changes of one commit, or a diff, in a session.
-use Rattle.std.specs.Prelude.{ℕ, Bool, true, false, ◌||◌, if◌then◌else◌, Option, None}
-use Rattle.std.specs.Prelude.{List, [], ◌∷◌, map, fold}
+use Rattle.std.specs.Prelude.{ℕ, Bool, true, false, ◌||◌, if◌then◌else◌, Option, None, List, map, fold}
 use Rattle.std.specs.List.{filter_map}
 use Rattle.std.specs.Option.{option_map}
 use Rattle.cap_value.specs.Bytes.{bytes_eq}
-use Rattle.cap_row.specs.Fields.{Fields}
-use Rattle.cap_database.specs.Read.{row_at}
-use Rattle.cap_database.specs.Tables.{Tables}
 use Rattle.cap_database.specs.declared.cause.Cause.{Cause}
 use Rattle.cap_database.specs.declared.cause.Cause.TheVariants.{Direct, Cascade}
 use Rattle.cap_database.specs.declared.change.Change.{Change}
@@ -21,27 +17,26 @@ is_cascade Direct = false
 is_cascade Cascade = true
 
 module _ {A : Type 0} where
-  -- A change of a row of this table, as a touch of its key: the image is the row before the commit. A row
-  -- without a key is never touched.
-  abbrev pub touch_of : Tables A → Bool → List ℕ → Change A → Option (Touch A)
-  touch_of before indirect name change =
+  -- A change of a row of this table, as a touch of its key: the image is the row that the change carries, in
+  -- the first change of a key the row before the commit. A row without a key is never touched.
+  abbrev pub touch_of : Bool → List ℕ → Change A → Option (Touch A)
+  touch_of indirect name change =
       if bytes_eq name change.table
       then option_map (λ key. record {
         key = key;
-        image = row_at before name key;
+        image = change.before;
         indirect = indirect || is_cascade change.cause;
       }) change.key
       else None
 
   -- the touches of rows of this table
-  abbrev pub touches_of : Tables A → Bool → List ℕ → List (Change A) → List (Touch A)
-  touches_of before indirect name changes = filter_map (touch_of before indirect name) changes
+  abbrev pub touches_of : Bool → List ℕ → List (Change A) → List (Touch A)
+  touches_of indirect name changes = filter_map (touch_of indirect name) changes
 
   -- each attached table with the touches of its rows
-  abbrev pub touch_tables : Tables A → Bool → List (Change A) → AttachedTables A → AttachedTables A
-  touch_tables before indirect changes tables =
-      map (λ attached. (attached.0, with_touches attached.1 (touches_of before indirect attached.0 changes)))
-      tables
+  abbrev pub touch_tables : Bool → List (Change A) → AttachedTables A → AttachedTables A
+  touch_tables indirect changes tables =
+      map (λ attached. (attached.0, with_touches attached.1 (touches_of indirect attached.0 changes))) tables
 
   -- the name is attached where the rule accepts it
   abbrev pub attach_by : AutomaticRule A → AttachedTables A → List ℕ → AttachedTables A
@@ -51,13 +46,12 @@ module _ {A : Type 0} where
   abbrev pub attach_by_rule : AutomaticRule A → List (Change A) → AttachedTables A → AttachedTables A
   attach_by_rule rule changes tables = fold (attach_by rule) tables (map (λ change. change.table) changes)
 
-  -- the session after a commit with these changes, given the tables before it
-  abbrev pub record_commit : Tables A → List (Change A) → SessionState A → SessionState A
-  record_commit before changes session =
+  -- the session after a commit with these changes
+  abbrev pub record_commit : List (Change A) → SessionState A → SessionState A
+  record_commit changes session =
       if session.enabled
       then record session {
-        tables =
-            touch_tables before session.indirect changes (attach_by_rule session.rule changes session.tables);
+        tables = touch_tables session.indirect changes (attach_by_rule session.rule changes session.tables);
       }
       else session
 
@@ -72,18 +66,6 @@ module _ {A : Type 0} where
   touch_table name touches tables =
       map (λ attached.
       if bytes_eq name attached.0 then (attached.0, with_touches attached.1 touches) else attached) tables
-
-  -- the session after a commit that changes the row of this key alone, given the row before it
-  abbrev pub record_key : List ℕ → Fields A → Cause → Option (Fields A) → SessionState A → SessionState A
-  record_key name key cause image session =
-      if session.enabled
-      then record session {
-        tables =
-            touch_table name
-            (record { key = key; image = image; indirect = session.indirect || is_cascade cause } ∷ [])
-            (attach_by session.rule session.tables name);
-      }
-      else session
 
   -- the session after a diff of this table, which is attached whatever the rule, even where the session is
   -- disabled

@@ -29,16 +29,7 @@ pub record SessionState (A : Type 0) : Type 0 where
   pub rule : AutomaticRule A
   pub tables : AttachedTables A
 
--- A session, and what it is once what is staged is published.
-pub record StagedSession (A : Type 0) : Type 0 where
-  pub live : SessionState A
-  pub staged : SessionState A
-
 module _ {A : Type 0} where
-  -- the session, with nothing staged
-  abbrev pub settled : SessionState A → StagedSession A
-  settled session = record { live = session; staged = session }
-
   abbrev pub new_session : SessionState A
   new_session = record { enabled = true; indirect = false; rule = Nothing; tables = [] }
 

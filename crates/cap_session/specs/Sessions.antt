@@ -2,11 +2,8 @@
 use Rattle.std.specs.Prelude.{ℕ, Bool, Option, Some, None, List, [], ◌∷◌, map, nat_eq, if◌then◌else◌}
 use Rattle.std.specs.List.{list_any}
 use Rattle.std.specs.Map.{lookup}
-use Rattle.cap_row.specs.Fields.{Fields}
-use Rattle.cap_database.specs.Tables.{Tables}
-use Rattle.cap_database.specs.declared.cause.Cause.{Cause}
 use Rattle.cap_database.specs.declared.change.Change.{Change}
-use Rattle.cap_session.specs.Recording.{record_commit, record_key}
+use Rattle.cap_session.specs.Recording.{record_commit}
 use Rattle.cap_session.specs.Session.{SessionState}
 
 -- the number is one of these
@@ -16,11 +13,6 @@ is_one_of numbers number = list_any (nat_eq number) numbers
 -- the sessions in the order in which they were created, each with its number
 abbrev pub NumberedSessions : Type 0 → Type 0
 NumberedSessions A = List (ℕ × SessionState A)
-
--- The live sessions, and the staged ones, which are live once they are published.
-pub record SessionsState (A : Type 0) : Type 0 where
-  pub live : NumberedSessions A
-  pub staged : NumberedSessions A
 
 module _ {A : Type 0} where
   abbrev pub session_numbered : NumberedSessions A → ℕ → Option (SessionState A)
@@ -44,16 +36,8 @@ module _ {A : Type 0} where
   without_session (session ∷ sessions) number =
       if nat_eq number session.0 then sessions else session ∷ without_session sessions number
 
-  -- Each session after the changes of a commit, given the tables before it. The quiet ones stay as they are.
-  abbrev pub record_commit_each : Tables A → List (Change A) → List ℕ → NumberedSessions A
-      → NumberedSessions A
-  record_commit_each before changes quiet sessions =
+  -- each session after the changes of a commit; the quiet ones stay as they are
+  abbrev pub record_commit_each : List (Change A) → List ℕ → NumberedSessions A → NumberedSessions A
+  record_commit_each changes quiet sessions =
       map (λ session.
-      (session.0, if is_one_of quiet session.0 then session.1 else record_commit before changes session.1))
-      sessions
-
-  -- each session after a commit that changes the row of this key alone, given the row before it
-  abbrev pub record_key_each : List ℕ → Fields A → Cause → Option (Fields A) → NumberedSessions A
-      → NumberedSessions A
-  record_key_each name key cause image sessions =
-      map (λ session. (session.0, record_key name key cause image session.1)) sessions
+      (session.0, if is_one_of quiet session.0 then session.1 else record_commit changes session.1)) sessions

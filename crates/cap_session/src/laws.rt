@@ -1,23 +1,24 @@
 //! Laws of sessions, over the definitions alone. The functions do nothing at run time.
-ghost use Rattle.std.specs.Prelude.{◌≡◌, ℕ, Bool, true, false, Some, None, [], ◌∷◌, ◌&&◌, List};
+ghost use Rattle.std.specs.Prelude.{◌≡◌, ℕ, Bool, true, false, Option, Some, None, [], ◌∷◌, ◌&&◌, List};
 ghost use Rattle.std.specs.Prelude.{if◌then◌else◌};
-ghost use Rattle.std.specs.List.{AllByRecursion, list_any};
+ghost use Rattle.std.specs.List.{list_any};
 ghost use Rattle.std.specs.Option.{option_map};
 ghost use Rattle.cap_value.specs.Bytes.{bytes_eq};
 ghost use Rattle.cap_filter.specs.Rule.{Rule};
 ghost use Rattle.cap_row.specs.Fields.{Fields};
 ghost use Rattle.cap_row.specs.Key.{fields_cmp};
 ghost use Rattle.cap_tree.specs.Tree.{get};
+ghost use Rattle.cap_database.specs.Carried.{CarryFirstRows};
 ghost use Rattle.cap_database.specs.Read.{row_at};
 ghost use Rattle.cap_database.specs.Tables.{Tables};
 ghost use Rattle.cap_database.specs.declared.change.Change.{Change};
 ghost use Rattle.cap_session.specs.declared.record.Record.{Record};
 ghost use Rattle.cap_session.specs.declared.rule.AutomaticRule.{AutomaticRule};
 ghost use Rattle.cap_session.specs.Recording.{attach_by_rule, record_commit, touches_of};
-ghost use Rattle.cap_session.specs.Records.{AreTouched, Records, Touch, with_touches};
+ghost use Rattle.cap_session.specs.Records.{AreTouched, Records, Touch, touches_at, with_touches};
 ghost use Rattle.cap_session.specs.Session.{AttachedTables, SessionState, accepts_by, attach_all, records_of};
 ghost use Rattle.cap_session.specs.Session.{set_filter};
-ghost use Rattle.cap_session.specs.Sessions.{NumberedSessions, record_commit_each, record_key_each};
+ghost use Rattle.cap_session.specs.Sessions.{NumberedSessions, record_commit_each};
 
 use cap_value::AllocHandle;
 
@@ -35,18 +36,19 @@ pub fn records_stay_direct<A: AllocHandle>()
         → get fields_cmp (with_touches before (t ∷ more)) t.key ≡ Some r → r.indirect ≡ false }
 {}
 
-/// The images of touches by a commit are the rows of the database before it.
+/// The image of the first touch of a key by a commit is the row of the database before it.
 pub fn images_are_the_rows_before<A: AllocHandle>()
     ensures { (before : Tables A) (indirect : Bool) (name : List ℕ) (changes : List (Change A))
-        → AllByRecursion (λ (t : Touch A). t.image ≡ row_at before name t.key)
-        (touches_of before indirect name changes) }
+        (key : Fields A) (first : Touch A) (others : List (Touch A)) → CarryFirstRows before changes
+        → touches_at key (touches_of indirect name changes) ≡ first ∷ others
+        → first.image ≡ row_at before name key }
 {}
 
 /// A commit touches the rows of exactly the tables that are attached after it, each with its own changes.
 pub fn commits_touch_attached_tables<A: AllocHandle>()
-    ensures { (before : Tables A) (changes : List (Change A)) (session : SessionState A) (name : List ℕ)
-        → session.enabled ≡ true → records_of (record_commit before changes session).tables name
-        ≡ option_map (λ records. with_touches records (touches_of before session.indirect name changes))
+    ensures { (changes : List (Change A)) (session : SessionState A) (name : List ℕ)
+        → session.enabled ≡ true → records_of (record_commit changes session).tables name
+        ≡ option_map (λ records. with_touches records (touches_of session.indirect name changes))
         (records_of (attach_by_rule session.rule changes session.tables) name) }
 {}
 
@@ -65,18 +67,15 @@ pub fn rule_attaches_changed_tables<A: AllocHandle>()
 
 /// A commit leaves a disabled session unchanged.
 pub fn disabled_session_gains_nothing<A: AllocHandle>()
-    ensures { (before : Tables A) (changes : List (Change A)) (session : SessionState A)
-        → session.enabled ≡ false → record_commit before changes session ≡ session }
+    ensures { (changes : List (Change A)) (session : SessionState A)
+        → session.enabled ≡ false → record_commit changes session ≡ session }
 {}
 
-/// A commit that makes one change of a key, or the same change twice, is one touch of the key.
+/// A second change of a key by the same cause adds nothing, whatever row it carries.
 pub fn changes_of_a_key_are_one_touch<A: AllocHandle>()
-    ensures once { (before : Tables A) (change : Change A) (key : Fields A) (sessions : NumberedSessions A)
-        → change.key ≡ Some key → record_commit_each before (change ∷ []) [] sessions
-        ≡ record_key_each change.table key change.cause (row_at before change.table key) sessions }
-    ensures twice { (before : Tables A) (change : Change A) (key : Fields A) (sessions : NumberedSessions A)
-        → change.key ≡ Some key → record_commit_each before (change ∷ change ∷ []) [] sessions
-        ≡ record_key_each change.table key change.cause (row_at before change.table key) sessions }
+    ensures { (change : Change A) (row : Option (Fields A)) (quiet : List ℕ) (sessions : NumberedSessions A)
+        → record_commit_each (change ∷ record change { before = row } ∷ []) quiet sessions
+        ≡ record_commit_each (change ∷ []) quiet sessions }
 {}
 
 /// A filter takes precedence over attaching every table, in whatever order they are set.

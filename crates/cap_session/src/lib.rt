@@ -1,11 +1,9 @@
 //! Sessions: which rows were touched, their first images, and whether every touch was indirect.
 #![tactic(auto)]
 
-mod attach_list;
 mod attached;
-mod ending;
+mod delta;
 mod laws;
-mod numbered;
 mod record;
 mod records;
 mod records_iter;
@@ -13,18 +11,15 @@ mod rule;
 mod session;
 mod session_change;
 mod sessions;
-mod staged_records;
-mod staging;
 mod touch;
-mod which;
 
 pub use attached::Attached;
+pub use delta::Delta;
 pub use laws::{
     changes_of_a_key_are_one_touch, commits_touch_attached_tables, disabled_session_gains_nothing,
     filter_decides, images_are_the_rows_before, records_stay_direct, rule_attaches_changed_tables,
     touches_make_these_records,
 };
-pub use numbered::Numbered;
 pub use record::Record;
 pub use records::Records;
 pub use records_iter::RecordsIter;

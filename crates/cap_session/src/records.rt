@@ -18,8 +18,8 @@ use std::marker::Model;
 /// The records of one table: its touched keys in order, each with its record.
 ///
 /// The record that was put last is stored beside the tree of the others, and moves into it before the next
-/// one is put. So a staged copy with one more record shares every node of the tree, and once it is published
-/// the tree is changed in place.
+/// one is put. So records with one more share every node of the tree, and once they are published the tree is
+/// changed in place.
 pub struct Records<A: AllocHandle> {
     tree: Tree<Key<A>, Record<A>, A>,
     latest: Option<(Key<A>, Record<A>)>,
@@ -113,21 +113,16 @@ impl<A: AllocHandle> Records<A> {
         })
     }
 
-    // Moves the latest record into the tree of the others.
-    pub(crate) fn move_latest(&mut self) -> Result<(), OutOfMemory>
-        ensures { self.new ≡ self.old }
-    {
-        move_latest(&mut self.tree, &mut self.latest)
-    }
-
-    // Puts a record at its key.
-    pub(crate) fn put(&mut self, key: Key<A>, kept: Record<A>) -> Result<(), OutOfMemory>
-        ensures put { OnOk result (self.new ≡ put_entry fields_cmp self.old key kept) }
-        ensures err { OnErr result (self.new ≡ self.old) }
+    // These records with one more put at its key, which share the nodes of the tree.
+    pub(crate) fn with(&mut self, key: Key<A>, kept: Record<A>) -> Result<Self, OutOfMemory>
+        ensures kept { self.new ≡ self.old }
+        ensures put { IfOk result (λ after. after ≡ put_entry fields_cmp self.old key kept) }
     {
         move_latest(&mut self.tree, &mut self.latest)?;
-        self.latest = Some((key, kept));
-        Ok(())
+        Ok(Records {
+            tree: self.tree.snapshot()?,
+            latest: Some((key, kept)),
+        })
     }
 
     /// The records in the order of their keys.

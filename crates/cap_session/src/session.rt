@@ -1,43 +1,39 @@
 //! One session.
 ghost use Rattle.std.specs.Prelude.{◌≡◌, ◌<◌, ◌^◌, length, nat_eq, IfOk, OnOk, OnErr};
 ghost use Rattle.std.specs.Option.{option_copied};
-ghost use Rattle.cap_session.specs.Code.Ending.{after_ending};
-ghost use Rattle.cap_session.specs.Code.Staging.{staged_by};
+ghost use Rattle.cap_session.specs.Delta.{session_with};
 ghost use Rattle.cap_session.specs.Recording.{record_commit, record_diff};
-ghost use Rattle.cap_session.specs.Session.{attach_all, attached, changed_by, enabled_as, indirect_as};
-ghost use Rattle.cap_session.specs.Session.{new_session, record_of, records_of, restart, set_filter, settled};
-ghost use Rattle.cap_session.specs.Session.{stored};
+ghost use Rattle.cap_session.specs.Session.{attach_all, attached, changed_by, enabled_as, forget};
+ghost use Rattle.cap_session.specs.Session.{indirect_as, new_session, record_of, records_of, restart};
+ghost use Rattle.cap_session.specs.Session.{set_filter, stored};
 
-use crate::attach_list::AttachList;
 use crate::attached::Attached;
-use crate::ending::Ending;
-use crate::staging::Staging;
-use crate::touch::Touches;
+use crate::delta::{SessionDelta, Tables, attached_by, attached_by_rule, copy_of, publish};
 use crate::{AutomaticRule, Record, Records, SessionChange};
 use cap_compare::Difference;
-use cap_database::{Change, Database};
+use cap_database::Change;
 use cap_filter::TableFilter;
 use cap_row::Key;
 use cap_value::{AllocHandle, Name, OutOfMemory};
+use indexmap::IndexMap;
 use std::marker::Model;
 
 /// A session. It records, for each attached table, the keys that changes and diffs touched, each with its
 /// first image and whether every touch was indirect (The Session Extension, "Recording Changes").
 ///
-/// A change that takes memory is staged first, and then published, which takes none. Each call here leaves
-/// nothing staged. Copies share the records. On an error the session is unchanged.
+/// Copies share the records. On an error the session is unchanged.
 pub struct Session<A: AllocHandle> {
+    alloc: A,
     enabled: bool,
     indirect: bool,
     rule: AutomaticRule<A>,
-    list: AttachList<A>,
+    tables: Tables<A>,
 }
 
 impl<A: AllocHandle> Model for Session<A> {
-    ghost use Rattle.cap_session.specs.Session.{StagedSession};
-    ghost use Rattle.cap_session.specs.Code.AttachList.{IsWhole, attached_of, staged_of, with_tables};
+    ghost use Rattle.cap_session.specs.Session.{SessionState};
 
-    ghost Value = { StagedSession A };
+    ghost Value = { SessionState A };
 
     ghost use Rattle.cap_filter.specs.Rule.{coded_rule};
     ghost use Rattle.std.specs.Coded.{codes};
@@ -45,21 +41,22 @@ impl<A: AllocHandle> Model for Session<A> {
     ghost coded = { Prim.hlevel (codes, coded_rule) };
 
     ghost view = { λ s. record {
-      live = with_tables s.enabled s.indirect s.rule (attached_of s.list);
-      staged = with_tables s.enabled s.indirect s.rule (staged_of s.list);
+      enabled = s.enabled;
+      indirect = s.indirect;
+      rule = s.rule;
+      tables = s.tables.entries;
     } };
-
-    ghost invariant = { λ s. IsWhole s.list };
 }
 
 // A derived `Drop` would be opened in each caller's loop.
 impl<A: AllocHandle> Drop for Session<A> {
     fn drop(self) {
         let Session {
+            alloc: _,
             enabled: _,
             indirect: _,
             rule: _,
-            list: _,
+            tables: _,
         } = self;
     }
 }
@@ -67,42 +64,44 @@ impl<A: AllocHandle> Drop for Session<A> {
 impl<A: AllocHandle> Session<A> {
     /// A session that is enabled, not indirect, and has no attached tables.
     pub fn new(alloc: A) -> Self
-        ensures { result ≡ settled new_session }
+        ensures { result ≡ new_session }
     {
         Session {
+            alloc,
             enabled: true,
             indirect: false,
             rule: AutomaticRule::Nothing,
-            list: AttachList::new(alloc),
+            tables: IndexMap::new(alloc),
         }
     }
 
     /// Whether it records what commits change (sqlite3session_enable).
     pub fn is_enabled(&self) -> bool
-        ensures { result ≡ self.now.live.enabled }
+        ensures { result ≡ self.now.enabled }
     {
         self.enabled
     }
 
     /// The indirect flag: whether every touch is indirect.
     pub fn is_indirect(&self) -> bool
-        ensures { result ≡ self.now.live.indirect }
+        ensures { result ≡ self.now.indirect }
     {
         self.indirect
     }
 
     /// Attaches a table, last in the list, unless it is attached. The table need not exist.
     pub fn attach(&mut self, name: &Name<A>) -> Result<(), OutOfMemory>
-        ensures attached { OnOk result (self.new ≡ settled (attached name.now self.old.live)) }
-        ensures err { OnErr result (self.new ≡ settled self.old.live) }
+        ensures attached { OnOk result (self.new ≡ attached name.now self.old) }
+        ensures err { OnErr result (self.new ≡ self.old) }
     {
-        self.stage_and_publish(&Staging::Attach(name))
+        let none: Vec<Difference<A>, A> = Vec::new(self.alloc);
+        self.record_diff(name, &none)
     }
 
     /// Attaches every table from now on when one of its rows changes. A filter, set before or later, takes
     /// precedence.
     pub fn attach_all(&mut self)
-        ensures { self.new ≡ settled (attach_all self.old.live) }
+        ensures { self.new ≡ attach_all self.old }
     {
         self.change(SessionChange::AttachAll);
     }
@@ -110,7 +109,7 @@ impl<A: AllocHandle> Session<A> {
     /// Attaches a table from now on when one of its rows changes and the filter accepts its name. Attached
     /// tables stay attached.
     pub fn set_filter(&mut self, filter: TableFilter<A>)
-        ensures { self.new ≡ settled (set_filter filter self.old.live) }
+        ensures { self.new ≡ set_filter filter self.old }
     {
         self.change(SessionChange::SetFilter(filter));
     }
@@ -118,8 +117,8 @@ impl<A: AllocHandle> Session<A> {
     /// Enables or disables the session, or leaves it as it is (`None`), and answers whether it is enabled. A
     /// disabled session records no commit and attaches no table by itself.
     pub fn enable(&mut self, asked: Option<bool>) -> bool
-        ensures set { self.new ≡ settled (enabled_as asked self.old.live) }
-        ensures answer { result ≡ self.new.live.enabled }
+        ensures set { self.new ≡ enabled_as asked self.old }
+        ensures answer { result ≡ self.new.enabled }
     {
         self.change(SessionChange::Enable(asked));
         self.is_enabled()
@@ -127,8 +126,8 @@ impl<A: AllocHandle> Session<A> {
 
     /// Sets or clears the indirect flag, or leaves it as it is (`None`), and answers it.
     pub fn indirect(&mut self, asked: Option<bool>) -> bool
-        ensures set { self.new ≡ settled (indirect_as asked self.old.live) }
-        ensures answer { result ≡ self.new.live.indirect }
+        ensures set { self.new ≡ indirect_as asked self.old }
+        ensures answer { result ≡ self.new.indirect }
     {
         self.change(SessionChange::Indirect(asked));
         self.is_indirect()
@@ -136,43 +135,32 @@ impl<A: AllocHandle> Session<A> {
 
     /// Clears all records. The flags, the rule and the attached tables stay.
     pub fn restart(&mut self)
-        ensures { self.new ≡ settled (restart self.old.live) }
+        ensures { self.new ≡ restart self.old }
     {
         self.change(SessionChange::Restart);
     }
 
     /// Makes a change that takes no memory.
     pub fn change(&mut self, change: SessionChange<A>)
-        ensures { self.new ≡ settled (changed_by change self.old.live) }
+        ensures { self.new ≡ changed_by change self.old }
     {
-        self.end_staging(Ending::Discard);
         match change {
             SessionChange::AttachAll => self.rule.accept_all(),
             SessionChange::SetFilter(filter) => self.rule = AutomaticRule::Filter(filter),
             SessionChange::Enable(asked) => self.enabled = asked.unwrap_or(self.enabled),
             SessionChange::Indirect(asked) => self.indirect = asked.unwrap_or(self.indirect),
-            SessionChange::Restart => self.clear(),
+            SessionChange::Restart => clear_each(self.alloc, &mut self.tables),
         }
     }
 
-    // Forgets all records. Nothing is staged then.
-    fn clear(&mut self)
-        ensures { self.new ≡ settled (restart self.old.live) }
+    /// Records the changes of one commit.
+    pub fn record_commit(&mut self, changes: &[Change<A>]) -> Result<(), OutOfMemory>
+        ensures recorded { OnOk result (self.new ≡ record_commit changes.now self.old) }
+        ensures err { OnErr result (self.new ≡ self.old) }
     {
-        self.list.clear();
-    }
-
-    /// Records the changes of one commit. `before` is the database before it.
-    pub fn record_commit(
-        &mut self,
-        before: &Database<A>,
-        changes: &[Change<A>],
-    ) -> Result<(), OutOfMemory>
-        ensures recorded { OnOk result
-            (self.new ≡ settled (record_commit before.now changes.now self.old.live)) }
-        ensures err { OnErr result (self.new ≡ settled self.old.live) }
-    {
-        self.stage_and_publish(&Staging::Changes(before, changes))
+        let delta = self.reserve(changes)?;
+        self.publish(delta);
+        Ok(())
     }
 
     /// Records a diff of a table (SQLite's sqlite3session_diff): attaches the table unless it is attached,
@@ -182,115 +170,109 @@ impl<A: AllocHandle> Session<A> {
         name: &Name<A>,
         differences: &[Difference<A>],
     ) -> Result<(), OutOfMemory>
-        ensures recorded { OnOk result
-            (self.new ≡ settled (record_diff name.now differences.now self.old.live)) }
-        ensures err { OnErr result (self.new ≡ settled self.old.live) }
+        ensures recorded { OnOk result (self.new ≡ record_diff name.now differences.now self.old) }
+        ensures err { OnErr result (self.new ≡ self.old) }
     {
-        self.stage_and_publish(&Staging::Diff(name, differences))
+        let delta = self.reserve_diff(name, differences)?;
+        self.publish(delta);
+        Ok(())
     }
 
-    // Stages this, and publishes it.
-    fn stage_and_publish(&mut self, what: &Staging<'_, A>) -> Result<(), OutOfMemory>
-        ensures made { OnOk result (self.new ≡ settled (staged_by what.now self.old.live)) }
-        ensures err { OnErr result (self.new ≡ settled self.old.live) }
+    // What the changes of one commit add.
+    pub(crate) fn reserve(&mut self, changes: &[Change<A>]) -> Result<SessionDelta<A>, OutOfMemory>
+        ensures kept { self.new ≡ self.old }
+        ensures added { IfOk result (λ delta. session_with delta self.old
+            ≡ record_commit changes.now self.old) }
     {
-        self.end_staging(Ending::Discard);
-        match self.stage(what) {
-            Ok(()) => {
-                self.end_staging(Ending::Publish);
-                Ok(())
-            }
-            Err(fault) => {
-                self.end_staging(Ending::Discard);
-                Err(fault)
-            }
+        if !self.enabled {
+            return Ok(SessionDelta::of(self.alloc, None));
         }
+        let attached = attached_by_rule(self.alloc, &self.tables, &self.rule, changes)?;
+        let mut delta = SessionDelta::of(self.alloc, attached);
+        delta.touch_changed(&mut self.tables, self.indirect, changes)?;
+        Ok(delta)
     }
 
-    // Stages this after what is staged. On an error some may be staged.
-    pub(crate) fn stage(&mut self, what: &Staging<'_, A>) -> Result<(), OutOfMemory>
-        ensures kept { self.new.live ≡ self.old.live }
-        ensures staged { OnOk result (self.new.staged ≡ staged_by what.now self.old.staged) }
+    // What a diff of a table adds.
+    pub(crate) fn reserve_diff(
+        &mut self,
+        name: &Name<A>,
+        differences: &[Difference<A>],
+    ) -> Result<SessionDelta<A>, OutOfMemory>
+        ensures kept { self.new ≡ self.old }
+        ensures added { IfOk result (λ delta. session_with delta self.old
+            ≡ record_diff name.now differences.now self.old) }
     {
-        match *what {
-            Staging::Attach(name) => {
-                self.list.place_by(&AutomaticRule::All, name)?;
-                Ok(())
-            }
-            Staging::Changes(_, _) | Staging::Key(_, _, _, _) if !self.enabled => Ok(()),
-            Staging::Changes(before, changes) => self
-                .list
-                .stage_changes(&self.rule, self.indirect, before, changes),
-            Staging::Key(name, key, cause, image) => {
-                let touches = Touches::OfKey(key, cause, image);
-                self.list
-                    .stage_touches(&self.rule, self.indirect, name, touches)
-            }
-            Staging::Diff(name, differences) => {
-                let touches = Touches::OfDiff(differences);
-                self.list
-                    .stage_touches(&AutomaticRule::All, self.indirect, name, touches)
-            }
-        }
+        let attached = attached_by(self.alloc, &self.tables, None, &AutomaticRule::All, name)?;
+        let mut delta = SessionDelta::of(self.alloc, attached);
+        delta.touch_found(&mut self.tables, self.indirect, name, differences)?;
+        Ok(delta)
     }
 
-    // Ends what is staged.
-    pub(crate) fn end_staging(&mut self, ending: Ending)
-        ensures { self.new ≡ settled (after_ending ending self.old.live self.old.staged) }
+    // Publishes what is added.
+    pub(crate) fn publish(&mut self, delta: SessionDelta<A>)
+        ensures { self.new ≡ session_with delta self.old }
     {
-        if self.list.has_staged() {
-            match ending {
-                Ending::Discard => self.list.discard(),
-                Ending::Publish => self.list.publish(),
-            }
-        }
+        publish(&mut self.tables, delta);
     }
 
     /// Whether there is no record (SQLite's sqlite3session_isempty). The row of a record may be unchanged.
     pub fn is_empty(&self) -> bool
-        ensures { result ≡ nat_eq (stored self.now.live.tables) 0 }
+        ensures { result ≡ nat_eq (stored self.now.tables) 0 }
     {
-        self.list.is_empty()
+        let mut rest = self.attached();
+        while let Some((_, records)) = rest.next() {
+            if !records.is_empty() {
+                return false;
+            }
+        }
+        true
     }
 
     /// The number of records.
     pub fn stored(&self) -> u128
-        ensures { result ≡ stored self.now.live.tables }
+        ensures { result ≡ stored self.now.tables }
     {
-        self.list.stored()
+        let mut count = 0;
+        let mut rest = self.attached();
+        while let Some((_, records)) = rest.next() {
+            count += records.count();
+        }
+        count
     }
 
     /// The attached tables in the order in which they were attached, each with its records.
     pub fn attached(&self) -> Attached<'_, A>
-        ensures tables { result ≡ self.now.live.tables }
+        ensures tables { result ≡ self.now.tables }
         ensures fits { length result < 2 ^ 64 }
     {
-        self.list.attached()
+        Attached::over(self.tables.as_slice())
     }
 
     /// The records of a table in the order of their keys, `None` where it is not attached.
     pub fn records(&self, name: &Name<A>) -> Option<&Records<A>>
-        ensures { option_copied result ≡ records_of self.now.live.tables name.now }
+        ensures { option_copied result ≡ records_of self.now.tables name.now }
     {
-        self.list.records(name)
+        self.tables.get(name)
     }
 
     /// The record of a key, if any.
     pub fn record(&self, name: &Name<A>, key: &Key<A>) -> Option<&Record<A>>
-        ensures { option_copied result ≡ record_of self.now.live.tables name.now key.now }
+        ensures { option_copied result ≡ record_of self.now.tables name.now key.now }
     {
         self.records(name)?.get(key)
     }
 
-    /// A copy without what is staged, which shares the records.
+    /// A copy, which shares the records.
     pub fn copy(&self) -> Result<Self, OutOfMemory>
-        ensures { IfOk result (λ copy. copy ≡ settled self.now.live) }
+        ensures { IfOk result (λ copy. copy ≡ self.now) }
     {
         Ok(Session {
+            alloc: self.alloc,
             enabled: self.enabled,
             indirect: self.indirect,
             rule: self.rule.copy()?,
-            list: self.list.copy()?,
+            tables: copy_of(self.alloc, &self.tables)?,
         })
     }
 }
@@ -298,11 +280,19 @@ impl<A: AllocHandle> Session<A> {
 /// A clone is a copy.
 impl<A: AllocHandle> Clone for Session<A> {
     ghost use Rattle.std.specs.Prelude.{◌≡◌};
-    ghost use Rattle.cap_session.specs.Session.{settled};
 
-    ghost is_clone = { λ session clone. clone ≡ settled session.live };
+    ghost is_clone = { λ session clone. clone ≡ session };
 
     fn clone(&self) -> Result<Self, OutOfMemory> {
         self.copy()
+    }
+}
+
+// Forgets the records of each table.
+fn clear_each<A: AllocHandle>(alloc: A, tables: &mut Tables<A>)
+    ensures { tables.new.entries ≡ forget tables.old.entries }
+{
+    for place in 0..tables.len() {
+        tables[place] = Records::empty(alloc);
     }
 }

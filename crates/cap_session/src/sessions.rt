@@ -1,50 +1,44 @@
 //! All sessions of a core, by number.
-ghost use Rattle.std.specs.Prelude.{◌≡◌, [], ◌∷◌, ◌++◌, Ok, Err, Some, None, IfOk, IfErr, OnOk, OnErr};
-ghost use Rattle.std.specs.Prelude.{length, map};
-ghost use Rattle.std.specs.Option.{option_copied, option_map};
+ghost use Rattle.std.specs.Prelude.{◌≡◌, ◌<◌, [], ◌∷◌, ◌++◌, Ok, Err, Some, None, IfOk, IfErr, OnOk, OnErr};
+ghost use Rattle.std.specs.Prelude.{length, nat_eq, if◌then◌else◌};
+ghost use Rattle.std.specs.List.{position};
+ghost use Rattle.std.specs.Option.{option_copied, option_map, unwrap_or};
 ghost use Rattle.cap_value.specs.Memory.{MatchFault};
-ghost use Rattle.cap_session.specs.Code.Numbered.{made_of};
-ghost use Rattle.cap_session.specs.Code.Staging.{staged_by};
-ghost use Rattle.cap_session.specs.Recording.{record_diff};
-ghost use Rattle.cap_session.specs.Session.{attached, changed_by, new_session, settled};
-ghost use Rattle.cap_session.specs.Sessions.{record_commit_each, record_key_each, session_numbered};
-ghost use Rattle.cap_session.specs.Sessions.{with_session_if};
-ghost use Rattle.cap_session.specs.Sessions.{without_session};
+ghost use Rattle.cap_session.specs.Delta.{changed_at, numbered_with, published, with_parts};
+ghost use Rattle.cap_session.specs.Recording.{record_commit, record_diff};
+ghost use Rattle.cap_session.specs.Session.{attached, changed_by, new_session};
+ghost use Rattle.cap_session.specs.Sessions.{is_one_of, record_commit_each, session_numbered};
+ghost use Rattle.cap_session.specs.Sessions.{with_session_if, without_session};
 
-use crate::ending::Ending;
-use crate::numbered::{Numbered, change, copies_of, end_staging, place_of, stage};
-use crate::staging::Staging;
-use crate::which::Which;
+use crate::delta::{Delta, SessionDelta};
 use crate::{Session, SessionChange};
 use cap_compare::Difference;
-use cap_database::{Cause, Change, Database};
-use cap_row::{Key, Row};
+use cap_database::Change;
 use cap_tree::Hook;
 use cap_value::{AllocHandle, Fault, Name, OutOfMemory};
 use std::marker::Model;
 
 /// Sessions by number.
 ///
-/// A change that takes memory is two calls: the first stages it and leaves the sessions unchanged, and
-/// `publish`, which takes no memory, puts in place what was staged last. Nothing has to be undone where a
-/// step between the two fails: each other call, and each that fails, discards what is staged.
+/// A change that takes memory is two calls: the first reserves all of it and leaves the sessions unchanged,
+/// and `publish`, which takes no memory, moves into them what the first has made. Nothing has to be undone
+/// where a step between the two fails: what was made is dropped.
 pub struct Sessions<A: AllocHandle> {
     alloc: A,
-    sessions: Vec<Numbered<A>, A>,
+    sessions: Vec<(u64, Session<A>), A>,
 }
 
 impl<A: AllocHandle> Model for Sessions<A> {
-    ghost use Rattle.cap_session.specs.Sessions.{SessionsState};
-    ghost use Rattle.cap_session.specs.Code.Numbered.{live_of, staged_of};
+    ghost use Rattle.cap_session.specs.Sessions.{NumberedSessions};
 
-    ghost Value = { SessionsState A };
+    ghost Value = { NumberedSessions A };
 
     ghost use Rattle.cap_filter.specs.Rule.{coded_rule};
     ghost use Rattle.std.specs.Coded.{codes};
 
     ghost coded = { Prim.hlevel (codes, coded_rule) };
 
-    ghost view = { λ s. record { live = live_of s.sessions.items; staged = staged_of s.sessions.items } };
+    ghost view = { λ s. s.sessions.items };
 }
 
 // A derived `Drop` would be opened in each caller's loop.
@@ -60,8 +54,7 @@ impl<A: AllocHandle> Drop for Sessions<A> {
 impl<A: AllocHandle> Sessions<A> {
     /// No sessions. Takes no memory.
     pub fn new(alloc: A) -> Self
-        ensures live { result.live ≡ [] }
-        ensures nothing_staged { result.staged ≡ result.live }
+        ensures { result ≡ [] }
     {
         Sessions {
             alloc,
@@ -71,24 +64,25 @@ impl<A: AllocHandle> Sessions<A> {
 
     /// The number of sessions.
     pub fn len(&self) -> usize
-        ensures { result ≡ length self.now.live }
+        ensures { result ≡ length self.now }
     {
         self.sessions.len()
     }
 
     /// The sessions in the order in which they were created, each with its number.
-    pub fn numbered(&self) -> &[Numbered<A>]
-        ensures { map (λ numbered. (numbered.number, numbered.session.live)) result.now ≡ self.now.live }
+    pub fn numbered(&self) -> &[(u64, Session<A>)]
+        ensures { result.now ≡ self.now }
     {
         self.sessions.as_slice()
     }
 
     /// The session with this number, if any.
     pub fn get(&self, number: u64) -> Option<&Session<A>>
-        ensures { option_map (λ session. session.now.live) result ≡ session_numbered self.now.live number }
+        ensures { option_copied result ≡ session_numbered self.now number }
     {
         let place = place_of(&self.sessions, number)?;
-        Some(&self.sessions[place].session)
+        let (_, session) = &self.sessions[place];
+        Some(session)
     }
 
     /// Adds a new session with this number, where the hook allows it. The hook is asked once, after all
@@ -98,128 +92,90 @@ impl<A: AllocHandle> Sessions<A> {
         number: u64,
         hook: &mut H,
     ) -> Result<(), Fault<H::Refusal>>
-        requires { H.can_ask hook.old None (Some (settled new_session)) }
-        ensures added { OnOk result (self.new.live ≡ self.old.live ++ (number, new_session) ∷ []) }
-        ensures allowed { OnOk result
-            (H.gives hook.old None (Some (settled new_session)) (Ok tt) hook.new) }
-        ensures err { OnErr result (self.new.live ≡ self.old.live) }
+        requires { H.can_ask hook.old None (Some new_session) }
+        ensures added { OnOk result (self.new ≡ self.old ++ (number, new_session) ∷ []) }
+        ensures allowed { OnOk result (H.gives hook.old None (Some new_session) (Ok tt) hook.new) }
+        ensures err { OnErr result (self.new ≡ self.old) }
         ensures refused { IfErr result (λ fault. MatchFault fault (hook.new ≡ hook.old)
-            (λ why. H.gives hook.old None (Some (settled new_session)) (Err why) hook.new)) }
-        ensures nothing_staged { self.new.staged ≡ self.new.live }
+            (λ why. H.gives hook.old None (Some new_session) (Err why) hook.new)) }
     {
-        end_staging(&mut self.sessions, Ending::Discard);
         self.sessions.reserve(1)?;
         let session = Session::new(self.alloc);
         ask_to_add(hook, &session)?;
-        self.sessions.push_reserved(Numbered { number, session });
+        self.sessions.push_reserved((number, session));
         Ok(())
     }
 
     /// Removes the session with this number, if any.
     pub fn remove(&mut self, number: u64)
-        ensures removed { self.new.live ≡ without_session self.old.live number }
-        ensures nothing_staged { self.new.staged ≡ self.new.live }
+        ensures { self.new ≡ without_session self.old number }
     {
-        end_staging(&mut self.sessions, Ending::Discard);
         if let Some(place) = place_of(&self.sessions, number) {
             self.sessions.remove(place);
         }
     }
 
-    /// Stages the changes of one commit in each session but the quiet ones, whose numbers these are. `before`
-    /// is the database before it.
-    pub fn stage_commit(
-        &mut self,
-        before: &Database<A>,
-        changes: &[Change<A>],
-        quiet: &[u64],
-    ) -> Result<(), OutOfMemory>
-        ensures kept { self.new.live ≡ self.old.live }
-        ensures staged { OnOk result
-            (self.new.staged ≡ record_commit_each before.now changes.now quiet.now self.old.live) }
-        ensures nothing_staged { OnErr result (self.new.staged ≡ self.new.live) }
+    /// What the changes of one commit add to each session but the quiet ones, whose numbers these are.
+    pub fn reserve(&mut self, changes: &[Change<A>], quiet: &[u64]) -> Result<Delta<A>, OutOfMemory>
+        ensures kept { self.new ≡ self.old }
+        ensures added { IfOk result (λ delta. published delta self.old
+            ≡ record_commit_each changes.now quiet.now self.old) }
     {
-        self.stage(Which::AllBut(quiet), &Staging::Changes(before, changes))
+        let mut sessions = Vec::new(self.alloc);
+        reserve_each(&mut self.sessions, changes, quiet, &mut sessions)?;
+        Ok(Delta { sessions })
     }
 
-    /// Stages a commit that changes the row of this key alone in each session. `image` is the row before it.
-    pub fn stage_key(
-        &mut self,
-        table: &Name<A>,
-        key: &Key<A>,
-        cause: Cause,
-        image: Option<&Row<A>>,
-    ) -> Result<(), OutOfMemory>
-        ensures kept { self.new.live ≡ self.old.live }
-        ensures staged { OnOk result (self.new.staged
-            ≡ record_key_each table.now key.now cause (option_copied image.entry) self.old.live) }
-        ensures nothing_staged { OnErr result (self.new.staged ≡ self.new.live) }
+    /// What attaching a table adds to the session with this number, if any.
+    pub fn reserve_attach(&mut self, number: u64, name: &Name<A>) -> Result<Delta<A>, OutOfMemory>
+        ensures kept { self.new ≡ self.old }
+        ensures added { IfOk result (λ delta. published delta self.old ≡ with_session_if self.old number
+            (option_map (attached name.now) (session_numbered self.old number))) }
     {
-        self.stage(Which::AllBut(&[]), &Staging::Key(table, key, cause, image))
+        let none: Vec<Difference<A>, A> = Vec::new(self.alloc);
+        self.reserve_diff(number, name, &none)
     }
 
-    /// Stages attaching a table to the session with this number, if any.
-    pub fn stage_attach(&mut self, number: u64, name: &Name<A>) -> Result<(), OutOfMemory>
-        ensures kept { self.new.live ≡ self.old.live }
-        ensures staged { OnOk result (self.new.staged ≡ with_session_if self.old.live number
-            (option_map (attached name.now) (session_numbered self.old.live number))) }
-        ensures nothing_staged { OnErr result (self.new.staged ≡ self.new.live) }
-    {
-        self.stage(Which::One(number), &Staging::Attach(name))
-    }
-
-    /// Stages a diff of a table in the session with this number, if any.
-    pub fn stage_diff(
+    /// What a diff of a table adds to the session with this number, if any.
+    pub fn reserve_diff(
         &mut self,
         number: u64,
         name: &Name<A>,
         differences: &[Difference<A>],
-    ) -> Result<(), OutOfMemory>
-        ensures kept { self.new.live ≡ self.old.live }
-        ensures staged { OnOk result (self.new.staged ≡ with_session_if self.old.live number
-            (option_map (record_diff name.now differences.now) (session_numbered self.old.live number))) }
-        ensures nothing_staged { OnErr result (self.new.staged ≡ self.new.live) }
+    ) -> Result<Delta<A>, OutOfMemory>
+        ensures kept { self.new ≡ self.old }
+        ensures added { IfOk result (λ delta. published delta self.old ≡ with_session_if self.old number
+            (option_map (record_diff name.now differences.now) (session_numbered self.old number))) }
     {
-        self.stage(Which::One(number), &Staging::Diff(name, differences))
-    }
-
-    // Stages this in these sessions.
-    fn stage(&mut self, which: Which<'_>, what: &Staging<'_, A>) -> Result<(), OutOfMemory>
-        ensures kept { self.new.live ≡ self.old.live }
-        ensures staged { OnOk result (self.new.staged ≡ made_of (staged_by what.now) which.entry self.old.live) }
-        ensures nothing_staged { OnErr result (self.new.staged ≡ self.new.live) }
-    {
-        end_staging(&mut self.sessions, Ending::Discard);
-        match stage(&mut self.sessions, which, what) {
-            Ok(()) => Ok(()),
-            Err(fault) => {
-                end_staging(&mut self.sessions, Ending::Discard);
-                Err(fault)
-            }
+        let mut sessions = Vec::new(self.alloc);
+        if let Some(place) = place_of(&self.sessions, number) {
+            let delta = reserve_diff_at(&mut self.sessions, place, name, differences)?;
+            sessions.push((place, delta))?;
         }
+        Ok(Delta { sessions })
     }
 
-    /// Publishes what was staged last.
-    pub fn publish(&mut self)
-        ensures published { self.new.live ≡ self.old.staged }
-        ensures nothing_staged { self.new.staged ≡ self.new.live }
+    /// Publishes what was made for these sessions. Takes no memory.
+    pub fn publish(&mut self, delta: Delta<A>)
+        ensures { self.new ≡ published delta self.old }
     {
-        end_staging(&mut self.sessions, Ending::Publish);
+        publish_each(&mut self.sessions, delta.into_sessions());
     }
 
     /// Changes the session with this number, if any.
     pub fn change(&mut self, number: u64, with: SessionChange<A>)
-        ensures changed { self.new.live ≡ with_session_if self.old.live number
-            (option_map (changed_by with) (session_numbered self.old.live number)) }
-        ensures nothing_staged { self.new.staged ≡ self.new.live }
+        ensures { self.new ≡ with_session_if self.old number
+            (option_map (changed_by with) (session_numbered self.old number)) }
     {
-        change(&mut self.sessions, number, with);
+        if let Some(place) = place_of(&self.sessions, number) {
+            let (_, session) = &mut self.sessions[place];
+            session.change(with);
+        }
     }
 
-    /// A copy without what is staged, which shares the records.
+    /// A copy, which shares the records.
     pub fn copy(&self) -> Result<Self, OutOfMemory>
-        ensures copied { IfOk result (λ copy. copy.live ≡ self.now.live) }
-        ensures nothing_staged { IfOk result (λ copy. copy.staged ≡ copy.live) }
+        ensures { IfOk result (λ copy. copy ≡ self.now) }
     {
         Ok(Sessions {
             alloc: self.alloc,
@@ -243,4 +199,111 @@ fn ask_to_add<A: AllocHandle, H: Hook<Session<A>>>(
         Ok(()) => Ok(()),
         Err(why) => Err(Fault::Refused(why)),
     }
+}
+
+// The index of the session with this number.
+fn place_of<A: AllocHandle>(sessions: &[(u64, Session<A>)], number: u64) -> Option<usize>
+    ensures { result ≡ position (λ session. nat_eq number session.0) sessions.now }
+{
+    sessions.iter().position(|session| number == session.0)
+}
+
+// What a diff of a table adds to the session at this index.
+fn reserve_diff_at<A: AllocHandle>(
+    sessions: &mut Vec<(u64, Session<A>), A>,
+    place: usize,
+    name: &Name<A>,
+    differences: &[Difference<A>],
+) -> Result<SessionDelta<A>, OutOfMemory>
+    requires there { place < length sessions.old.items }
+    ensures kept { sessions.new.items ≡ sessions.old.items }
+    ensures added { IfOk result (λ delta. changed_at place (numbered_with delta) sessions.old.items
+        ≡ changed_at place (λ session. (
+          session.0,
+          record_diff name.now differences.now session.1,
+        )) sessions.old.items) }
+{
+    let (_, session) = &mut sessions[place];
+    session.reserve_diff(name, differences)
+}
+
+// What the changes of one commit add to each session but the quiet ones.
+fn reserve_each<A: AllocHandle>(
+    sessions: &mut Vec<(u64, Session<A>), A>,
+    changes: &[Change<A>],
+    quiet: &[u64],
+    added: &mut Vec<(usize, SessionDelta<A>), A>,
+) -> Result<(), OutOfMemory>
+    requires none { added.old.items ≡ [] }
+    ensures kept { sessions.new.items ≡ sessions.old.items }
+    ensures added { OnOk result (with_parts numbered_with sessions.old.items added.new.items
+        ≡ record_commit_each changes.now quiet.now sessions.old.items) }
+{
+    for place in 0..sessions.len() {
+        if let Some(delta) = reserve_unless(&mut sessions[place], changes, quiet)? {
+            added.push((place, delta))?;
+        }
+    }
+    Ok(())
+}
+
+// What the changes of one commit add to a session, unless it is a quiet one, or none where it stays as it is.
+fn reserve_unless<A: AllocHandle>(
+    numbered: &mut (u64, Session<A>),
+    changes: &[Change<A>],
+    quiet: &[u64],
+) -> Result<Option<SessionDelta<A>>, OutOfMemory>
+    ensures kept { numbered.new ≡ numbered.old }
+    ensures added { IfOk result (λ delta. unwrap_or (option_map (λ own. numbered_with own numbered.old) delta)
+        numbered.old ≡ (
+          numbered.old.0,
+          if is_one_of quiet.now numbered.old.0 then numbered.old.1
+              else record_commit changes.now numbered.old.1,
+        )) }
+{
+    let (number, session) = numbered;
+    if is_one_of(quiet, *number) {
+        return Ok(None);
+    }
+    let delta = session.reserve(changes)?;
+    if delta.is_nothing() {
+        return Ok(None);
+    }
+    Ok(Some(delta))
+}
+
+fn is_one_of(numbers: &[u64], number: u64) -> bool
+    ensures { result ≡ is_one_of numbers.now number }
+{
+    numbers.iter().any(|other| number == *other)
+}
+
+// Publishes what is added to each of these sessions.
+fn publish_each<A: AllocHandle>(
+    sessions: &mut Vec<(u64, Session<A>), A>,
+    added: Vec<(usize, SessionDelta<A>), A>,
+)
+    ensures { sessions.new.items ≡ with_parts numbered_with sessions.old.items added.items }
+{
+    let mut added = added;
+    while let Some((place, delta)) = added.pop() {
+        if place < sessions.len() {
+            let (_, session) = &mut sessions[place];
+            session.publish(delta);
+        }
+    }
+}
+
+// Copies, which share the records.
+fn copies_of<A: AllocHandle>(
+    alloc: A,
+    sessions: &[(u64, Session<A>)],
+) -> Result<Vec<(u64, Session<A>), A>, OutOfMemory>
+    ensures { IfOk result (λ copies. copies.items ≡ sessions.now) }
+{
+    let mut copies = Vec::with_capacity(alloc, sessions.len())?;
+    for session in sessions {
+        copies.push((session.0, session.1.copy()?))?;
+    }
+    Ok(copies)
 }

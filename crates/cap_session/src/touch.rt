@@ -1,144 +1,54 @@
-//! The records after touches: by the changes of a commit, and by a diff.
+//! The records after a touch.
 ghost use Rattle.std.specs.Prelude.{◌≡◌, IsTrue, IfOk, OnOk};
-ghost use Rattle.std.specs.Option.{option_copied};
+ghost use Rattle.std.specs.Option.{option_copied, unwrap_or};
 ghost use Rattle.cap_row.specs.Key.{fields_cmp};
 ghost use Rattle.cap_tree.specs.Tree.{IsOrdered, get};
-ghost use Rattle.cap_session.specs.Code.Staging.{image_of, touches_by};
-ghost use Rattle.cap_session.specs.Recording.{is_cascade, touch_of, touches_found};
-ghost use Rattle.cap_session.specs.Records.{Records, Touch, record_after, touch, touch_if, with_touches};
+ghost use Rattle.cap_session.specs.Records.{Records, Touch, record_after, touch};
 
 use crate::{Record, Records};
-use cap_compare::Difference;
-use cap_database::{Cause, Change, Database};
 use cap_row::{Key, Row};
-use cap_value::{AllocHandle, Name, OutOfMemory};
+use cap_value::{AllocHandle, OutOfMemory};
 
-// What touches rows of one table.
-#[derive(Drop)]
-pub(crate) enum Touches<'a, A: AllocHandle> {
-    // A change of a commit, after the database before it.
-    OfChange(&'a Database<A>, &'a Change<A>),
-    // A change of this key, with the row before the commit.
-    OfKey(&'a Key<A>, Cause, Option<&'a Row<A>>),
-    // A diff.
-    OfDiff(&'a [Difference<A>]),
-}
-
-// Where the row under a touched key before the commit is.
-#[derive(Clone, Copy, Drop)]
-pub(crate) enum Image<'a, A: AllocHandle> {
-    // In the table of this name.
-    In(&'a Database<A>, &'a Name<A>),
-    // Here.
-    Given(Option<&'a Row<A>>),
-}
-
-// Records touches. On an error some may be recorded.
-pub(crate) fn touch_all<A: AllocHandle>(
+// Touches a key, with the row before it.
+pub(crate) fn touch<A: AllocHandle>(
     records: &mut Records<A>,
+    key: &Key<A>,
+    image: Option<&Row<A>>,
     indirect: bool,
-    touches: Touches<'_, A>,
 ) -> Result<(), OutOfMemory>
-    ensures { OnOk result (records.new ≡ with_touches records.old (touches_by indirect touches.entry)) }
+    ensures { OnOk result (records.new ≡ touch records.old (record {
+      key = key.now;
+      image = option_copied image.entry;
+      indirect = indirect;
+    })) }
 {
-    match touches {
-        Touches::OfChange(before, change) => touch_change(records, before, indirect, change),
-        Touches::OfKey(key, cause, image) => {
-            let indirect = indirect || is_cascade(cause);
-            touch(records, indirect, key, Image::Given(image))
-        }
-        Touches::OfDiff(differences) => touch_differences(records, indirect, differences),
-    }
-}
-
-// Records the touch by a change of the table, if any.
-fn touch_change<A: AllocHandle>(
-    records: &mut Records<A>,
-    before: &Database<A>,
-    indirect: bool,
-    change: &Change<A>,
-) -> Result<(), OutOfMemory>
-    ensures { OnOk result (records.new ≡ touch_if records.old
-        (touch_of before.now indirect change.now.table change.now)) }
-{
-    match &change.key {
-        None => Ok(()),
-        Some(key) => {
-            let indirect = indirect || is_cascade(change.cause);
-            let image = Image::In(before, &change.table);
-            touch(records, indirect, key, image)
-        }
-    }
-}
-
-fn is_cascade(cause: Cause) -> bool
-    ensures { result ≡ is_cascade cause }
-{
-    match cause {
-        Cause::Direct => false,
-        Cause::Cascade => true,
-    }
-}
-
-// Records a touch of each key that differs.
-fn touch_differences<A: AllocHandle>(
-    records: &mut Records<A>,
-    indirect: bool,
-    differences: &[Difference<A>],
-) -> Result<(), OutOfMemory>
-    ensures { OnOk result (records.new
-        ≡ with_touches records.old (touches_found indirect differences.now)) }
-{
-    for difference in differences {
-        touch_difference(records, indirect, difference)?;
+    if let Some(after) = touched(records, key, image, indirect)? {
+        *records = after;
     }
     Ok(())
 }
 
-fn touch_difference<A: AllocHandle>(
+// The records after a touch of a key, with the row before it, or none where they stay as they are. The key is
+// searched once.
+pub(crate) fn touched<A: AllocHandle>(
     records: &mut Records<A>,
-    indirect: bool,
-    difference: &Difference<A>,
-) -> Result<(), OutOfMemory>
-    ensures { OnOk result (records.new ≡ touch records.old (record {
-      key = difference.now.key;
-      image = difference.now.image;
-      indirect = indirect;
-    })) }
-{
-    let image = Image::Given(difference.image.as_ref());
-    touch(records, indirect, &difference.key, image)
-}
-
-// Records a touch. The key is searched once, and the image only where the key has no record.
-fn touch<A: AllocHandle>(
-    records: &mut Records<A>,
-    indirect: bool,
     key: &Key<A>,
-    image: Image<'_, A>,
-) -> Result<(), OutOfMemory>
-    ensures { OnOk result (records.new ≡ touch records.old (record {
+    image: Option<&Row<A>>,
+    indirect: bool,
+) -> Result<Option<Records<A>>, OutOfMemory>
+    ensures kept { records.new ≡ records.old }
+    ensures touched { IfOk result (λ after. unwrap_or after records.old ≡ touch records.old (record {
       key = key.now;
-      image = image_of image.entry key.now;
+      image = option_copied image.entry;
       indirect = indirect;
     })) }
 {
     let found = records.get(key);
     if changes_nothing(found, indirect) {
-        return Ok(());
+        return Ok(None);
     }
-    let record = record_after(found, row_of(image, key), indirect)?;
-    records.put(key.copy()?, record)
-}
-
-// The row under this key before the commit, if any.
-fn row_of<'a, A: AllocHandle>(image: Image<'a, A>, key: &Key<A>) -> Option<&'a Row<A>>
-    ensures { option_copied result ≡ image_of image.entry key.now }
-{
-    match image {
-        Image::In(tables, name) => tables.table(name)?.get_keyed(key),
-        Image::Given(row) => row,
-    }
+    let record = record_after(found, image, indirect)?;
+    Ok(Some(records.with(key.copy()?, record)?))
 }
 
 // Whether a touch of a key with this record leaves the records as they are, whatever its image: the record is

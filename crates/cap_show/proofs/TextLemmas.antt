@@ -1,18 +1,21 @@
 -- Texts that are written piece by piece.
-use Rattle.std.proofs.Common.{add-one, ◌≡◌, ◌≢◌, ℕ, zero, suc, ◌+◌, ◌/◌, ◌%◌, ◌<◌, ◌&&◌, Bool, true, eqb, List, [], ◌∷◌, ◌++◌, length, take, get_or, Option, Some, None, Result, Ok, Err, MatchOption, true≢false, refl, sym, subst, ap, ◌∙◌, arith, append_assoc, append-nil, inl, inr, codes}
+use Rattle.std.proofs.Common.{add-one, ◌≡◌, ◌≢◌, ℕ, zero, suc, ◌+◌, ◌/◌, ◌%◌, ◌<◌, ◌&&◌, Bool, true, eqb, List, [], ◌∷◌, ◌++◌, length, take, get_or, Option, Some, None, Result, Ok, Err, MatchOption, true≢false, refl, sym, subst, ap, ◌∙◌, arith, rules, append_assoc, append-nil, inl, inr, codes}
 use Rattle.std.specs.Borrow.{Bor}
-use Rattle.std.specs.Fmt.{digit_glyph, digits, format_spec, padded_integral}
+use Rattle.std.specs.Fmt.{digit_glyph, digits, format_spec, padded_integral, HasWritten, IsPlainFormatter}
+use Rattle.std.specs.declared.fmt.Formatter.{Formatter}
 use Rattle.std.specs.Io.KnownBytes.{Appends}
-use Rattle.std.specs.List.{cons_option, filter_map, flat_map, join_by}
-use Rattle.std.specs.Prelude.{◌^◌, ◌-◌, ◌≤◌, ◌==◌, drop, is_some, option_copied, false, if◌then◌else◌, OnOk, slice_get, slice_index}
-use Rattle.std.proofs.KnownBytes.{Appends-trans}
+use Rattle.std.specs.List.{filter_map, flat_map, join_by}
+use Rattle.std.specs.Prelude.{◌^◌, ◌-◌, ◌≤◌, ◌==◌, drop, is_some, false, if◌then◌else◌, OnOk, slice_index}
+use Rattle.std.proofs.KnownBytes.{Appends-nil, Appends-trans}
+use Rattle.std.proofs.Output.{has_written_append, has_written_of_eq}
 use Rattle.std.proofs.lemmas.Bool.{and_parts, cases_lt, eq-eqb, eqb-true, ne_eqb}
 use Rattle.std.proofs.lemmas.Fmt.{hex_byte}
 use Rattle.std.proofs.lemmas.List.{drop_all, drop_more, flat_map_more, take_more}
-use Rattle.std.proofs.lemmas.List.Elements.{filter_map-append}
 use Rattle.hex.specs.Hex.{encode_lower, encode_with, lower_digits}
-use Rattle.cap_changes.specs.Entries.{TableEntries}
 use Rattle.cap_value.specs.declared.value.Value.{Value}
+use Rattle.cap_field.specs.declared.value_ref.ValueRef.{ValueRef}
+use Rattle.cap_changes.specs.Entries.{TableEntries}
+use Rattle.cap_changes.specs.FieldReading.{field_of}
 use Rattle.cap_show.specs.Code.DefinedFields.{comma_text, is_first_after, next_text}
 use Rattle.cap_show.specs.Code.Equations.{asked_value, is_empty, next_equation}
 use Rattle.cap_show.specs.ShowText.{doubled, group_text, list_text}
@@ -100,53 +103,75 @@ byte_digits b lt =
     hex_byte false b lt
     ∙ rw (all_same-at 16 (b / 16) refl (omega arith), all_same-at 16 (b % 16) refl (omega arith)) refl
 
--- ---- commas
+-- ---- what is left to write
 
-is_empty-more : {X : Type 0} (xs : List X) (x : X) → is_empty (xs ++ x ∷ []) ≡ false
-is_empty-more [] x = refl
-is_empty-more (y ∷ ys) x = refl
+-- what is written, and what is left
+abbrev pub WrittenSoFar : {W : Type 0} → (W → List ℕ → W → Type 0) → Formatter W → Formatter W → List ℕ → List ℕ → Type 0
+WrittenSoFar took f g left all = IsPlainFormatter f → (done : List ℕ) × HasWritten took f done g × (done ++ left ≡ all)
 
-join_more : {X : Type 0} (f : X → List ℕ) (xs : List X) (x : X) → join_by f (codes ",") xs ++ (comma_text (is_empty xs) ++ f x) ≡ join_by f (codes ",") (xs ++ x ∷ [])
-join_more f [] x = sym (append-nil (f x))
-join_more f (y ∷ ys) x = flat_map_more (λ z. codes "," ++ f z) (f y) ys x
+module _ {W : Type 0} (took : W → List ℕ → W → Type 0) where
+  pub written_none : (f : Formatter W) (left all : List ℕ) → left ≡ all → WrittenSoFar took f f left all
+  written_none f left all is = λ plain. ([], search rules, is)
+
+  pub written_more : (f g h : Formatter W) (piece left others all : List ℕ) → left ≡ piece ++ others → WrittenSoFar took f g left all → (IsPlainFormatter g → HasWritten took g piece h) → WrittenSoFar took f h others all
+  written_more f g h piece left others all is so_far next = λ plain.
+      let before = so_far plain in (
+        before.0 ++ piece,
+        has_written_append _ _ _ _ _ _ before.1 (next before.1.plain),
+        append_assoc before.0 piece others ∙ ap (λ (l : List ℕ). before.0 ++ l) (sym is) ∙ before.2,
+      )
+
+  pub written_all : (f g : Formatter W) (left all : List ℕ) → left ≡ [] → WrittenSoFar took f g left all → IsPlainFormatter f → HasWritten took f all g
+  written_all f g left all none so_far plain =
+      let before = so_far plain in
+      has_written_of_eq _ _ _ _ _ (sym (append-nil before.0) ∙ ap (λ (l : List ℕ). before.0 ++ l) (sym none) ∙ before.2) before.1
+
+-- the same of a writer's bytes
+abbrev pub AppendedSoFar : Option (List ℕ) → Option (List ℕ) → List ℕ → List ℕ → Type 0
+AppendedSoFar a b left all = (done : List ℕ) × Appends a b done × (done ++ left ≡ all)
+
+pub appended_none : (a : Option (List ℕ)) (left all : List ℕ) → left ≡ all → AppendedSoFar a a left all
+appended_none a left all is = ([], Appends-nil a, is)
+
+pub appended_more : (a b c : Option (List ℕ)) (piece left others all : List ℕ) → left ≡ piece ++ others → AppendedSoFar a b left all → Appends b c piece → AppendedSoFar a c others all
+appended_more a b c piece left others all is so_far next = (
+  so_far.0 ++ piece,
+  Appends-trans a b c so_far.0 piece so_far.1 next,
+  append_assoc so_far.0 piece others ∙ ap (λ (l : List ℕ). so_far.0 ++ l) (sym is) ∙ so_far.2,
+)
+
+pub appended_all : (a b : Option (List ℕ)) (left all : List ℕ) → left ≡ [] → AppendedSoFar a b left all → Appends a b all
+appended_all a b left all none so_far = subst (Appends a b) (sym (append-nil so_far.0) ∙ ap (λ (l : List ℕ). so_far.0 ++ l) (sym none) ∙ so_far.2) so_far.1
+
+-- ---- items with separators between them
+
+-- those that are left, behind others or none
+abbrev pub joined_left : {X : Type 0} → (X → List ℕ) → List ℕ → Bool → List X → List ℕ
+joined_left f separator is_first xs = if is_first then join_by f separator xs else flat_map (λ x. separator ++ f x) xs
 
 -- the defined fields
 abbrev pub defined : {X : Type 0} → List (Option X) → List X
 defined fields = filter_map (λ field. field) fields
 
--- those of one field more
-defined_more : {X : Type 0} (xs : List (Option X)) (i : ℕ) (x : Option X) → i < length xs → x ≡ get_or xs i x → defined (take (i + 1) xs) ≡ defined (take i xs) ++ cons_option x []
-defined_more xs i x lt is = ap (λ fields. defined fields) (take_item xs i x lt is) ∙ filter_map-append (λ field. field) (take i xs) (x ∷ [])
+-- a field is taken
+pub defined_left : {X : Type 0} (f : X → List ℕ) (is_first : Bool) (fields others : List (Option X)) (field : Option X) → fields ≡ field ∷ others
+    → joined_left f (codes ",") is_first (defined fields) ≡ next_text f is_first field ++ joined_left f (codes ",") (is_first_after is_first field) (defined others)
+defined_left f is_first fields others field is = ap (λ fs. joined_left f (codes ",") is_first (defined fs)) is ∙ taken is_first field
+  where
+    taken : (is_first : Bool) (field : Option _) → joined_left f (codes ",") is_first (defined (field ∷ others)) ≡ next_text f is_first field ++ joined_left f (codes ",") (is_first_after is_first field) (defined others)
+    taken true None = refl
+    taken true (Some x) = refl
+    taken false None = refl
+    taken false (Some x) = refl
 
-first_step : {X : Type 0} (xs : List X) (x : Option X) → is_first_after (is_empty xs) x ≡ is_empty (xs ++ cons_option x [])
-first_step xs None = ap (λ ys. is_empty ys) (sym (append-nil xs))
-first_step xs (Some x) = sym (is_empty-more xs x)
-
-text_step : {X : Type 0} (f : X → List ℕ) (xs : List X) (x : Option X) → join_by f (codes ",") xs ++ next_text f (is_empty xs) x ≡ join_by f (codes ",") (xs ++ cons_option x [])
-text_step f xs None = append-nil (join_by f (codes ",") xs) ∙ ap (λ ys. join_by f (codes ",") ys) (sym (append-nil xs))
-text_step f xs (Some x) = join_more f xs x
-
-pub first_more : {X : Type 0} (xs : List (Option X)) (i : ℕ) (x : Option X) (is_first : Bool) → i < length xs → x ≡ get_or xs i x → is_first ≡ is_empty (defined (take i xs)) → is_first_after is_first x ≡ is_empty (defined (take (i + 1) xs))
-first_more xs i x is_first lt is first = ap (λ b. is_first_after b x) first ∙ first_step (defined (take i xs)) x ∙ ap (λ ys. is_empty ys) (sym (defined_more xs i x lt is))
-
-pub text_more : {X : Type 0} (f : X → List ℕ) (xs : List (Option X)) (i : ℕ) (x : Option X) (is_first : Bool) → i < length xs → x ≡ get_or xs i x → is_first ≡ is_empty (defined (take i xs))
-    → join_by f (codes ",") (defined (take i xs)) ++ next_text f is_first x ≡ join_by f (codes ",") (defined (take (i + 1) xs))
-text_more f xs i x is_first lt is first =
-    ap (λ b. join_by f (codes ",") (defined (take i xs)) ++ next_text f b x) first
-    ∙ text_step f (defined (take i xs)) x
-    ∙ ap (λ ys. join_by f (codes ",") ys) (sym (defined_more xs i x lt is))
+pub none_defined : {X : Type 0} (f : X → List ℕ) (is_first : Bool) (fields : List (Option X)) → fields ≡ [] → joined_left f (codes ",") is_first (defined fields) ≡ []
+none_defined f is_first fields none = ap (λ fs. joined_left f (codes ",") is_first (defined fs)) none ∙ no_more is_first
+  where
+    no_more : (is_first : Bool) → joined_left f (codes ",") is_first [] ≡ []
+    no_more true = refl
+    no_more false = refl
 
 -- ---- equations
-
--- those that are left, behind others or none
-abbrev pub left : Bool → Bool → List (List ℕ) → List ℕ
-left is_first of_key texts =
-    if is_first then join_by (λ text. text) (separator of_key) texts
-    else flat_map (λ text. separator of_key ++ text) texts
-
--- what is left at a column
-abbrev pub left_at : {A : Type 0} → Bool → Bool → ℕ → List Bool → List (Option (Value A)) → List ℕ
-left_at is_first of_key i flags fields = left is_first of_key (equations of_key i (drop i flags) (drop i fields))
 
 -- the equations of a column and of those behind it
 abbrev pub then_equation : {A : Type 0} → ℕ → Option (Value A) → List (List ℕ) → List (List ℕ)
@@ -154,7 +179,7 @@ then_equation column None texts = texts
 then_equation column (Some value) texts = equation column value ∷ texts
 
 one_column : {A : Type 0} (of_key is_key : Bool) (column : ℕ) (flags : List Bool) (field : Option (Value A)) (fields : List (Option (Value A)))
-    → equations of_key column (is_key ∷ flags) (field ∷ fields) ≡ then_equation column (asked_value of_key (Some is_key) field) (equations of_key (column + 1) flags fields)
+    → equations of_key column (is_key ∷ flags) (field ∷ fields) ≡ then_equation column (asked_value of_key is_key field) (equations of_key (column + 1) flags fields)
 one_column true true column flags None fields = refl
 one_column true true column flags (Some value) fields = refl
 one_column true false column flags None fields = refl
@@ -164,80 +189,63 @@ one_column false true column flags (Some value) fields = refl
 one_column false false column flags None fields = refl
 one_column false false column flags (Some value) fields = refl
 
-no_flags : {A : Type 0} (of_key : Bool) (column : ℕ) (fields : List (Option (Value A))) → equations of_key column [] fields ≡ []
-no_flags of_key column [] = refl
-no_flags of_key column (field ∷ fields) = refl
-
--- the flag of a column and those behind it, or none
-flag_at : (flags : List Bool) (i : ℕ) → MatchOption (slice_get flags i) ((drop i flags ≡ []) × (drop (i + 1) flags ≡ [])) (λ flag. drop i flags ≡ flag ∷ drop (i + 1) flags)
-flag_at [] zero = (refl, refl)
-flag_at [] (suc i) = (refl, rw add-one refl)
-flag_at (flag ∷ flags) zero = refl
-flag_at (flag ∷ flags) (suc i) = simp add-one (simp add-one at (flag_at flags i))
-
-equations_at : {A : Type 0} (of_key : Bool) (i : ℕ) (flags : List Bool) (field : Option (Value A)) (fields : List (Option (Value A)))
-    → equations of_key i (drop i flags) (field ∷ fields) ≡ then_equation i (asked_value of_key (slice_get flags i) field) (equations of_key (i + 1) (drop (i + 1) flags) fields)
-equations_at of_key i flags field fields = at_flag (slice_get flags i) (flag_at flags i)
-  where
-    at_flag : (flag : Option Bool) → MatchOption flag ((drop i flags ≡ []) × (drop (i + 1) flags ≡ [])) (λ f. drop i flags ≡ f ∷ drop (i + 1) flags)
-        → equations of_key i (drop i flags) (field ∷ fields) ≡ then_equation i (asked_value of_key flag field) (equations of_key (i + 1) (drop (i + 1) flags) fields)
-    at_flag None none = ap (λ fs. equations of_key i fs (field ∷ fields)) none.0 ∙ sym (ap (λ fs. equations of_key (i + 1) fs fields) none.1 ∙ no_flags of_key (i + 1) fields)
-    at_flag (Some flag) more = ap (λ fs. equations of_key i fs (field ∷ fields)) more ∙ one_column of_key flag i (drop (i + 1) flags) field fields
-
-left_step : {A : Type 0} (is_first of_key : Bool) (i : ℕ) (value : Option (Value A)) (texts : List (List ℕ))
-    → next_equation is_first of_key i value ++ left (is_first_after is_first value) of_key texts ≡ left is_first of_key (then_equation i value texts)
-left_step is_first of_key i None texts = refl
-left_step true of_key i (Some value) texts = refl
-left_step false of_key i (Some value) texts = refl
-
--- a column is written next, or is passed over
-pub equations_next : {A : Type 0} (of_key : Bool) (i : ℕ) (flags : List Bool) (fields : List (Option (Value A))) (field value : Option (Value A))
-    → i < length fields → field ≡ get_or fields i field → value ≡ asked_value of_key (slice_get flags i) field
-    → equations of_key i (drop i flags) (drop i fields) ≡ then_equation i value (equations of_key (i + 1) (drop (i + 1) flags) (drop (i + 1) fields))
-equations_next of_key i flags fields field value lt is asked =
-    let rest = equations of_key (i + 1) (drop (i + 1) flags) (drop (i + 1) fields) in
-    let front : drop i fields ≡ field ∷ drop (i + 1) fields = drop_more fields i field lt ∙ ap (λ f. f ∷ drop (i + 1) fields) (sym is) in
-    ap (λ fs. equations of_key i (drop i flags) fs) front ∙ equations_at of_key i flags field (drop (i + 1) fields) ∙ ap (λ v. then_equation i v rest) (sym asked)
-
--- one column more is written
-pub equation_more : {A : Type 0} (is_first of_key : Bool) (i : ℕ) (flags : List Bool) (fields : List (Option (Value A))) (field value : Option (Value A)) (done all : List ℕ)
-    → i < length fields → field ≡ get_or fields i field → value ≡ asked_value of_key (slice_get flags i) field
-    → done ++ left_at is_first of_key i flags fields ≡ all
-    → (done ++ next_equation is_first of_key i value) ++ left_at (is_first_after is_first value) of_key (i + 1) flags fields ≡ all
-equation_more is_first of_key i flags fields field value done all lt is asked so_far =
-    let rest = equations of_key (i + 1) (drop (i + 1) flags) (drop (i + 1) fields) in
-    append_assoc done (next_equation is_first of_key i value) (left_at (is_first_after is_first value) of_key (i + 1) flags fields)
-    ∙ ap (λ (l : List ℕ). done ++ l) (left_step is_first of_key i value rest ∙ ap (λ texts. left is_first of_key texts) (sym (equations_next of_key i flags fields field value lt is asked)))
-    ∙ so_far
-
-nothing_left : (is_first of_key : Bool) → left is_first of_key [] ≡ []
-nothing_left true of_key = refl
-nothing_left false of_key = refl
+no_flags : (A : Type 0) (of_key : Bool) (column : ℕ) (fields : List (Option (Value A))) → equations of_key column [] fields ≡ []
+no_flags A of_key column [] = refl
+no_flags A of_key column (field ∷ fields) = refl
 
 no_fields : (A : Type 0) (of_key : Bool) (column : ℕ) (flags : List Bool) → equations {A = A} of_key column flags [] ≡ []
 no_fields A of_key column [] = refl
 no_fields A of_key column (is_key ∷ flags) = refl
 
--- behind the last column
-pub equations_end : {A : Type 0} (of_key : Bool) (i : ℕ) (flags : List Bool) (fields : List (Option (Value A))) → length fields ≤ i → equations of_key i (drop i flags) (drop i fields) ≡ []
-equations_end {A = A} of_key i flags fields le = ap (λ fs. equations of_key i (drop i flags) fs) (drop_all i fields le) ∙ no_fields A of_key i (drop i flags)
+module _ {A : Type 0} (of_key : Bool) (i : ℕ) (flags : List Bool) (fields : List (Option (Value A))) where
+  -- a column is written next, or is passed over
+  pub equations_next : (is_key : Bool) (field value : Option (Value A)) (others : List (Option (Value A)))
+      → i < length flags → is_key ≡ get_or flags i false → fields ≡ field ∷ others → value ≡ asked_value of_key is_key field
+      → equations of_key i (drop i flags) fields ≡ then_equation i value (equations of_key (i + 1) (drop (i + 1) flags) others)
+  equations_next is_key field value others lt is_flag is asked =
+      ap (λ fs. equations of_key i fs fields) (drop_more flags i false lt)
+      ∙ ap (λ fs. equations of_key i (get_or flags i false ∷ drop (i + 1) flags) fs) is
+      ∙ ap (λ k. equations of_key i (k ∷ drop (i + 1) flags) (field ∷ others)) (sym is_flag)
+      ∙ one_column of_key is_key i (drop (i + 1) flags) field others
+      ∙ ap (λ v. then_equation i v (equations of_key (i + 1) (drop (i + 1) flags) others)) (sym asked)
 
-pub left_all : {A : Type 0} (is_first of_key : Bool) (i : ℕ) (flags : List Bool) (fields : List (Option (Value A))) (done all : List ℕ)
-    → length fields ≤ i → done ++ left_at is_first of_key i flags fields ≡ all → done ≡ all
-left_all is_first of_key i flags fields done all le so_far =
-    sym (append-nil done)
-    ∙ ap (λ (l : List ℕ). done ++ l) (sym (ap (λ texts. left is_first of_key texts) (equations_end of_key i flags fields le) ∙ nothing_left is_first of_key))
-    ∙ so_far
+  -- behind the last column
+  pub no_more_flags : length flags ≤ i → equations of_key i (drop i flags) fields ≡ []
+  no_more_flags le = ap (λ fs. equations of_key i fs fields) (drop_all i flags le) ∙ no_flags A of_key i fields
+
+  -- behind the last field
+  pub no_more_fields : fields ≡ [] → equations of_key i (drop i flags) fields ≡ []
+  no_more_fields none = ap (λ fs. equations of_key i (drop i flags) fs) none ∙ no_fields A of_key i (drop i flags)
+
+-- what is left to write at a column
+abbrev pub left_at : {A : Type 0} → Bool → Bool → ℕ → List Bool → List (Option (Value A)) → List ℕ
+left_at is_first of_key i flags fields =
+    joined_left (λ text. text) (separator of_key) is_first (equations of_key i (drop i flags) fields)
+
+pub equation_left : {A : Type 0} (is_first of_key : Bool) (i : ℕ) (value : Option (Value A)) (texts others : List (List ℕ)) → texts ≡ then_equation i value others
+    → joined_left (λ text. text) (separator of_key) is_first texts ≡ next_equation is_first of_key i value ++ joined_left (λ text. text) (separator of_key) (is_first_after is_first value) others
+equation_left {A = A} is_first of_key i value texts others is = ap (λ ts. joined_left (λ text. text) (separator of_key) is_first ts) is ∙ taken is_first value
+  where
+    taken : (is_first : Bool) (value : Option (Value A)) → joined_left (λ text. text) (separator of_key) is_first (then_equation i value others)
+        ≡ next_equation is_first of_key i value ++ joined_left (λ text. text) (separator of_key) (is_first_after is_first value) others
+    taken true None = refl
+    taken true (Some value) = refl
+    taken false None = refl
+    taken false (Some value) = refl
+
+pub no_equation : (is_first of_key : Bool) (texts : List (List ℕ)) → texts ≡ [] → joined_left (λ text. text) (separator of_key) is_first texts ≡ []
+no_equation true of_key texts none = ap (λ ts. join_by (λ text. text) (separator of_key) ts) none
+no_equation false of_key texts none = ap (λ ts. flat_map (λ text. separator of_key ++ text) ts) none
 
 -- ---- whether there is an equation
 
-pub equation_found : {A : Type 0} (i : ℕ) (found : Option (Bor (Value A))) (texts : List (List ℕ)) → is_some found ≡ true → is_empty (then_equation i (option_copied found) texts) ≡ false
-equation_found i None texts some = absurd (true≢false (sym some))
-equation_found i (Some value) texts some = refl
+pub equation_found : (A : Type 0) (i : ℕ) (found : Option ValueRef) (texts : List (List ℕ)) → is_some found ≡ true → is_empty (then_equation {A = A} i (field_of found) texts) ≡ false
+equation_found A i None texts some = absurd (true≢false (sym some))
+equation_found A i (Some value) texts some = refl
 
-pub none_found : {A : Type 0} (i : ℕ) (found : Option (Bor (Value A))) (texts : List (List ℕ)) → is_some found ≡ false → then_equation i (option_copied found) texts ≡ texts
-none_found i None texts none = refl
-none_found i (Some value) texts none = absurd (true≢false none)
+pub none_found : (A : Type 0) (i : ℕ) (found : Option ValueRef) (texts : List (List ℕ)) → is_some found ≡ false → then_equation {A = A} i (field_of found) texts ≡ texts
+none_found A i None texts none = refl
+none_found A i (Some value) texts none = absurd (true≢false none)
 
 -- a statement that is not left out
 pub stands : (texts : List (List ℕ)) (statement : List ℕ) (none : Bool) → none ≡ false → none ≡ is_empty texts → statement ≡ unless_none texts statement

@@ -7,7 +7,8 @@ ghost use Rattle.cap_show.specs.Json.{Appends};
 ghost use Rattle.json.specs.Token.{Token};
 
 use cap_changes::{
-    ChangeList, Entry, FieldRecord, GroupList, Patch, PatchList, RowChange, TableGroup,
+    ChangeList, ChangeRef, Entry, EntryRef, GroupList, Patch, PatchList, PatchRef, RecordRef,
+    RowChange, TableGroup,
 };
 use cap_field::ValueRef;
 use cap_row::Schema;
@@ -47,13 +48,15 @@ trait JsonEntry<A: AllocHandle>: Entry {
 
     // Writes it.
     fn write_json(
-        &self,
+        change: &EntryRef<'_, Self>,
         alloc: A,
         writer: &mut Writer<A>,
         table: &Name<A>,
         schema: &Schema<A>,
     ) -> Result<(), OutOfMemory>
-        ensures { Appends result writer.old writer.new (tokens table.now schema.now self.now) };
+    where
+        Self: Sized,
+        ensures { Appends result writer.old writer.new (tokens table.now schema.now change.now) };
 }
 
 impl<A: AllocHandle> JsonEntry<A> for RowChange<A> {
@@ -62,22 +65,22 @@ impl<A: AllocHandle> JsonEntry<A> for RowChange<A> {
     ghost tokens = { change };
 
     fn write_json(
-        &self,
+        change: &EntryRef<'_, Self>,
         alloc: A,
         writer: &mut Writer<A>,
         table: &Name<A>,
         schema: &Schema<A>,
     ) -> Result<(), OutOfMemory> {
-        match self {
-            RowChange::Insert { indirect, new } => {
-                write_insert(alloc, writer, table, schema, *indirect, new)
+        match change.read() {
+            ChangeRef::Insert { indirect, new } => {
+                write_insert(alloc, writer, table, schema, indirect, &new)
             }
-            RowChange::Update { indirect, old, new } => {
-                write_head(alloc, writer, table, schema, "update", *indirect)?;
-                write_old_and_new(alloc, writer, old, new)
+            ChangeRef::Update { indirect, old, new } => {
+                write_head(alloc, writer, table, schema, "update", indirect)?;
+                write_old_and_new(alloc, writer, &old, &new)
             }
-            RowChange::Delete { indirect, old } => {
-                write_delete(alloc, writer, table, schema, *indirect, old)
+            ChangeRef::Delete { indirect, old } => {
+                write_delete(alloc, writer, table, schema, indirect, &old)
             }
         }
     }
@@ -89,22 +92,22 @@ impl<A: AllocHandle> JsonEntry<A> for Patch<A> {
     ghost tokens = { patch };
 
     fn write_json(
-        &self,
+        change: &EntryRef<'_, Self>,
         alloc: A,
         writer: &mut Writer<A>,
         table: &Name<A>,
         schema: &Schema<A>,
     ) -> Result<(), OutOfMemory> {
-        match self {
-            Patch::Insert { indirect, new } => {
-                write_insert(alloc, writer, table, schema, *indirect, new)
+        match change.read() {
+            PatchRef::Insert { indirect, new } => {
+                write_insert(alloc, writer, table, schema, indirect, &new)
             }
-            Patch::Update { indirect, new } => {
-                write_head(alloc, writer, table, schema, "update", *indirect)?;
-                write_last(alloc, writer, "new", new)
+            PatchRef::Update { indirect, new } => {
+                write_head(alloc, writer, table, schema, "update", indirect)?;
+                write_last(alloc, writer, "new", &new)
             }
-            Patch::Delete { indirect, key } => {
-                write_delete(alloc, writer, table, schema, *indirect, key)
+            PatchRef::Delete { indirect, key } => {
+                write_delete(alloc, writer, table, schema, indirect, &key)
             }
         }
     }
@@ -116,11 +119,11 @@ pub fn write_change_json<A: AllocHandle>(
     writer: &mut Writer<A>,
     table: &Name<A>,
     schema: &Schema<A>,
-    change: &RowChange<A>,
+    change: &EntryRef<'_, RowChange<A>>,
 ) -> Result<(), OutOfMemory>
     ensures { Appends result writer.old writer.new (spec.change table.now schema.now change.now) }
 {
-    change.write_json(alloc, writer, table, schema)
+    RowChange::write_json(change, alloc, writer, table, schema)
 }
 
 /// Writes a change of a patchset to this table, as an object.
@@ -129,11 +132,11 @@ pub fn write_patch_json<A: AllocHandle>(
     writer: &mut Writer<A>,
     table: &Name<A>,
     schema: &Schema<A>,
-    patch: &Patch<A>,
+    patch: &EntryRef<'_, Patch<A>>,
 ) -> Result<(), OutOfMemory>
     ensures { Appends result writer.old writer.new (spec.patch table.now schema.now patch.now) }
 {
-    patch.write_json(alloc, writer, table, schema)
+    Patch::write_json(patch, alloc, writer, table, schema)
 }
 
 // The text of a list.
@@ -174,7 +177,7 @@ fn write_group<C: JsonEntry<A>, A: AllocHandle>(
 {
     let (table, schema) = (group.table(), group.schema());
     for change in group.changes() {
-        change.write_json(alloc, writer, table, schema)?;
+        C::write_json(&change, alloc, writer, table, schema)?;
     }
     Ok(())
 }
@@ -185,7 +188,7 @@ fn write_insert<A: AllocHandle>(
     table: &Name<A>,
     schema: &Schema<A>,
     indirect: bool,
-    new: &FieldRecord<A>,
+    new: &RecordRef<'_, A>,
 ) -> Result<(), OutOfMemory>
     ensures { Appends result writer.old writer.new
         (spec.head table.now schema.now (codes "insert") indirect ++ spec.last (codes "new") new.now) }
@@ -200,7 +203,7 @@ fn write_delete<A: AllocHandle>(
     table: &Name<A>,
     schema: &Schema<A>,
     indirect: bool,
-    old: &FieldRecord<A>,
+    old: &RecordRef<'_, A>,
 ) -> Result<(), OutOfMemory>
     ensures { Appends result writer.old writer.new
         (spec.head table.now schema.now (codes "delete") indirect ++ spec.last (codes "old") old.now) }
@@ -213,8 +216,8 @@ fn write_delete<A: AllocHandle>(
 fn write_old_and_new<A: AllocHandle>(
     alloc: A,
     writer: &mut Writer<A>,
-    old: &FieldRecord<A>,
-    new: &FieldRecord<A>,
+    old: &RecordRef<'_, A>,
+    new: &RecordRef<'_, A>,
 ) -> Result<(), OutOfMemory>
     ensures { Appends result writer.old writer.new
         (spec.member (codes "old") old.now ++ spec.last (codes "new") new.now) }
@@ -229,7 +232,7 @@ fn write_last<A: AllocHandle>(
     alloc: A,
     writer: &mut Writer<A>,
     name: &str,
-    of: &FieldRecord<A>,
+    of: &RecordRef<'_, A>,
 ) -> Result<(), OutOfMemory>
     ensures { Appends result writer.old writer.new (spec.last name.now of.now) }
 {
@@ -314,13 +317,13 @@ fn write_member<A: AllocHandle>(
     alloc: A,
     writer: &mut Writer<A>,
     name: &str,
-    of: &FieldRecord<A>,
+    of: &RecordRef<'_, A>,
 ) -> Result<(), OutOfMemory>
     ensures { Appends result writer.old writer.new (spec.member name.now of.now) }
 {
     writer.key(name)?;
     writer.begin_object()?;
-    write_fields(alloc, writer, of.fields())?;
+    write_fields(alloc, writer, of)?;
     writer.end_object()
 }
 
@@ -328,14 +331,15 @@ fn write_member<A: AllocHandle>(
 fn write_fields<A: AllocHandle>(
     alloc: A,
     writer: &mut Writer<A>,
-    fields: &[Option<Value<A>>],
+    fields: &RecordRef<'_, A>,
 ) -> Result<(), OutOfMemory>
     ensures { Appends result writer.old writer.new (spec.fields 0 fields.now) }
 {
-    for (column, field) in fields.iter().enumerate() {
-        if let Some(value) = field {
+    let mut rest = fields.copy();
+    for column in 0..fields.width() {
+        if let Some(Some(value)) = rest.next_field() {
             writer.key(column_name(alloc, column)?.as_str())?;
-            write_json_value(alloc, writer, ValueRef::of(value))?;
+            write_json_value(alloc, writer, value)?;
         }
     }
     Ok(())

@@ -5,7 +5,9 @@ ghost use Rattle.std.specs.List.{flat_map};
 ghost use Rattle.cap_show.specs.ShowText as spec;
 
 use crate::text::{ChangeText, GroupText, PatchText};
-use cap_changes::{ChangeList, Entry, GroupList, Patch, PatchList, RowChange, TableGroup};
+use cap_changes::{
+    ChangeList, Entries, Entry, EntryRef, GroupList, Patch, PatchList, RowChange, TableGroup,
+};
 use cap_value::{AllocHandle, OutOfMemory};
 use std::io;
 use std::io::Write;
@@ -43,8 +45,10 @@ trait TextEntry: Entry {
     ghost text: { Self → List ℕ };
 
     // Writes it.
-    fn write_text<W: Write>(&self, output: &mut W) -> io::Result<()>
-        ensures { OnOk result (Appends (W.contents output.old) (W.contents output.new) (text self.now)) };
+    fn write_text<W: Write>(change: &EntryRef<'_, Self>, output: &mut W) -> io::Result<()>
+    where
+        Self: Sized,
+        ensures { OnOk result (Appends (W.contents output.old) (W.contents output.new) (text change.now)) };
 }
 
 impl<A: AllocHandle> TextEntry for RowChange<A> {
@@ -52,8 +56,8 @@ impl<A: AllocHandle> TextEntry for RowChange<A> {
 
     ghost text = { change_text };
 
-    fn write_text<W: Write>(&self, output: &mut W) -> io::Result<()> {
-        write!(output, "{}", ChangeText(self))
+    fn write_text<W: Write>(change: &EntryRef<'_, Self>, output: &mut W) -> io::Result<()> {
+        write!(output, "{}", ChangeText(change))
     }
 }
 
@@ -62,8 +66,8 @@ impl<A: AllocHandle> TextEntry for Patch<A> {
 
     ghost text = { patch_text };
 
-    fn write_text<W: Write>(&self, output: &mut W) -> io::Result<()> {
-        write!(output, "{}", PatchText(self))
+    fn write_text<W: Write>(change: &EntryRef<'_, Self>, output: &mut W) -> io::Result<()> {
+        write!(output, "{}", PatchText(change))
     }
 }
 
@@ -123,12 +127,12 @@ fn write_group<C: TextEntry, A: AllocHandle, W: Write>(
     write_lines(group.changes(), output)
 }
 
-fn write_lines<C: TextEntry, W: Write>(changes: &[C], output: &mut W) -> io::Result<()>
+fn write_lines<C: TextEntry, W: Write>(changes: Entries<'_, C>, output: &mut W) -> io::Result<()>
     ensures { OnOk result (Appends (W.contents output.old) (W.contents output.new)
-        (flat_map C.text changes.now)) }
+        (flat_map C.text changes.entry)) }
 {
     for change in changes {
-        change.write_text(output)?;
+        C::write_text(&change, output)?;
     }
     Ok(())
 }

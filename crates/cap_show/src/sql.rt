@@ -3,7 +3,8 @@ ghost use Rattle.std.specs.Fmt.{WritesOnOk};
 ghost use Rattle.std.specs.Io.KnownBytes.{Appends};
 ghost use Rattle.std.specs.List.{flat_map};
 ghost use Rattle.std.specs.Prelude.{◌≡◌, ◌++◌, Bool, List, IfOk, OnOk, false, option_copied, ℕ};
-ghost use Rattle.std.specs.Prelude.{slice_get};
+ghost use Rattle.cap_field.specs.FieldReading.{value_of};
+ghost use Rattle.cap_changes.specs.FieldReading.{field_of};
 ghost use Rattle.cap_show.specs.Code.DefinedFields.{is_first_after, next_text};
 ghost use Rattle.cap_show.specs.Code.Equations.{asked_value, next_equation, separator_before};
 ghost use Rattle.cap_show.specs.Code.Equations as code;
@@ -11,12 +12,15 @@ ghost use Rattle.cap_show.specs.Sql as spec;
 
 use crate::text::{write_blob, write_comma, write_quoted};
 use cap_changes::{
-    ChangeList, Entry, FieldRecord, GroupList, Patch, PatchList, RowChange, TableGroup,
+    ChangeList, ChangeRef, Entry, EntryRef, GroupList, Patch, PatchList, PatchRef, RecordRef,
+    RowChange, TableGroup,
 };
+use cap_field::ValueRef;
 use cap_row::Schema;
-use cap_value::{AllocHandle, Name, OutOfMemory, Value};
+use cap_value::{AllocHandle, Name, OutOfMemory};
 use std::fmt::{Display, Formatter};
 use std::io::Write;
+use std::marker::PhantomData;
 use std::{fmt, io};
 
 /// A changeset as SQL, as SQLite's program `changeset` does it: a statement for each change, between `BEGIN`
@@ -50,13 +54,15 @@ trait SqlEntry<A: AllocHandle>: Entry {
 
     // Writes it.
     fn write_sql<W: Write>(
-        &self,
+        change: &EntryRef<'_, Self>,
         table: &Name<A>,
         schema: &Schema<A>,
         output: &mut W,
     ) -> io::Result<()>
+    where
+        Self: Sized,
         ensures { OnOk result (Appends (W.contents output.old) (W.contents output.new)
-            (sql table.now schema.now self.now)) };
+            (sql table.now schema.now change.now)) };
 }
 
 impl<A: AllocHandle> SqlEntry<A> for RowChange<A> {
@@ -65,15 +71,15 @@ impl<A: AllocHandle> SqlEntry<A> for RowChange<A> {
     ghost sql = { change_sql };
 
     fn write_sql<W: Write>(
-        &self,
+        change: &EntryRef<'_, Self>,
         table: &Name<A>,
         schema: &Schema<A>,
         output: &mut W,
     ) -> io::Result<()> {
-        match self {
-            RowChange::Insert { new, .. } => write_insert(table, new, output),
-            RowChange::Update { old, new, .. } => write_update(table, schema, old, new, output),
-            RowChange::Delete { old, .. } => write_delete(table, schema, old, output),
+        match change.read() {
+            ChangeRef::Insert { new, .. } => write_insert(table, &new, output),
+            ChangeRef::Update { old, new, .. } => write_update(table, schema, &old, &new, output),
+            ChangeRef::Delete { old, .. } => write_delete(table, schema, &old, output),
         }
     }
 }
@@ -84,15 +90,15 @@ impl<A: AllocHandle> SqlEntry<A> for Patch<A> {
     ghost sql = { patch_sql };
 
     fn write_sql<W: Write>(
-        &self,
+        change: &EntryRef<'_, Self>,
         table: &Name<A>,
         schema: &Schema<A>,
         output: &mut W,
     ) -> io::Result<()> {
-        match self {
-            Patch::Insert { new, .. } => write_insert(table, new, output),
-            Patch::Update { new, .. } => write_update(table, schema, new, new, output),
-            Patch::Delete { key, .. } => write_delete(table, schema, key, output),
+        match change.read() {
+            PatchRef::Insert { new, .. } => write_insert(table, &new, output),
+            PatchRef::Update { new, .. } => write_update(table, schema, &new, &new, output),
+            PatchRef::Delete { key, .. } => write_delete(table, schema, &key, output),
         }
     }
 }
@@ -143,16 +149,15 @@ fn write_group<C: SqlEntry<A>, A: AllocHandle, W: Write>(
     ensures { OnOk result (Appends (W.contents output.old) (W.contents output.new)
         (spec.group_sql C.sql group.now)) }
 {
-    let (table, schema) = (group.table(), group.schema());
     for change in group.changes() {
-        change.write_sql(table, schema, output)?;
+        C::write_sql(&change, group.table(), group.schema(), output)?;
     }
     Ok(())
 }
 
 fn write_insert<A: AllocHandle, W: Write>(
     table: &Name<A>,
-    new: &FieldRecord<A>,
+    new: &RecordRef<'_, A>,
     output: &mut W,
 ) -> io::Result<()>
     ensures { OnOk result (Appends (W.contents output.old) (W.contents output.new)
@@ -166,14 +171,14 @@ fn write_insert<A: AllocHandle, W: Write>(
 fn write_update<A: AllocHandle, W: Write>(
     table: &Name<A>,
     schema: &Schema<A>,
-    key: &FieldRecord<A>,
-    new: &FieldRecord<A>,
+    key: &RecordRef<'_, A>,
+    new: &RecordRef<'_, A>,
     output: &mut W,
 ) -> io::Result<()>
     ensures { OnOk result (Appends (W.contents output.old) (W.contents output.new)
         (spec.update_text table.now schema.now key.now new.now)) }
 {
-    if modifies_nothing(schema.flags(), new.fields()) {
+    if modifies_nothing(schema.flags(), new) {
         return Ok(());
     }
     write_set(table, schema, key, new, output)
@@ -182,8 +187,8 @@ fn write_update<A: AllocHandle, W: Write>(
 fn write_set<A: AllocHandle, W: Write>(
     table: &Name<A>,
     schema: &Schema<A>,
-    key: &FieldRecord<A>,
-    new: &FieldRecord<A>,
+    key: &RecordRef<'_, A>,
+    new: &RecordRef<'_, A>,
     output: &mut W,
 ) -> io::Result<()>
     ensures { OnOk result (Appends (W.contents output.old) (W.contents output.new)
@@ -206,7 +211,7 @@ fn write_set<A: AllocHandle, W: Write>(
 fn write_delete<A: AllocHandle, W: Write>(
     table: &Name<A>,
     schema: &Schema<A>,
-    key: &FieldRecord<A>,
+    key: &RecordRef<'_, A>,
     output: &mut W,
 ) -> io::Result<()>
     ensures { OnOk result (Appends (W.contents output.old) (W.contents output.new)
@@ -222,11 +227,15 @@ fn write_delete<A: AllocHandle, W: Write>(
 }
 
 // Whether no field outside the key is defined.
-fn modifies_nothing<A: AllocHandle>(flags: &[bool], fields: &[Option<Value<A>>]) -> bool
+fn modifies_nothing<A: AllocHandle>(flags: &[bool], fields: &RecordRef<'_, A>) -> bool
     ensures { result ≡ code.is_empty (spec.equations false 0 flags.now fields.now) }
 {
-    for (column, field) in fields.iter().enumerate() {
-        if asked_value(false, flags, column, field).is_some() {
+    let mut rest = fields.copy();
+    for is_key in flags {
+        let Some(field) = rest.next_field() else {
+            return true;
+        };
+        if asked_value::<A>(false, *is_key, field).is_some() {
             return false;
         }
     }
@@ -234,18 +243,14 @@ fn modifies_nothing<A: AllocHandle>(flags: &[bool], fields: &[Option<Value<A>>])
 }
 
 // The value of a field, if it is defined and its column is in the key, or outside it, as is asked for.
-fn asked_value<'a, A: AllocHandle>(
+fn asked_value<A: AllocHandle>(
     of_key: bool,
-    flags: &[bool],
-    column: usize,
-    field: &'a Option<Value<A>>,
-) -> Option<&'a Value<A>>
-    ensures { option_copied result ≡ code.asked_value of_key (slice_get flags.now column) field.now }
+    is_key: bool,
+    field: Option<ValueRef<'_>>,
+) -> Option<ValueRef<'_>>
+    ensures { field_of result ≡ code.asked_value of_key is_key (field_of {A = A} field.entry) }
 {
-    match flags.get(column) {
-        Some(is_key) if *is_key == of_key => field.as_ref(),
-        _ => None,
-    }
+    if is_key == of_key { field } else { None }
 }
 
 /// A name between double quotes, with each of those in it doubled.
@@ -265,20 +270,35 @@ impl<'a> Display for Identifier<'a> {
 
 // A value as a literal.
 #[derive(Drop)]
-struct Literal<'a, A: AllocHandle>(&'a Value<A>);
+struct Literal<'a, A: AllocHandle> {
+    value: ValueRef<'a>,
+    marker: PhantomData<A>,
+}
+
+impl<'a, A: AllocHandle> Literal<'a, A> {
+    fn of(value: ValueRef<'a>) -> Self
+        ensures { value_of {A = A} result.value ≡ value_of value.entry }
+    {
+        Literal {
+            value,
+            marker: PhantomData,
+        }
+    }
+}
 
 impl<'a, A: AllocHandle> Display for Literal<'a, A> {
     ghost use Rattle.std.specs.Prelude.{Some};
     ghost use Rattle.cap_show.specs.Sql.{literal};
+    ghost use Rattle.cap_field.specs.FieldReading.{value_of};
 
-    ghost output = { λ shown. Some (literal shown.0.now) };
+    ghost output = { λ shown. Some (literal {A = A} (value_of shown.value)) };
 
     fn fmt<W: fmt::Write>(&self, f: &mut Formatter<W>) -> fmt::Result {
-        match self.0 {
-            Value::Null => f.write_str("NULL"),
-            Value::Int(number) => write!(f, "{number}"),
-            Value::Text(text) => write_text(f, text.as_str()),
-            Value::Blob(blob) => write_blob(f, blob.as_slice()),
+        match self.value {
+            ValueRef::Null => f.write_str("NULL"),
+            ValueRef::Int(number) => write!(f, "{number}"),
+            ValueRef::Text(text) => write_text(f, text),
+            ValueRef::Blob(blob) => write_blob(f, blob),
         }
     }
 }
@@ -304,7 +324,7 @@ fn write_cast<W: fmt::Write>(f: &mut Formatter<W>, bytes: &[u8]) -> fmt::Result
 
 // The defined fields of a record, with commas between them.
 #[derive(Drop)]
-struct ValueList<'a, A: AllocHandle>(&'a FieldRecord<A>);
+struct ValueList<'a, A: AllocHandle>(&'a RecordRef<'a, A>);
 
 impl<'a, A: AllocHandle> Display for ValueList<'a, A> {
     ghost use Rattle.std.specs.Prelude.{Some};
@@ -313,20 +333,20 @@ impl<'a, A: AllocHandle> Display for ValueList<'a, A> {
     ghost output = { λ shown. Some (values shown.0.now) };
 
     fn fmt<W: fmt::Write>(&self, f: &mut Formatter<W>) -> fmt::Result {
-        write_values(f, self.0.fields())
+        write_values(f, self.0)
     }
 }
 
 // Writes the defined fields with commas between them.
 fn write_values<A: AllocHandle, W: fmt::Write>(
     f: &mut Formatter<W>,
-    fields: &[Option<Value<A>>],
+    fields: &RecordRef<'_, A>,
 ) -> fmt::Result
     ensures { WritesOnOk W.write_str_gives f.old result (spec.values fields.now) f.new }
 {
     let mut is_first = true;
-    for field in fields {
-        write_if_defined(f, &mut is_first, field)?;
+    for field in fields.copy() {
+        write_if_defined::<A, W>(f, &mut is_first, field)?;
     }
     Ok(())
 }
@@ -335,18 +355,18 @@ fn write_values<A: AllocHandle, W: fmt::Write>(
 fn write_if_defined<A: AllocHandle, W: fmt::Write>(
     f: &mut Formatter<W>,
     is_first: &mut bool,
-    field: &Option<Value<A>>,
+    field: Option<ValueRef<'_>>,
 ) -> fmt::Result
     ensures text { WritesOnOk W.write_str_gives f.old result
-        (next_text spec.literal is_first.old field.now) f.new }
-    ensures first { is_first.new ≡ is_first_after is_first.old field.now }
+        (next_text (spec.literal {A = A}) is_first.old (field_of field.entry)) f.new }
+    ensures first { is_first.new ≡ is_first_after is_first.old (field_of {A = A} field.entry) }
 {
     match field {
         Some(value) => {
             let is_first_value = *is_first;
             *is_first = false;
             write_comma(f, is_first_value)?;
-            Literal(value).fmt(f)
+            Literal::<A>::of(value).fmt(f)
         }
         None => Ok(()),
     }
@@ -356,7 +376,7 @@ fn write_if_defined<A: AllocHandle, W: fmt::Write>(
 #[derive(Drop)]
 struct Equations<'a, A: AllocHandle> {
     schema: &'a Schema<A>,
-    fields: &'a FieldRecord<A>,
+    fields: &'a RecordRef<'a, A>,
     of_key: bool,
 }
 
@@ -367,7 +387,7 @@ impl<'a, A: AllocHandle> Display for Equations<'a, A> {
     ghost output = { λ shown. Some (joined shown.of_key shown.schema.now shown.fields.now) };
 
     fn fmt<W: fmt::Write>(&self, f: &mut Formatter<W>) -> fmt::Result {
-        write_equations(f, self.of_key, self.schema.flags(), self.fields.fields())
+        write_equations(f, self.of_key, self.schema.flags(), self.fields)
     }
 }
 
@@ -375,14 +395,18 @@ fn write_equations<A: AllocHandle, W: fmt::Write>(
     f: &mut Formatter<W>,
     of_key: bool,
     flags: &[bool],
-    fields: &[Option<Value<A>>],
+    fields: &RecordRef<'_, A>,
 ) -> fmt::Result
     ensures { WritesOnOk W.write_str_gives f.old result (spec.joined of_key flags.now fields.now) f.new }
 {
+    let mut rest = fields.copy();
     let mut is_first = true;
-    for (column, field) in fields.iter().enumerate() {
-        let value = asked_value(of_key, flags, column, field);
-        write_next_equation(f, &mut is_first, of_key, column, value)?;
+    for (column, is_key) in flags.iter().enumerate() {
+        let Some(field) = rest.next_field() else {
+            return Ok(());
+        };
+        let value = asked_value::<A>(of_key, *is_key, field);
+        write_next_equation::<A, W>(f, &mut is_first, of_key, column, value)?;
     }
     Ok(())
 }
@@ -393,18 +417,18 @@ fn write_next_equation<A: AllocHandle, W: fmt::Write>(
     is_first: &mut bool,
     of_key: bool,
     column: usize,
-    value: Option<&Value<A>>,
+    value: Option<ValueRef<'_>>,
 ) -> fmt::Result
     ensures text { WritesOnOk W.write_str_gives f.old result
-        (next_equation is_first.old of_key column (option_copied value.entry)) f.new }
-    ensures first { is_first.new ≡ is_first_after is_first.old (option_copied value.entry) }
+        (next_equation {A = A} is_first.old of_key column (field_of value.entry)) f.new }
+    ensures first { is_first.new ≡ is_first_after is_first.old (field_of {A = A} value.entry) }
 {
     match value {
         Some(value) => {
             let is_first_value = *is_first;
             *is_first = false;
             write_separator(f, is_first_value, of_key)?;
-            write!(f, "c{column}={}", Literal(value))
+            write!(f, "c{column}={}", Literal::<A>::of(value))
         }
         None => Ok(()),
     }

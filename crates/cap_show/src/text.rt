@@ -4,10 +4,11 @@ ghost use Rattle.std.specs.Fmt.{WritesOnOk};
 ghost use Rattle.std.specs.List.{filter_map, flat_map, join_by};
 ghost use Rattle.std.specs.Prelude.{◌≡◌, ◌<◌, ◌++◌, ◌∷◌, [], MatchOption, codes};
 ghost use Rattle.cap_field.specs.FieldReading.{value_of};
+ghost use Rattle.cap_changes.specs.FieldReading.{field_of};
 ghost use Rattle.cap_show.specs.Code.DefinedFields.{comma_text, is_first_after, next_text};
 ghost use Rattle.cap_show.specs.ShowText as spec;
 
-use cap_changes::{FieldRecord, Patch, RowChange};
+use cap_changes::{ChangeRef, EntryRef, Patch, PatchRef, RecordRef, RowChange};
 use cap_field::ValueRef;
 use cap_row::Schema;
 use cap_value::{AllocHandle, Name, Value};
@@ -174,7 +175,7 @@ fn write_column<W: Write>(f: &mut Formatter<W>, is_key: bool) -> fmt::Result
 
 // A record as text: its fields in parentheses, with `-` for each undefined field.
 #[derive(Drop)]
-pub(crate) struct RecordText<'a, A: AllocHandle>(pub(crate) &'a FieldRecord<A>);
+pub(crate) struct RecordText<'a, A: AllocHandle>(pub(crate) &'a RecordRef<'a, A>);
 
 impl<'a, A: AllocHandle> Display for RecordText<'a, A> {
     ghost use Rattle.std.specs.Prelude.{Some};
@@ -184,7 +185,7 @@ impl<'a, A: AllocHandle> Display for RecordText<'a, A> {
 
     fn fmt<W: Write>(&self, f: &mut Formatter<W>) -> fmt::Result {
         f.write_str("(")?;
-        write_fields(f, self.0.fields())?;
+        write_fields(f, self.0)?;
         f.write_str(")")
     }
 }
@@ -192,14 +193,15 @@ impl<'a, A: AllocHandle> Display for RecordText<'a, A> {
 // Writes the fields with commas between them.
 fn write_fields<A: AllocHandle, W: Write>(
     f: &mut Formatter<W>,
-    fields: &[Option<Value<A>>],
+    fields: &RecordRef<'_, A>,
 ) -> fmt::Result
     ensures { WritesOnOk W.write_str_gives f.old result
         (join_by spec.field_text (codes ",") fields.now) f.new }
 {
-    match fields.split_first() {
-        Some((first, rest)) => {
-            write_field(f, first)?;
+    let mut rest = fields.copy();
+    match rest.next_field() {
+        Some(first) => {
+            write_field::<A, W>(f, first)?;
             write_more_fields(f, rest)
         }
         None => Ok(()),
@@ -209,42 +211,43 @@ fn write_fields<A: AllocHandle, W: Write>(
 // Writes the fields, each after a comma.
 fn write_more_fields<A: AllocHandle, W: Write>(
     f: &mut Formatter<W>,
-    fields: &[Option<Value<A>>],
+    fields: RecordRef<'_, A>,
 ) -> fmt::Result
     ensures { WritesOnOk W.write_str_gives f.old result
-        (flat_map (λ field. codes "," ++ spec.field_text field) fields.now) f.new }
+        (flat_map (λ field. codes "," ++ spec.field_text field) fields.entry) f.new }
 {
     for field in fields {
-        write_next_field(f, field)?;
+        write_next_field::<A, W>(f, field)?;
     }
     Ok(())
 }
 
 fn write_next_field<A: AllocHandle, W: Write>(
     f: &mut Formatter<W>,
-    field: &Option<Value<A>>,
+    field: Option<ValueRef<'_>>,
 ) -> fmt::Result
-    ensures { WritesOnOk W.write_str_gives f.old result (codes "," ++ spec.field_text field.now) f.new }
+    ensures { WritesOnOk W.write_str_gives f.old result
+        (codes "," ++ spec.field_text {A = A} (field_of field.entry)) f.new }
 {
     f.write_str(",")?;
-    write_field(f, field)
+    write_field::<A, W>(f, field)
 }
 
 fn write_field<A: AllocHandle, W: Write>(
     f: &mut Formatter<W>,
-    field: &Option<Value<A>>,
+    field: Option<ValueRef<'_>>,
 ) -> fmt::Result
-    ensures { WritesOnOk W.write_str_gives f.old result (spec.field_text field.now) f.new }
+    ensures { WritesOnOk W.write_str_gives f.old result (spec.field_text {A = A} (field_of field.entry)) f.new }
 {
     match field {
-        Some(value) => ValueText::of(value).fmt(f),
+        Some(value) => ValueText::<A>::of_ref(value).fmt(f),
         None => f.write_str("-"),
     }
 }
 
 // The defined fields of a record as text, in parentheses.
 #[derive(Drop)]
-pub(crate) struct DefinedText<'a, A: AllocHandle>(pub(crate) &'a FieldRecord<A>);
+pub(crate) struct DefinedText<'a, A: AllocHandle>(pub(crate) &'a RecordRef<'a, A>);
 
 impl<'a, A: AllocHandle> Display for DefinedText<'a, A> {
     ghost use Rattle.std.specs.Prelude.{Some};
@@ -254,7 +257,7 @@ impl<'a, A: AllocHandle> Display for DefinedText<'a, A> {
 
     fn fmt<W: Write>(&self, f: &mut Formatter<W>) -> fmt::Result {
         f.write_str("(")?;
-        write_defined(f, self.0.fields())?;
+        write_defined(f, self.0)?;
         f.write_str(")")
     }
 }
@@ -262,14 +265,14 @@ impl<'a, A: AllocHandle> Display for DefinedText<'a, A> {
 // Writes the defined fields with commas between them.
 fn write_defined<A: AllocHandle, W: Write>(
     f: &mut Formatter<W>,
-    fields: &[Option<Value<A>>],
+    fields: &RecordRef<'_, A>,
 ) -> fmt::Result
     ensures { WritesOnOk W.write_str_gives f.old result
         (join_by spec.value_text (codes ",") (filter_map (λ field. field) fields.now)) f.new }
 {
     let mut is_first = true;
-    for field in fields {
-        write_if_defined(f, &mut is_first, field)?;
+    for field in fields.copy() {
+        write_if_defined::<A, W>(f, &mut is_first, field)?;
     }
     Ok(())
 }
@@ -278,17 +281,17 @@ fn write_defined<A: AllocHandle, W: Write>(
 fn write_if_defined<A: AllocHandle, W: Write>(
     f: &mut Formatter<W>,
     is_first: &mut bool,
-    field: &Option<Value<A>>,
+    field: Option<ValueRef<'_>>,
 ) -> fmt::Result
     ensures text { WritesOnOk W.write_str_gives f.old result
-        (next_text spec.value_text is_first.old field.now) f.new }
-    ensures first { is_first.new ≡ is_first_after is_first.old field.now }
+        (next_text (spec.value_text {A = A}) is_first.old (field_of field.entry)) f.new }
+    ensures first { is_first.new ≡ is_first_after is_first.old (field_of {A = A} field.entry) }
 {
     match field {
         Some(value) => {
             let is_first_value = *is_first;
             *is_first = false;
-            write_value(f, is_first_value, value)
+            write_value::<A, W>(f, is_first_value, value)
         }
         None => Ok(()),
     }
@@ -298,13 +301,13 @@ fn write_if_defined<A: AllocHandle, W: Write>(
 fn write_value<A: AllocHandle, W: Write>(
     f: &mut Formatter<W>,
     is_first: bool,
-    value: &Value<A>,
+    value: ValueRef<'_>,
 ) -> fmt::Result
     ensures { WritesOnOk W.write_str_gives f.old result
-        (comma_text is_first ++ spec.value_text value.now) f.new }
+        (comma_text is_first ++ spec.value_text {A = A} (value_of value.entry)) f.new }
 {
     write_comma(f, is_first)?;
-    ValueText::of(value).fmt(f)
+    ValueText::<A>::of_ref(value).fmt(f)
 }
 
 pub(crate) fn write_comma<W: Write>(f: &mut Formatter<W>, is_first: bool) -> fmt::Result
@@ -345,7 +348,7 @@ impl<'a, A: AllocHandle> Display for GroupText<'a, A> {
 /// The line of a change of a changeset as text: its kind, `direct` or `indirect`, and its fields in
 /// parentheses, with `-` for each undefined field.
 #[derive(Drop)]
-pub struct ChangeText<'a, A: AllocHandle>(pub &'a RowChange<A>);
+pub struct ChangeText<'a, A: AllocHandle>(pub &'a EntryRef<'a, RowChange<A>>);
 
 impl<'a, A: AllocHandle> Display for ChangeText<'a, A> {
     ghost use Rattle.std.specs.Prelude.{Some};
@@ -354,19 +357,19 @@ impl<'a, A: AllocHandle> Display for ChangeText<'a, A> {
     ghost output = { λ shown. Some (change_text shown.0.now) };
 
     fn fmt<W: Write>(&self, f: &mut Formatter<W>) -> fmt::Result {
-        match self.0 {
-            RowChange::Insert { indirect, new } => {
-                let flag = flag_text(*indirect);
-                write!(f, "insert {flag} {}\n", RecordText(new))
+        match self.0.read() {
+            ChangeRef::Insert { indirect, new } => {
+                let flag = flag_text(indirect);
+                write!(f, "insert {flag} {}\n", RecordText(&new))
             }
-            RowChange::Update { indirect, old, new } => {
-                let flag = flag_text(*indirect);
-                let (old, new) = (RecordText(old), RecordText(new));
+            ChangeRef::Update { indirect, old, new } => {
+                let flag = flag_text(indirect);
+                let (old, new) = (RecordText(&old), RecordText(&new));
                 write!(f, "update {flag} old {old} new {new}\n")
             }
-            RowChange::Delete { indirect, old } => {
-                let flag = flag_text(*indirect);
-                write!(f, "delete {flag} {}\n", RecordText(old))
+            ChangeRef::Delete { indirect, old } => {
+                let flag = flag_text(indirect);
+                write!(f, "delete {flag} {}\n", RecordText(&old))
             }
         }
     }
@@ -374,7 +377,7 @@ impl<'a, A: AllocHandle> Display for ChangeText<'a, A> {
 
 /// The line of a change of a patchset as text: an update has its key and its new values, a delete its key.
 #[derive(Drop)]
-pub struct PatchText<'a, A: AllocHandle>(pub &'a Patch<A>);
+pub struct PatchText<'a, A: AllocHandle>(pub &'a EntryRef<'a, Patch<A>>);
 
 impl<'a, A: AllocHandle> Display for PatchText<'a, A> {
     ghost use Rattle.std.specs.Prelude.{Some};
@@ -383,18 +386,18 @@ impl<'a, A: AllocHandle> Display for PatchText<'a, A> {
     ghost output = { λ shown. Some (patch_text shown.0.now) };
 
     fn fmt<W: Write>(&self, f: &mut Formatter<W>) -> fmt::Result {
-        match self.0 {
-            Patch::Insert { indirect, new } => {
-                let flag = flag_text(*indirect);
-                write!(f, "insert {flag} {}\n", RecordText(new))
+        match self.0.read() {
+            PatchRef::Insert { indirect, new } => {
+                let flag = flag_text(indirect);
+                write!(f, "insert {flag} {}\n", RecordText(&new))
             }
-            Patch::Update { indirect, new } => {
-                let flag = flag_text(*indirect);
-                write!(f, "update {flag} {}\n", RecordText(new))
+            PatchRef::Update { indirect, new } => {
+                let flag = flag_text(indirect);
+                write!(f, "update {flag} {}\n", RecordText(&new))
             }
-            Patch::Delete { indirect, key } => {
-                let flag = flag_text(*indirect);
-                write!(f, "delete {flag} {}\n", DefinedText(key))
+            PatchRef::Delete { indirect, key } => {
+                let flag = flag_text(indirect);
+                write!(f, "delete {flag} {}\n", DefinedText(&key))
             }
         }
     }

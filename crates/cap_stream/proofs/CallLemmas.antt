@@ -19,7 +19,8 @@ pub some_is_front : (a b : Option (List ℕ)) (bytes : List ℕ) → AppendsSome
 some_is_front a b bytes (front, rest, parts, more, wrote) = (front, rest, parts, wrote)
 
 module _ {W : Type 0} (went failed : W → W → Type 0) where
-  calls_on : (m n : ℕ) (a b c : W) → Calls went m a b → Calls went n b c → (k : ℕ) × (k ≡ m + n) × Calls went k a c
+  -- some calls and then some others
+  pub calls_on : (m n : ℕ) (a b c : W) → Calls went m a b → Calls went n b c → (k : ℕ) × (k ≡ m + n) × Calls went k a c
   calls_on m zero a b c some same = (m, omega arith, subst (λ (w : W). Calls went m a w) same some)
   calls_on m (suc n) a b c some (before, calls, last) =
       let all = calls_on m n a b before some calls in

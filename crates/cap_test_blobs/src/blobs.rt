@@ -1,7 +1,7 @@
 //! Tests of whole blobs, read and written.
 use crate::known::{DELETE, INSERT, UPDATE, UPDATE_PATCH, reads_as};
 use crate::made::{Fields, field, group, is_list, wide_insert};
-use cap_changes::{ChangeList, RowChange};
+use cap_changes::{ChangeList, ChangeRef};
 use cap_codec::{BlobFault, Contents, FaultKind, read_blob, write_changes};
 use cap_value::{Fault, Value};
 use std::alloc::Global;
@@ -215,7 +215,7 @@ fn inserted_rows(alloc: Global, bytes: &[u8]) -> Result<usize, Fault<BlobFault>>
     let mut inserted = 0usize;
     for group in list.groups() {
         for change in group.changes() {
-            if let RowChange::Insert { .. } = change {
+            if let ChangeRef::Insert { .. } = change.read() {
                 inserted = inserted.saturating_add(1);
             }
         }

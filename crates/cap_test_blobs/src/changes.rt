@@ -6,7 +6,7 @@ ghost use Rattle.cap_value.specs.declared.value.Value.TheVariants.{Int, Text};
 use crate::known::{DELETE, INSERT, UPDATE};
 use crate::made::of_one;
 use crate::refused::{Call, requests_refused};
-use cap_changes::{ChangeList, PatchList, RowChange, change_between, invert, to_patches};
+use cap_changes::{ChangeList, PatchList, invert, is_changed, push_change_between, to_patches};
 use cap_codec::{BlobFault, Contents, read_blob, write_changes, write_patches};
 use cap_row::{Row, Schema};
 use cap_value::{AllocHandle, Fault, OutOfMemory, Refusal, Value};
@@ -40,16 +40,21 @@ fn row_if_any(alloc: Global, text: Option<&str>) -> Result<Option<Row<Global>>, 
     }
 }
 
-// The change of the row with key 1 from one text to another.
+// The bytes of the change of the row with key 1 from one text to another.
 fn change(
     alloc: Global,
     image: Option<&str>,
     now: Option<&str>,
-) -> Result<Option<RowChange<Global>>, Fault<Refusal>> {
+) -> Result<Option<Vec<u8>>, Fault<Refusal>> {
     let schema = key_and_value(alloc)?;
     let image = row_if_any(alloc, image)?;
     let now = row_if_any(alloc, now)?;
-    Ok(change_between(alloc, &schema, true, image.as_ref(), now.as_ref())?)
+    if !is_changed(image.as_ref(), now.as_ref()) {
+        return Ok(None);
+    }
+    let mut bytes = Vec::new(alloc);
+    push_change_between(&mut bytes, &schema, true, image.as_ref(), now.as_ref())?;
+    Ok(Some(bytes))
 }
 
 // Whether there is no change from one text to another.
@@ -73,7 +78,7 @@ fn is_change(
     let Some(change) = change(alloc, image, now)? else {
         return Ok(false);
     };
-    let bytes = write_changes(alloc, &of_one(alloc, change)?)?;
+    let bytes = write_changes(alloc, &of_one(alloc, change.as_slice())?)?;
     Ok(
         bytes.get(..7) == direct.get(..7)
             && bytes.get(7) == Some(&1)

@@ -1,6 +1,7 @@
 //! Change lists made by hand of plain data.
-use cap_changes::{ChangeList, FieldRecord, Group, RowChange, to_patches};
-use cap_codec::{write_changes, write_patches};
+use cap_changes::{ChangeList, Group, to_patches};
+use cap_codec::{push_value, write_changes, write_patches};
+use cap_field::{push_int, push_text};
 use cap_row::Schema;
 use cap_value::{Fault, Name, OutOfMemory, Refusal, Value};
 use std::alloc::Global;
@@ -8,50 +9,32 @@ use std::alloc::Global;
 /// A key and a text, each of which may be undefined.
 pub type Fields = (Option<i64>, Option<&'static str>);
 
-fn pair(
-    alloc: Global,
-    key: Option<Value<Global>>,
-    value: Option<Value<Global>>,
-) -> Result<FieldRecord<Global>, OutOfMemory> {
-    Ok(FieldRecord::new(vec![in alloc; key, value]?))
-}
-
-fn key_value(key: Option<i64>) -> Option<Value<Global>> {
+fn push_fields(out: &mut Vec<u8>, (key, text): Fields) -> Result<(), OutOfMemory> {
     match key {
-        None => None,
-        Some(key) => Some(Value::Int(key)),
+        None => out.push(0)?,
+        Some(key) => push_int(out, key)?,
     }
-}
-
-fn record(alloc: Global, (key, text): Fields) -> Result<FieldRecord<Global>, Fault<Refusal>> {
     match text {
-        None => Ok(pair(alloc, key_value(key), None)?),
-        Some(text) => Ok(pair(alloc, key_value(key), Some(Value::text(alloc, text)?))?),
+        None => Ok(out.push(0)?),
+        Some(text) => push_text(out, text),
     }
 }
 
-// An insert has no old record, and a delete no new one.
-fn change(
-    alloc: Global,
-    old: Option<Fields>,
-    new: Option<Fields>,
-) -> Result<Option<RowChange<Global>>, Fault<Refusal>> {
-    let indirect = false;
-    match (old, new) {
-        (None, None) => Ok(None),
-        (None, Some(new)) => {
-            let new = record(alloc, new)?;
-            Ok(Some(RowChange::Insert { indirect, new }))
-        }
-        (Some(old), None) => {
-            let old = record(alloc, old)?;
-            Ok(Some(RowChange::Delete { indirect, old }))
-        }
-        (Some(old), Some(new)) => {
-            let (old, new) = (record(alloc, old)?, record(alloc, new)?);
-            Ok(Some(RowChange::Update { indirect, old, new }))
-        }
+// The bytes of a change. An insert has no old record, and a delete no new one.
+fn change(alloc: Global, old: Option<Fields>, new: Option<Fields>) -> Result<Vec<u8>, OutOfMemory> {
+    let operation = match (old, new) {
+        (_, None) => 0x09,
+        (None, Some(_)) => 0x12,
+        (Some(_), Some(_)) => 0x17,
+    };
+    let mut bytes = vec![in alloc; operation, 0]?;
+    if let Some(old) = old {
+        push_fields(&mut bytes, old)?;
     }
+    if let Some(new) = new {
+        push_fields(&mut bytes, new)?;
+    }
+    Ok(bytes)
 }
 
 /// A group without changes.
@@ -68,19 +51,16 @@ pub(crate) fn group(
     Ok(Group::new(alloc, name, schema))
 }
 
-fn put(group: &mut Group<Global>, change: RowChange<Global>) -> Result<(), Fault<Refusal>> {
-    if !change.fits(group.schema()) {
-        return Err(Fault::Refused(Refusal::WrongWidth));
+fn put(group: &mut Group<Global>, change: &[u8]) -> Result<(), Fault<Refusal>> {
+    match group.push_read(change.len(), change) {
+        Ok([]) => Ok(()),
+        Err(Fault::OutOfMemory) => Err(Fault::OutOfMemory),
+        _ => Err(Fault::Refused(Refusal::WrongWidth)),
     }
-    group.push(change)?;
-    Ok(())
 }
 
-/// The changeset of one change of the table `t`, a key and a value.
-pub(crate) fn of_one(
-    alloc: Global,
-    change: RowChange<Global>,
-) -> Result<ChangeList<Global>, Fault<Refusal>> {
+/// The changeset of one change of the table `t`, a key and a value, with these bytes.
+pub(crate) fn of_one(alloc: Global, change: &[u8]) -> Result<ChangeList<Global>, Fault<Refusal>> {
     let mut changes = group(alloc, "t", &[true, false])?;
     put(&mut changes, change)?;
     let mut list = ChangeList::new(alloc);
@@ -95,10 +75,8 @@ pub(crate) fn is_list(
     changeset: &[u8],
     patchset: &[u8],
 ) -> Result<bool, Fault<Refusal>> {
-    let Some(change) = change(alloc, old, new)? else {
-        return Ok(false);
-    };
-    let list = of_one(alloc, change)?;
+    let change = change(alloc, old, new)?;
+    let list = of_one(alloc, change.as_slice())?;
     let patches = to_patches(alloc, &list)?;
     Ok(
         write_changes(alloc, &list)?.as_slice() == changeset
@@ -106,31 +84,35 @@ pub(crate) fn is_list(
     )
 }
 
+// An insert with this value behind the key.
+fn insert_of(alloc: Global, value: &Value<Global>) -> Result<Vec<u8>, OutOfMemory> {
+    let mut insert = vec![in alloc; 0x12, 1]?;
+    push_int(&mut insert, 1)?;
+    push_value(&mut insert, value)?;
+    Ok(insert)
+}
+
 /// The bytes of a value as the second field of an insert, which stand behind the first 17 bytes.
 pub(crate) fn field(alloc: Global, value: Value<Global>) -> Option<Vec<u8>> {
-    let new = pair(alloc, Some(Value::Int(1)), Some(value)).ok()?;
-    let insert = RowChange::Insert {
-        indirect: true,
-        new,
-    };
-    let list = of_one(alloc, insert).ok()?;
+    let insert = insert_of(alloc, &value).ok()?;
+    let list = of_one(alloc, insert.as_slice()).ok()?;
     let bytes = write_changes(alloc, &list).ok()?;
     Vec::from_slice(alloc, bytes.get(17..)?).ok()
 }
 
-fn numbers(alloc: Global, count: usize) -> Result<FieldRecord<Global>, OutOfMemory> {
-    let mut fields = Vec::new(alloc);
+// An insert of so many numbers.
+fn numbers(alloc: Global, count: usize) -> Result<Vec<u8>, OutOfMemory> {
+    let mut insert = vec![in alloc; 0x12, 0]?;
     for _ in 0..count {
-        fields.push(Some(Value::Int(1)))?;
+        push_int(&mut insert, 1)?;
     }
-    Ok(FieldRecord::new(fields))
+    Ok(insert)
 }
 
 /// A group of 2,000 key columns, and an insert.
 pub(crate) fn wide_insert(alloc: Global) -> Result<Group<Global>, Fault<Refusal>> {
     let mut wide = group(alloc, "t", &[true; 2000])?;
-    let new = numbers(alloc, 2000)?;
-    let indirect = false;
-    put(&mut wide, RowChange::Insert { indirect, new })?;
+    let insert = numbers(alloc, 2000)?;
+    put(&mut wide, insert.as_slice())?;
     Ok(wide)
 }

@@ -2,7 +2,8 @@
 use cap_apply::Answer;
 use cap_codec::{BlobFault, FaultKind, KeyFlags, Operation};
 use cap_connection::{BlobIter, PieceDecoder};
-use cap_value::{Fault, OutOfMemory, Value};
+use cap_field::ValueRef;
+use cap_value::{Fault, OutOfMemory};
 use std::alloc::Global;
 
 // An UPDATE of t: the key column is 1, the second column was 2 and is 3.
@@ -17,9 +18,9 @@ const DIRECT: &[u8] = &[
     0, 0, 0, 0, 0, 0, 3,
 ];
 
-fn is_integer(value: Option<&Value<Global>>, number: i64) -> bool {
+fn is_integer(value: Option<ValueRef<'_>>, number: i64) -> bool {
     match value {
-        Some(Value::Int(found)) => *found == number,
+        Some(ValueRef::Int(found)) => found == number,
         _ => false,
     }
 }

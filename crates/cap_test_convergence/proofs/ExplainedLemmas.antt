@@ -5,8 +5,7 @@ use Rattle.cap_value.specs.Memory.{LeavesUnlessMemory, RefusesUnlessMemory}
 use Rattle.cap_value.specs.declared.memory.Fault.{Fault}
 use Rattle.cap_value.specs.declared.memory.Fault.TheVariants as stop
 use Rattle.cap_value.specs.declared.refusal.Refusal.{Refusal}
-use Rattle.cap_database.specs.Read.{row_at}
-use Rattle.cap_database.specs.Tables.{AreRising, Tables, schema_of}
+use Rattle.cap_database.specs.Tables.{AreRising}
 use Rattle.cap_database.specs.declared.change.Change.{Change}
 use Rattle.cap_changes.specs.Group.{TableChanges}
 use Rattle.cap_codec.specs.BlobReading.{blob_at}
@@ -40,7 +39,6 @@ use Rattle.cap_core.specs.Transition.{after_session, after_write, next, session_
 use Rattle.cap_core.proofs.AppliedCaptureLemmas.{captured}
 use Rattle.cap_captures.specs.Parts.{IsLeftBy}
 use Rattle.cap_captures.proofs.AcceptedLemmas.{restarts, there-captured}
-use Rattle.cap_convergence.specs.Convergence.{IsAppliedWhole}
 use Rattle.cap_test_convergence.specs.declared.synchronisation.NotSynchronised.{NotSynchronised}
 use Rattle.cap_test_convergence.specs.declared.synchronisation.NotSynchronised.TheVariants as why
 use Rattle.cap_test_convergence.specs.Steps.{Hinders, IsCarriedOut, IsNoCapture, IsNotRebased, IsRebased, IsUnreadable}
@@ -167,13 +165,13 @@ module _ {A : Type 0} where
         | false ↦ λ e. ap (λ b. is_some (cond b (Some session.1) (session_numbered (with_session sessions number new) number))) e ∙ numbered-with sessions number new
       ] refl
 
-  numbered-recorded : (before : Tables A) (changes : List (Change A)) (sessions : NumberedSessions A) (number : ℕ)
-      → is_some (session_numbered (record_commit_each before changes [] sessions) number) ≡ is_some (session_numbered sessions number)
-  numbered-recorded before changes [] number = refl
-  numbered-recorded before changes (session ∷ sessions) number =
-      elim (nat_eq number session.0) as (λ b. is_some (cond b (Some (record_commit before changes session.1)) (session_numbered (record_commit_each before changes [] sessions) number)) ≡ is_some (cond b (Some session.1) (session_numbered sessions number))) [
+  numbered-recorded : (changes : List (Change A)) (sessions : NumberedSessions A) (number : ℕ)
+      → is_some (session_numbered (record_commit_each changes [] sessions) number) ≡ is_some (session_numbered sessions number)
+  numbered-recorded changes [] number = refl
+  numbered-recorded changes (session ∷ sessions) number =
+      elim (nat_eq number session.0) as (λ b. is_some (cond b (Some (record_commit changes session.1)) (session_numbered (record_commit_each changes [] sessions) number)) ≡ is_some (cond b (Some session.1) (session_numbered sessions number))) [
         | true ↦ refl
-        | false ↦ numbered-recorded before changes sessions number
+        | false ↦ numbered-recorded changes sessions number
       ]
 
   abbrev is_live : State A → ℕ → Bool
@@ -189,7 +187,7 @@ module _ {A : Type 0} where
   live-applied : (s : State A) (blob : Contents A) (policy : Policy) (number : ℕ) → is_live s number ≡ true → is_live (next s (command.Apply blob policy [])) number ≡ true
   live-applied s blob policy number there =
       elim (apply s.main blob policy) as (λ r. is_live (after_write s [] (applied r)) number ≡ true) [
-        | Ok left ↦ numbered-recorded s.main left.changes s.sessions number ∙ there
+        | Ok left ↦ numbered-recorded left.changes s.sessions number ∙ there
         | Err reason ↦ there
       ]
 

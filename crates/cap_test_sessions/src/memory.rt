@@ -31,12 +31,11 @@ const CALLS: &[(Call, usize, u128)] = &[
 // The tables that are attached, t among them. A copy of the session has no room for another one.
 const ATTACHED: &[&str] = &["t", "a", "b", "c", "d", "e", "f", "g", "h"];
 
-// What they are made with: a table, a database, and what a commit made of it that changes one row of t and
-// two of u.
+// What they are made with: a table, and what a commit made of a database that changes one row of t and two of
+// u.
 #[derive(Drop)]
 struct Arguments<A: AllocHandle> {
     name: Name<A>,
-    before: Database<A>,
     outcome: Outcome<A>,
     differences: Vec<Difference<A>, A>,
 }
@@ -48,7 +47,7 @@ fn made_call<A: AllocHandle>(
 ) -> Result<(), OutOfMemory> {
     match call {
         Call::Attach => session.attach(&given.name),
-        Call::Commit => session.record_commit(&given.before, given.outcome.changes()),
+        Call::Commit => session.record_commit(given.outcome.changes()),
         Call::Diff => session.record_diff(&given.name, given.differences.as_slice()),
         Call::Copy => {
             *session = session.copy()?;
@@ -76,14 +75,13 @@ fn differences<A: AllocHandle>(
     compare(alloc, from.table(name), to.table(name)?).ok()
 }
 
-fn given<A: AllocHandle>(alloc: A, before: Database<A>) -> Option<Arguments<A>> {
+fn given<A: AllocHandle>(alloc: A, before: &Database<A>) -> Option<Arguments<A>> {
     let text = "commit insert t (2,'x') ; insert u (1,'x') ; insert u (2,'y')";
-    let outcome = outcome(alloc, &before, text)?;
+    let outcome = outcome(alloc, before, text)?;
     let name = Name::new(alloc, "u").ok()?;
-    let differences = differences(alloc, &before, outcome.database(), &name)?;
+    let differences = differences(alloc, before, outcome.database(), &name)?;
     Some(Arguments {
         name,
-        before,
         outcome,
         differences,
     })
@@ -152,7 +150,7 @@ fn each_call_may_be_refused<A: AllocHandle>(alloc: A, memory: &Memory<&LocalHeap
     if !prepare(alloc, &mut database, &mut session) {
         return false;
     }
-    let Some(given) = given(alloc, database) else {
+    let Some(given) = given(alloc, &database) else {
         return false;
     };
     for call in CALLS {

@@ -34,7 +34,7 @@ fn commit_ops<A: AllocHandle>(
     let Ok(outcome) = run_ops(alloc, database, ops) else {
         return false;
     };
-    if session.record_commit(database, outcome.changes()).is_err() {
+    if session.record_commit(outcome.changes()).is_err() {
         return false;
     }
     let (after, _) = outcome.into_parts();

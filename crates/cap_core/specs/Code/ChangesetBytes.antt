@@ -2,7 +2,8 @@
 use Rattle.std.specs.Prelude.{ℕ, Bool, true, false, List, []}
 use Rattle.std.specs.List.{flat_map}
 use Rattle.cap_changes.specs.declared.row_change.RowChange.{RowChange}
-use Rattle.cap_codec.specs.Changeset.{change_bytes, changes_under}
+use Rattle.cap_changes.specs.ChangeBytes.{change_bytes}
+use Rattle.cap_codec.specs.Changeset.{changes_under}
 
 -- the header, unless it is written already
 abbrev pub header_unless : Bool → List ℕ → List ℕ

@@ -1,5 +1,6 @@
 -- The outcome of a command that asks a commit hook.
-use Rattle.std.specs.Prelude.{◌≡◌, ◌+◌, Result, Ok, Err, IsOk, []}
+use Rattle.std.specs.Prelude.{◌≡◌, ◌+◌, Option, Some, Result, Ok, Err, IsOk, []}
+use Rattle.std.specs.Option.{option_map}
 use Rattle.cap_value.specs.Memory.{MatchFault}
 use Rattle.cap_value.specs.declared.memory.Fault.{Fault}
 use Rattle.cap_table.specs.NotMade.{MatchNotMade}
@@ -7,7 +8,9 @@ use Rattle.cap_table.specs.declared.not_made.NotMade.{NotMade}
 use Rattle.cap_database.specs.Operation.{changes, step}
 use Rattle.cap_database.specs.Tables.{Tables}
 use Rattle.cap_database.specs.declared.op.Op.{Op}
-use Rattle.cap_session.specs.Sessions.{NumberedSessions, SessionsState}
+use Rattle.cap_session.specs.declared.delta.Delta.{Delta}
+use Rattle.cap_session.specs.Delta.{published}
+use Rattle.cap_session.specs.Sessions.{NumberedSessions}
 use Rattle.cap_core.specs.declared.reply.Reply.{Reply}
 use Rattle.cap_core.specs.declared.reply.Reply.TheVariants.{Written}
 use Rattle.cap_core.specs.Answer.{State}
@@ -33,11 +36,11 @@ module _ {A S E : Type 0} (gives : S → Reply A → Result Unit E → S → Typ
       (after ≡ before)
       (λ why. IsOk (step old.main op) × gives before (Written (old.version + 1)) (Err why) after)
 
-  -- The live sessions stay. The touch is staged and the hook allowed the reply; or memory ran out before the
+  -- What is added to the sessions is reserved, and the hook allowed the reply; or memory ran out before the
   -- hook was asked; or the hook refused.
-  abbrev pub GivesRecorded : Reply A → NumberedSessions A → NumberedSessions A → SessionsState A → S → S
+  abbrev pub GivesRecorded : Reply A → NumberedSessions A → NumberedSessions A → Option (Delta A) → S → S
       → Result Unit (Fault E) → Type 0
-  GivesRecorded reply live touched sessions before after (Ok done) =
-      (sessions.live ≡ live) × (sessions.staged ≡ touched) × gives before reply (Ok tt) after
-  GivesRecorded reply live touched sessions before after (Err fault) =
-      (sessions.live ≡ live) × MatchFault fault (after ≡ before) (λ why. gives before reply (Err why) after)
+  GivesRecorded reply sessions recorded delta before after (Ok done) =
+      (option_map (λ own. published own sessions) delta ≡ Some recorded) × gives before reply (Ok tt) after
+  GivesRecorded reply sessions recorded delta before after (Err fault) =
+      MatchFault fault (after ≡ before) (λ why. gives before reply (Err why) after)

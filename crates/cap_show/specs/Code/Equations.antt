@@ -4,9 +4,8 @@ use Rattle.cap_value.specs.declared.value.Value.{Value}
 use Rattle.cap_show.specs.Sql.{equation, is_asked, separator}
 
 -- the value of a defined field whose column has such a flag
-abbrev pub asked_value : {X : Type 0} → Bool → Option Bool → Option X → Option X
-asked_value of_key None field = None
-asked_value of_key (Some is_key) field = if is_asked of_key is_key then field else None
+abbrev pub asked_value : {X : Type 0} → Bool → Bool → Option X → Option X
+asked_value of_key is_key field = if is_asked of_key is_key then field else None
 
 -- what stands before an equation
 abbrev pub separator_before : Bool → Bool → List ℕ

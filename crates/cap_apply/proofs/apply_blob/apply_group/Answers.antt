@@ -1,17 +1,25 @@
-use Rattle.std.proofs.Common.{◌+◌, length, arith, ap, sym, ◌∙◌}
+use Rattle.std.proofs.Common.{length, arith, ap, sym, ◌∙◌}
+use Rattle.cap_changes.proofs.LeftLemmas.{first_fits, others_fit}
 use Rattle.cap_apply.proofs.GroupLemmas.{changes_more, target_stays}
 use Rattle.cap_apply.proofs.apply_blob.apply_group.Goals as goal
 
-pub loop-place-preserved : goal.loop-place-preserved
-loop-place-preserved g c =
+pub apply_to-requires-clause-fits : goal.apply_to-requires-clause-fits
+apply_to-requires-clause-fits g c =
+    first_fits g.C.Entry.fits_in c.args.group.now.schema c.schema-columns.result.now c.loop-change.change-iterator c.next.new.self c.in-Some.change c.schema-columns.ensures.schema c.in-Some.ensures.steps c.loop-change.invariant.fit
+
+pub loop-change-preserved : goal.loop-change-preserved
+loop-change-preserved g c =
     let group = c.args.group.now in
     let requested = g.C.BlobChange.requested group.schema in
-    let state = c.loop-place.applied in
+    let state = c.loop-change.applied in
     let next = c.apply_to.new.applied in
-    let i = c.loop-place.place in
+    let change = c.in-Some.change in
+    let left = c.loop-change.change-iterator in
+    let others = c.next.new.self in
     let made = rw (c.table-table.ensures, c.schema-columns.ensures.schema) at c.in_ok-apply_to.ensures in
-    let item = rw c.changes-change-items.ensures.changes at c.change-item.is in (
-      sym (changes_more c.args.policy group.table group.schema c.args.number requested group.changes i c.change-item.result (omega (arith, ap length c.changes-change-items.ensures.changes)) item state next made)
-          ∙ c.loop-place.invariant.0,
-      target_stays c.args.policy (c.args.number + i) group.table group.schema (requested c.change-item.result) state next c.loop-place.invariant.1 made,
-    )
+    record {
+      left = sym (changes_more c.args.policy group.table group.schema c.loop-change.number requested left others change state next c.in-Some.ensures.steps made) ∙ c.loop-change.invariant.left;
+      there = target_stays c.args.policy c.loop-change.number group.table group.schema (requested change) state next c.loop-change.invariant.there made;
+      count = omega (arith, ap length c.in-Some.ensures.steps, c.loop-change.invariant.count);
+      fit = others_fit g.C.Entry.fits_in group.schema left others change c.in-Some.ensures.steps c.loop-change.invariant.fit;
+    }

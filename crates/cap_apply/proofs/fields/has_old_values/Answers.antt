@@ -1,21 +1,16 @@
-use Rattle.std.proofs.Common.{◌≡◌, ◌⊎◌, ◌∙◌, inl, inr, Bool, ⊎_elim, true, List, [], ◌∷◌, length, refl, sym, arith}
-use Rattle.std.specs.Iterator.Adapters.{zip_first, zip_second}
-use Rattle.std.specs.Slice.Iter.{iter_rest}
-use Rattle.cap_row.specs.Fields.{Fields}
-use Rattle.cap_changes.specs.FieldRecord.{RecordFields}
-use Rattle.cap_apply.specs.Row.{has_old_values}
+use Rattle.std.proofs.Common.{drop, sym, ◌∙◌}
+use Rattle.cap_field.specs.FieldReading.{value_of}
+use Rattle.cap_changes.specs.FieldReading.{field_of}
+use Rattle.cap_apply.proofs.FieldLemmas.{old_ended, old_there, row_ended}
 use Rattle.cap_apply.proofs.fields.has_old_values.Goals as goal
 
--- no column is left
-none_left : {A : Type 0} (flags : List Bool) (old : RecordFields A) (row : Fields A) → (length flags ≡ 0) ⊎ (length old ≡ 0) → has_old_values flags old row ≡ true
-none_left [] old row none = refl
-none_left (flag ∷ flags) [] row none = refl
-none_left (flag ∷ flags) (field ∷ old) row (inl none) = absurd (omega (arith, none))
-none_left (flag ∷ flags) (field ∷ old) row (inr none) = absurd (omega (arith, none))
+pub returns-in_default : goal.returns-in_default
+returns-in_default g c = old_ended (drop c.loop-key.key-index c.args.flags.now) c.loop-key.fields c.loop-key.rest _ c.in_default.ensures.field.0 c.loop-key.invariant
 
-pub returns : goal.returns
-returns g c =
-    let flags = iter_rest (zip_first c.loop-key.key-iterator) in
-    let old = iter_rest (zip_second c.loop-key.key-iterator) in
-    let none : (length flags ≡ 0) ⊎ (length old ≡ 0) = ⊎_elim (λ one. inl one.1.0) (λ other. inr other.1.0) c.in-None.ensures.steps in
-    sym (none_left flags old c.loop-key.rest none) ∙ c.loop-key.invariant
+pub returns-in_default-next_value : goal.returns-in_default-next_value
+returns-in_default-next_value g c = row_ended (drop c.loop-key.key-index c.args.flags.now) c.loop-key.fields c.loop-key.rest _ c.in_default-next_value.ensures.value.0 c.loop-key.invariant
+
+pub loop-key-preserved : goal.loop-key-preserved
+loop-key-preserved g c =
+    old_there c.args.flags.now c.loop-key.key-index c.loop-key.fields c.next_field.new.self (field_of c.in-Some.old) c.loop-key.rest c.next_value.new.self (value_of c.in-Some-next_value.value) _
+    c.loop-key-test.true c.in-Some.ensures.field c.in-Some-next_value.ensures.value (sym c.has_old_value.ensures ∙ c.if-not-has_old_value.false) c.loop-key.invariant

@@ -1,7 +1,14 @@
-use Rattle.std.proofs.Common.{◌≡◌, map, take}
+use Rattle.std.proofs.Common.{◌≡◌, ◌++◌, map}
+use Rattle.cap_changes.specs.Entries.{AllFit}
+use Rattle.cap_changes.specs.Fits.{change_fits}
 use Rattle.cap_changes.specs.Patch.{patch_of}
 use Rattle.cap_changes.proofs.patches.patches_of.Given as goal
 
+-- the patches so far and those of the changes that are left
 abbrev pub invariant-loop-change : goal.invariant-loop-change
-invariant-loop-change g l =
-    l.patches ≡ record { table = l.group.table; schema = l.group.schema; changes = map (patch_of l.group.schema) (take l.change-index l.group.changes) }
+invariant-loop-change g l = record {
+  table : l.patches.table ≡ l.group.table;
+  schema : l.patches.schema ≡ l.group.schema;
+  made : l.patches.changes ++ map (patch_of l.group.schema) l.change-iterator ≡ map (patch_of l.group.schema) l.group.changes;
+  fit : AllFit change_fits l.group.schema l.change-iterator;
+}

@@ -1,4 +1,4 @@
-use Rattle.cap_codec.specs.Operation.{operation_byte}
+use Rattle.cap_changes.specs.Operation.{operation_byte}
 use Rattle.cap_codec.proofs.LookingSteps.{begins_change, into_change, cut_change}
 use Rattle.cap_codec.proofs.scan.into_change.Goals as goal
 

@@ -2,7 +2,7 @@ use Rattle.std.proofs.Common.{◌≡◌, ◌∙◌, Option, Some, None, sym, sub
 use Rattle.std.proofs.lemmas.List.{take_rest}
 use Rattle.cap_codec.specs.declared.change_cursor.ChangeCursor.{ChangeCursor}
 use Rattle.cap_codec.specs.ChangeLeft.{next_requirement, IsPast}
-use Rattle.cap_codec.specs.FieldReading.{value_of}
+use Rattle.cap_changes.specs.FieldReading.{field_of}
 use Rattle.cap_codec.proofs.FieldSteps.{one_fewer}
 use Rattle.cap_codec.proofs.LookingSteps.{IsLeft, here, there, left_passes, field_cut, field_fault, change_ends}
 use Rattle.cap_codec.proofs.scan.past_fields.Goals as goal
@@ -19,13 +19,13 @@ loop-requirement-init g c = rw (take_rest c.args.bytes.now c.args.place.at) (rec
 pub loop-requirement-smaller : goal.loop-requirement-smaller
 loop-requirement-smaller g c =
     let next : next_requirement c.loop-requirement.inside c.loop-requirement.place.schema ≡ Some c.in-Some-requirement.requirement = rw (← c.flags.ensures.flags) (sym c.in-Some-requirement.ensures) in
-    let past : IsPast c.loop-requirement.place.schema (value_of c.in-Ok.field) c.loop-requirement.inside c.pass.new.self = rw (← c.flags-in-Ok.ensures.flags) c.in_ok-pass-in-Ok.ensures in
+    let past : IsPast c.loop-requirement.place.schema (field_of c.in-Ok.field) c.loop-requirement.inside c.pass.new.self = rw (← c.flags-in-Ok.ensures.flags) c.in_ok-pass-in-Ok.ensures in
     one_fewer g.row.A.Denot c.loop-requirement.inside c.pass.new.self c.loop-requirement.place.schema c.in-Some-requirement.requirement _ next past
 
 pub loop-requirement-preserved : goal.loop-requirement-preserved
 loop-requirement-preserved g c =
     let next : next_requirement c.loop-requirement.inside c.loop-requirement.place.schema ≡ Some c.in-Some-requirement.requirement = rw (← c.flags.ensures.flags) (sym c.in-Some-requirement.ensures) in
-    let past : IsPast c.loop-requirement.place.schema (value_of c.in-Ok.field) c.loop-requirement.inside c.pass.new.self = rw (← c.flags-in-Ok.ensures.flags) c.in_ok-pass-in-Ok.ensures in
+    let past : IsPast c.loop-requirement.place.schema (field_of c.in-Ok.field) c.loop-requirement.inside c.pass.new.self = rw (← c.flags-in-Ok.ensures.flags) c.in_ok-pass-in-Ok.ensures in
     record {
       left = left_passes g.row.A.Denot c.args.bytes.now c.loop-requirement.place.kind c.loop-requirement.place.schema c.loop-requirement.inside c.pass.new.self c.in-Some-requirement.requirement _ c.loop-requirement.rest.now c.in-Ok.after.now next c.in-Ok.ensures.reads past c.loop-requirement.invariant.left;
       behind = omega (arith, c.in-Ok.ensures.behind, c.loop-requirement.invariant.behind);

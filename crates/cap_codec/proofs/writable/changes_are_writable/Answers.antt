@@ -4,7 +4,7 @@ use Rattle.cap_codec.specs.declared.key_flags.KeyFlags.TheVariants.{Ones}
 use Rattle.cap_codec.specs.declared.read.Contents.TheVariants.{Changes}
 use Rattle.cap_codec.specs.Writable.{IsGroup}
 use Rattle.cap_codec.proofs.BlobAgain.{written_again}
-use Rattle.cap_codec.proofs.WritableLemmas.{all_more, all_of}
+use Rattle.cap_changes.proofs.EachLemmas.{all_more, all_of}
 use Rattle.cap_codec.proofs.writable.changes_are_writable.Goals as goal
 
 pub loop-group-preserved : goal.loop-group-preserved

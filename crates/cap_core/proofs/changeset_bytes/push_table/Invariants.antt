@@ -1,6 +1,7 @@
 use Rattle.std.proofs.Common.{◌≡◌, ◌++◌}
 use Rattle.std.specs.List.{filter_map}
-use Rattle.cap_codec.specs.Changeset.{change_bytes, changes_under, header_bytes}
+use Rattle.cap_changes.specs.ChangeBytes.{change_bytes}
+use Rattle.cap_codec.specs.Changeset.{changes_under, header_bytes}
 use Rattle.cap_core.specs.Capture.{change_now}
 use Rattle.cap_core.specs.Code.ChangesetBytes.{behind}
 use Rattle.cap_core.proofs.changeset_bytes.push_table.Given as goal

@@ -6,4 +6,4 @@ abbrev pub invariant-loop-name : goal.invariant-loop-name
 invariant-loop-name g l =
     (goal.iterator-loop-name g).can_next l.name-iterator
     × (goal.iterator-loop-name g).is_finite l.name-iterator
-    × (l.names ++ keys_of l.name-iterator ≡ keys_of l.session.live.tables)
+    × (l.names ++ keys_of l.name-iterator ≡ keys_of l.session.tables)

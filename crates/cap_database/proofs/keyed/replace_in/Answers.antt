@@ -1,4 +1,4 @@
-use Rattle.std.proofs.Common.{◌≡◌, sym, slice_index_or}
+use Rattle.std.proofs.Common.{sym, slice_index_or}
 use Rattle.cap_database.proofs.ReplaceLemmas.{makes-in, replaced-row}
 use Rattle.cap_database.proofs.keyed.replace_in.Goals as goal
 

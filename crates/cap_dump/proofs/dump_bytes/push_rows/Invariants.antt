@@ -1,6 +1,6 @@
 use Rattle.std.proofs.Common.{◌≡◌, ◌++◌}
 use Rattle.std.specs.List.{flat_map}
-use Rattle.cap_codec.specs.Changeset.{change_bytes}
+use Rattle.cap_changes.specs.ChangeBytes.{change_bytes}
 use Rattle.cap_dump.specs.Dump.{insert_of}
 use Rattle.cap_dump.proofs.dump_bytes.push_rows.Given as goal
 

@@ -1,6 +1,6 @@
 use Rattle.std.proofs.Common.{◌≡◌, ◌∙◌, ℕ, ◌≤◌, ◌==◌, Bool, true, false, List, length, sym, arith}
 use Rattle.std.proofs.lemmas.Bool.{eqb-false, eqb-true}
-use Rattle.cap_codec.specs.FieldReading.{value_of}
+use Rattle.cap_changes.specs.FieldReading.{field_of}
 use Rattle.cap_field.proofs.Spelled.{are_low}
 use Rattle.cap_records.proofs.FieldLemmas.{behind_low, fields_end, fields_fail, fields_go_on, fields_spelled, fields_start, shorter}
 use Rattle.cap_records.proofs.reading.take_fields.Goals as goal
@@ -18,13 +18,13 @@ loop-rest-init c = record {
 }
 
 pub loop-rest-smaller : goal.loop-rest-smaller
-loop-rest-smaller c = shorter c.args.requirement (length c.args.bytes.now) c.loop-rest.rest.now (value_of c.in-Ok.field, c.in-Ok.after.now) c.requires c.loop-rest.invariant.low c.in-Ok.ensures.reads
+loop-rest-smaller c = shorter c.args.requirement (length c.args.bytes.now) c.loop-rest.rest.now (field_of c.in-Ok.field, c.in-Ok.after.now) c.requires c.loop-rest.invariant.low c.in-Ok.ensures.reads
 
 pub loop-rest-preserved : goal.loop-rest-preserved
 loop-rest-preserved c =
-    let less = shorter c.args.requirement (length c.args.bytes.now) c.loop-rest.rest.now (value_of c.in-Ok.field, c.in-Ok.after.now) c.requires c.loop-rest.invariant.low c.in-Ok.ensures.reads in record {
+    let less = shorter c.args.requirement (length c.args.bytes.now) c.loop-rest.rest.now (field_of c.in-Ok.field, c.in-Ok.after.now) c.requires c.loop-rest.invariant.low c.in-Ok.ensures.reads in record {
       read = rw (c.in_ok-push_field-in-Ok.ensures) (fields_go_on c.args.requirement (length c.args.bytes.now) c.loop-rest.fields.items c.loop-rest.rest.now c.in-Ok.after.now _ _ (some c.loop-rest.rest.now c.is_empty.result c.is_empty.ensures c.loop-rest-test.true) (cc (c.in-Ok.ensures.reads, c.in_ok-own_field-in-Ok.ensures)) less c.loop-rest.invariant.read);
-      low = behind_low c.args.requirement (length c.args.bytes.now) c.loop-rest.rest.now (value_of c.in-Ok.field, c.in-Ok.after.now) c.requires c.loop-rest.invariant.low c.in-Ok.ensures.reads;
+      low = behind_low c.args.requirement (length c.args.bytes.now) c.loop-rest.rest.now (field_of c.in-Ok.field, c.in-Ok.after.now) c.requires c.loop-rest.invariant.low c.in-Ok.ensures.reads;
     }
 
 pub returns-in-Err-clause-gives : goal.returns-in-Err-clause-gives

@@ -1,7 +1,7 @@
 use Rattle.std.proofs.Common.{arith}
 use Rattle.std.proofs.lemmas.Grind.{common_steps}
 use Rattle.cap_value.specs.Value.{IsValue}
-use Rattle.cap_codec.proofs.WritableLemmas.{all_more}
+use Rattle.cap_changes.proofs.EachLemmas.{all_more}
 use Rattle.cap_records.proofs.writing.values_record.Goals as goal
 
 pub loop-value-preserved : goal.loop-value-preserved

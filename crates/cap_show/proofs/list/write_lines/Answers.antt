@@ -1,12 +1,13 @@
-use Rattle.std.proofs.KnownBytes.{Appends-nil}
-use Rattle.cap_show.proofs.TextLemmas.{appends_more, pieces_more}
+use Rattle.std.proofs.Common.{ap}
+use Rattle.std.specs.List.{flat_map}
+use Rattle.cap_show.proofs.TextLemmas.{appended_all, appended_more, appended_none}
 use Rattle.cap_show.proofs.list.write_lines.Goals as goal
 
 pub loop-change-init : goal.loop-change-init
-loop-change-init g c = Appends-nil _
+loop-change-init g c = appended_none _ _ _ (ap (flat_map g.C.TextEntry.text) c.into_iter-change-iterator.ensures.into_iter_gives)
 
 pub loop-change-preserved : goal.loop-change-preserved
-loop-change-preserved g c =
-    let contents = g.W.Write.contents in
-    let more = pieces_more g.C.TextEntry.text c.args.changes.now c.loop-change.change-index c.change-item.result c.loop-change-test.true c.change-item.is in
-    appends_more (contents c.args.output.now) (contents c.loop-change.output) (contents c.write_text.new.output) _ _ _ more c.loop-change.invariant c.in_ok-write_text.ensures
+loop-change-preserved g c = appended_more _ _ _ _ _ _ _ (ap (flat_map g.C.TextEntry.text) c.in-Some.ensures.steps) c.loop-change.invariant c.in_ok-write_text.ensures
+
+pub returns : goal.returns
+returns g c = appended_all _ _ _ _ (ap (flat_map g.C.TextEntry.text) c.in-None.ensures.steps.0) c.loop-change.invariant

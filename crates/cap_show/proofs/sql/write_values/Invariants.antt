@@ -1,13 +1,7 @@
-use Rattle.std.proofs.Common.{◌≡◌, codes, take}
-use Rattle.std.specs.Fmt.{HasWritten, IsPlainFormatter}
-use Rattle.std.specs.List.{join_by}
-use Rattle.cap_show.specs.Code.Equations.{is_empty}
+use Rattle.std.proofs.Common.{codes, true}
 use Rattle.cap_show.specs.Sql.{literal}
-use Rattle.cap_show.proofs.TextLemmas.{defined}
+use Rattle.cap_show.proofs.TextLemmas.{WrittenSoFar, defined, joined_left}
 use Rattle.cap_show.proofs.sql.write_values.Given as goal
 
 abbrev pub invariant-loop-field : goal.invariant-loop-field
-invariant-loop-field g l =
-    (l.is_first ≡ is_empty (defined (take l.field-index l.fields)))
-    × (IsPlainFormatter l.initial.f
-    → HasWritten g.W.Write.write_str_gives l.initial.f (join_by literal (codes ",") (defined (take l.field-index l.fields))) l.f)
+invariant-loop-field g l = WrittenSoFar g.W.Write.write_str_gives l.initial.f l.f (joined_left literal (codes ",") l.is_first (defined l.field-iterator)) (joined_left literal (codes ",") true (defined l.fields))

@@ -1,4 +1,4 @@
-use Rattle.std.proofs.Common.{◌≡◌, Bool, ap, sym, subst, ◌∙◌}
+use Rattle.std.proofs.Common.{◌≡◌, Ok, Bool, ap, sym, subst, ◌∙◌}
 use Rattle.std.specs.Prelude.{is_some}
 use Rattle.std.specs.Option.{option_map}
 use Rattle.std.proofs.lemmas.Result.{err_from_is_err_and}
@@ -57,9 +57,9 @@ returns-in_err-judge g c =
     let flags_are : c.flags-flags.result.now ≡ flags = c.flags-flags.ensures.flags in
     let key = c.in_ok-under.under in
     let key_is : key ≡ key_values flags new = c.in_ok-under.ensures ∙ ap (λ f. key_values f fields) flags_are ∙ sym (update_key flags fields c.args.new.now c.requires.fits) in
-    let conflict = c.in_ok-conflict.conflict in
-    let met : missed flags old (row_at state.database name key) ≡ conflict = ap (λ f. missed f old (row_at state.database name key)) (sym flags_are) ∙ c.in_ok-conflict.ensures.conflict in
-    let put_is = c.in_ok-conflict.ensures.state
+    let conflict = c.in_ok-before.conflict in
+    let met : missed flags old (row_at state.database name key) ≡ conflict = ap (λ f. missed f old (row_at state.database name key)) (sym flags_are) ∙ c.in_ok-before.ensures.conflict in
+    let put_is = c.in_ok-before.ensures.state
     ∙ ap (λ f. placed_if_made (is_made policy number conflict) name key (option_map (set_fields (update_record f fields c.args.new.now)) (row_at state.database name key)) state) flags_are in
     let p = err_from_is_err_and c.from_residual-in_err-judge.result c.from_residual-in_err-judge.ensures.1 in
     λ indirect.
@@ -82,9 +82,9 @@ returns-then-not-branch g c =
     let flags_are : c.flags-flags.result.now ≡ flags = c.flags-flags.ensures.flags in
     let key = c.in_ok-under.under in
     let key_is : key ≡ key_values flags new = c.in_ok-under.ensures ∙ ap (λ f. key_values f fields) flags_are ∙ sym (update_key flags fields c.args.new.now c.requires.fits) in
-    let conflict = c.in_ok-conflict.conflict in
-    let met : missed flags old (row_at state.database name key) ≡ conflict = ap (λ f. missed f old (row_at state.database name key)) (sym flags_are) ∙ c.in_ok-conflict.ensures.conflict in
-    let put_is = c.in_ok-conflict.ensures.state
+    let conflict = c.in_ok-before.conflict in
+    let met : missed flags old (row_at state.database name key) ≡ conflict = ap (λ f. missed f old (row_at state.database name key)) (sym flags_are) ∙ c.in_ok-before.ensures.conflict in
+    let put_is = c.in_ok-before.ensures.state
     ∙ ap (λ f. placed_if_made (is_made policy number conflict) name key (option_map (set_fields (update_record f fields c.args.new.now)) (row_at state.database name key)) state) flags_are in
     λ indirect.
     update_left policy number name flags state h indirect old new key key_is conflict met c.replace_present_row.new.self put_is
@@ -104,10 +104,11 @@ returns g c =
     let flags_are : c.flags-flags.result.now ≡ flags = c.flags-flags.ensures.flags in
     let key = c.in_ok-under.under in
     let key_is : key ≡ key_values flags new = c.in_ok-under.ensures ∙ ap (λ f. key_values f fields) flags_are ∙ sym (update_key flags fields c.args.new.now c.requires.fits) in
-    let conflict = c.in_ok-conflict.conflict in
-    let met : missed flags old (row_at state.database name key) ≡ conflict = ap (λ f. missed f old (row_at state.database name key)) (sym flags_are) ∙ c.in_ok-conflict.ensures.conflict in
-    let put_is = c.in_ok-conflict.ensures.state
+    let conflict = c.in_ok-before.conflict in
+    let met : missed flags old (row_at state.database name key) ≡ conflict = ap (λ f. missed f old (row_at state.database name key)) (sym flags_are) ∙ c.in_ok-before.ensures.conflict in
+    let put_is = c.in_ok-before.ensures.state
     ∙ ap (λ f. placed_if_made (is_made policy number conflict) name key (option_map (set_fields (update_record f fields c.args.new.now)) (row_at state.database name key)) state) flags_are in
     λ indirect.
     update_made policy number name flags state h indirect old new key key_is conflict met c.replace_present_row.new.self put_is
-    c.judge.new.self c.in_ok-judge.field-0 c.in_ok-judge.ensures.noted c.in_ok-judge.ensures.made c.add_replacement.new.self c.count.new.self c.if-not-branch.false c.in_ok-add_replacement.ensures c.in_ok-count.ensures
+    c.judge.new.self c.in_ok-judge.field-0 c.in_ok-judge.ensures.noted c.in_ok-judge.ensures.made c.in_ok-before.before c.add_replacement.new.self c.count.new.self
+    (c.in_ok-before.ensures.before (c.in_ok-judge.ensures.made ∙ ap Ok c.if-not-branch.false)) c.if-not-branch.false c.in_ok-add_replacement.ensures c.in_ok-count.ensures

@@ -1,5 +1,5 @@
 use Rattle.std.proofs.Common.{◌≡◌, refl, sym, ◌∙◌}
-use Rattle.cap_codec.specs.Operation.{operation_byte}
+use Rattle.cap_changes.specs.Operation.{operation_byte}
 use Rattle.cap_codec.proofs.FieldSteps.{first_of, first_of_insert, enters}
 use Rattle.cap_codec.proofs.change_cursor.ChangeCursor.new.Goals as goal
 use Rattle.cap_codec.proofs.change_cursor.ChangeCursor.new.Goals.{in_default-Insert, in-Changes-Update, in-Patches-Update, in-Changes-Delete, in-Patches-Delete}

@@ -8,6 +8,6 @@ pub invariant_of-self : goal.invariant_of-self
 invariant_of-self g c = (
   omega (arith, c.self.invariant.0),
   omega (arith, c.self.invariant.1),
-  ap (sessions_stand c.self.inside.main) c.change-2.ensures.changed
-      ∙ changed-stands c.self.inside.main c.args.number (changed_by c.args.change) (change-stands c.self.inside.main c.args.change) c.self.inside.sessions.live c.self.invariant.2,
+  ap (sessions_stand c.self.inside.main) c.change-2.ensures
+      ∙ changed-stands c.self.inside.main c.args.number (changed_by c.args.change) (change-stands c.self.inside.main c.args.change) c.self.inside.sessions c.self.invariant.2,
 )

@@ -7,6 +7,6 @@ pub invariant_of-self : goal.invariant_of-self
 invariant_of-self g c = (
   omega (arith, c.self.invariant.0),
   omega (arith, c.self.invariant.1),
-  ap (sessions_stand c.self.inside.main) c.remove.ensures.removed
-      ∙ without_session-stands c.self.inside.main c.self.inside.sessions.live c.args.number c.self.invariant.2,
+  ap (sessions_stand c.self.inside.main) c.remove.ensures
+      ∙ without_session-stands c.self.inside.main c.self.inside.sessions c.args.number c.self.invariant.2,
 )

@@ -1,4 +1,5 @@
 use Rattle.std.proofs.Common.{◌≡◌, true, arith, sym, ap, subst, ◌∙◌}
+use Rattle.cap_session.specs.Delta.{published}
 use Rattle.cap_core.specs.Answer.{State}
 use Rattle.cap_core.specs.Code.Sound.{differences_stand, sessions_stand}
 use Rattle.cap_core.proofs.SessionStandLemmas.{changed-stands}
@@ -15,6 +16,6 @@ invariant_of-self-2 g c =
     let stand : differences_stand (schema_of main name) found ≡ true = subst (λ (s : State g.row.A.Denot). differences_stand (schema_of s.main name) found ≡ true) (sym c.self.view_is) c.requires.stand in (
       omega (arith, c.self.invariant.0),
       omega (arith, c.self.invariant.1),
-      ap (sessions_stand main) (c.publish.ensures.published ∙ c.in_ok-stage_diff.ensures.staged)
-          ∙ changed-stands main c.args.number (record_diff name found) (λ session all. record_diff-stands main name found session stand all) c.self.inside.sessions.live c.self.invariant.2,
+      ap (sessions_stand main) (c.publish.ensures ∙ ap (published c.in_ok-delta.delta) c.reserve_diff.ensures.kept ∙ c.in_ok-delta.ensures.added)
+          ∙ changed-stands main c.args.number (record_diff name found) (λ session all. record_diff-stands main name found session stand all) c.self.inside.sessions c.self.invariant.2,
     )

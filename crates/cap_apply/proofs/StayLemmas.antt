@@ -1,0 +1,203 @@
+-- A row that no change of a blob names stays as it was, and the first change that names it carries it.
+use Rattle.std.proofs.Common.{◌≡◌, ℕ, ◌+◌, Bool, true, false, cond, Option, Some, None, Result, Ok, Err, IfOk, List, [], ◌∷◌, ◌++◌, ◌||◌, length, refl, sym, ap, append_assoc, ◌∙◌}
+use Rattle.std.specs.Prelude.{is_some, option_and_then}
+use Rattle.std.specs.List.{find, list_any}
+use Rattle.std.specs.Option.{option_map}
+use Rattle.std.specs.Cmp.Lexicographic.{bytes_decides}
+use Rattle.std.specs.Cmp.{Equal-is}
+use Rattle.std.proofs.lemmas.List.{append-nil}
+use Rattle.std.proofs.lemmas.List.Folds.{list_any-append}
+use Rattle.cap_value.specs.declared.refusal.Refusal.{Refusal}
+use Rattle.cap_row.specs.Fields.{Fields}
+use Rattle.cap_row.specs.Key.{fields_cmp}
+use Rattle.cap_tree.specs.Tree.{get}
+use Rattle.cap_tree.proofs.EntryLemmas.{take_entry-absent}
+use Rattle.cap_table.specs.Sound.{is_key_of}
+use Rattle.cap_table.specs.Table.{TableState}
+use Rattle.cap_database.specs.Carried.{CarryFirstRows, is_of_row}
+use Rattle.cap_database.specs.Operation.{Changed, changes_to}
+use Rattle.cap_database.specs.Read.{row_at}
+use Rattle.cap_database.specs.Tables.{Tables, schema_of, table_of}
+use Rattle.cap_database.specs.declared.cause.Cause.TheVariants.{Direct}
+use Rattle.cap_database.specs.declared.change.Change.{Change}
+use Rattle.cap_database.proofs.KeptLemmas.{schema_of-put}
+use Rattle.cap_database.proofs.StayLemmas.{either_false, fields_same, found-in, found-row, get-put-other, get-take-other, named-table, other_false, other_key, put-stays, same_found, unnamed-rows}
+use Rattle.cap_changes.specs.Entries.{TableEntries}
+use Rattle.cap_codec.specs.declared.read.Contents.{Contents}
+use Rattle.cap_apply.specs.Applied.{AppliedState}
+use Rattle.cap_apply.specs.Apply as applied
+use Rattle.cap_apply.specs.Apply.{apply, change_applied, change_in, changes_applied, concluded, counted, group_applied, groups_applied, left_out, noted, nothing_applied, row_comes, row_goes, skipped_unless, with_row, with_row_in}
+use Rattle.cap_apply.specs.Policy.{is_made}
+use Rattle.cap_apply.specs.Requested.{Requested, requested_of}
+use Rattle.cap_apply.specs.Row.{conflict_of, key_record_of, key_values, row_after}
+use Rattle.cap_apply.specs.Target.{columns_fit, fitting, target}
+use Rattle.cap_apply.specs.declared.conflict.ConflictKind.{ConflictKind}
+use Rattle.cap_apply.specs.declared.policy.Policy.{Policy}
+
+module _ {A : Type 0} where
+  module _ (name : List ℕ) (key : Fields A) where
+    -- what is left has more changes; where none of these names the row it is as it was, and the first that does carries it
+    pub record MoreChanges (state left : AppliedState A) : Type 0 where
+      pub more : List (Change A)
+      pub are : left.changes ≡ state.changes ++ more
+      pub stays : list_any (is_of_row name key) more ≡ false → row_at left.database name key ≡ row_at state.database name key
+      pub there : list_any (is_of_row name key) more ≡ true → is_some (schema_of state.database name) ≡ true
+      pub columns : schema_of left.database name ≡ schema_of state.database name
+      pub carries : (change : Change A) → find (is_of_row name key) more ≡ Some change → change.before ≡ row_at state.database name key
+
+    nothing-more : (state left : AppliedState A) → left.changes ≡ state.changes → left.database ≡ state.database → MoreChanges state left
+    nothing-more state left changes database = record {
+      more = [];
+      are = changes ∙ sym (append-nil state.changes);
+      stays = λ _. ap (λ tables. row_at tables name key) database;
+      there = λ named. cc;
+      columns = ap (λ tables. schema_of tables name) database;
+      carries = λ change is. cc;
+    }
+
+    both-more : (state next left : AppliedState A) → MoreChanges state next → MoreChanges next left → MoreChanges state left
+    both-more state next left a b = record {
+      more = a.more ++ b.more;
+      are = b.are ∙ ap (λ cs. cs ++ b.more) a.are ∙ append_assoc state.changes a.more b.more;
+      stays = λ unnamed.
+          let parts = sym (list_any-append (is_of_row name key) a.more b.more) ∙ unnamed in
+          b.stays (other_false (list_any (is_of_row name key) a.more) (list_any (is_of_row name key) b.more) parts)
+          ∙ a.stays (either_false (list_any (is_of_row name key) a.more) (list_any (is_of_row name key) b.more) parts);
+      there = λ named.
+          let parts = sym (list_any-append (is_of_row name key) a.more b.more) ∙ named in
+          elim (list_any (is_of_row name key) a.more) as (λ t. list_any (is_of_row name key) a.more ≡ t → (t || list_any (is_of_row name key) b.more) ≡ true → is_some (schema_of state.database name) ≡ true) [
+            | true ↦ λ first _. a.there first
+            | false ↦ λ _ second. ap is_some (sym a.columns) ∙ b.there second
+          ] refl parts;
+      columns = b.columns ∙ a.columns;
+      carries = found-in (is_of_row name key) (λ change. change.before ≡ row_at state.database name key) a.more b.more a.carries (λ none change is. b.carries change is ∙ a.stays none);
+    }
+
+    abbrev pub AppliedMore : AppliedState A → Result (AppliedState A) Refusal → Type 0
+    AppliedMore state r = IfOk r (MoreChanges state)
+
+    one-then : (state : AppliedState A) (first : Result (AppliedState A) Refusal) (next : AppliedState A → Result (AppliedState A) Refusal) → AppliedMore state first
+        → ((mid : AppliedState A) → AppliedMore mid (next mid)) → AppliedMore state (applied.and_then first next)
+    one-then state (Ok mid) next a more = inner (next mid) (more mid)
+      where
+        inner : (r : Result (AppliedState A) Refusal) → AppliedMore mid r → AppliedMore state r
+        inner (Ok left) b = both-more state mid left a b
+        inner (Err why) b = tt
+    one-then state (Err why) next a more = tt
+
+    noted-same : (policy : Policy) (number : ℕ) (conflict : Option ConflictKind) (state : AppliedState A)
+        → ((noted policy number conflict state).changes ≡ state.changes) × ((noted policy number conflict state).database ≡ state.database)
+    noted-same policy number None state = (refl, refl)
+    noted-same policy number (Some kind) state = (refl, refl)
+
+    -- a row under a key that goes, comes or is replaced
+    row-stays : (other : List ℕ) (table : TableState A) (own : Fields A) (before after : Option (Fields A)) (state : AppliedState A) → table_of state.database other ≡ Some table → get fields_cmp table.keyed own ≡ before
+        → MoreChanges state (with_row_in other table own before after state)
+    row-stays other table own before after state there found = record {
+      more = changes_to other Direct (row_goes own before ++ row_comes own after);
+      are = refl;
+      stays = λ unnamed. put-stays name key state.database other (with_row table own after)
+          (λ same. kept before after found (sym (unnamed-rows name key other Direct (row_goes own before ++ row_comes own after) same) ∙ unnamed)
+          ∙ ap (option_and_then (λ t. get fields_cmp t.keyed key)) (sym there) ∙ ap (λ n. row_at state.database n key) (sym same));
+      there = λ named.
+          let same : name ≡ other = (bytes_decides name other).0 (named-table name key other Direct (row_goes own before ++ row_comes own after) named) in
+          ap (λ n. is_some (schema_of state.database n)) same ∙ ap (λ t. is_some (option_map (λ s. s.schema) t)) there;
+      columns = schema_of-put state.database other table (with_row table own after) there (same_columns after) name;
+      carries = found-row name key (λ row. row ≡ row_at state.database name key) other Direct (row_goes own before ++ row_comes own after)
+          (λ same changed at. carried before after found changed at ∙ ap (option_and_then (λ t. get fields_cmp t.keyed key)) (sym there) ∙ ap (λ n. row_at state.database n key) (sym same));
+    }
+      where
+        same_columns : (row : Option (Fields A)) → (with_row table own row).schema ≡ table.schema
+        same_columns None = refl
+        same_columns (Some row) = refl
+
+        kept : (before after : Option (Fields A)) → get fields_cmp table.keyed own ≡ before → list_any (λ changed. is_key_of changed.0 key) (row_goes own before ++ row_comes own after) ≡ false
+            → get fields_cmp (with_row table own after).keyed key ≡ get fields_cmp table.keyed key
+        kept None None found unnamed = ap (λ es. get fields_cmp es key) (take_entry-absent fields_cmp own table.keyed found)
+        kept None (Some row) found unnamed = get-put-other table.keyed own row key (other_key own key (either_false (is_key_of (Some own) key) false unnamed))
+        kept (Some old) None found unnamed = get-take-other table.keyed own key (other_key own key (either_false (is_key_of (Some own) key) false unnamed))
+        kept (Some old) (Some row) found unnamed = get-put-other table.keyed own row key (other_key own key (either_false (is_key_of (Some own) key) _ unnamed))
+
+        one-carries : (only : Changed A) → only.1 ≡ get fields_cmp table.keyed own → only.0 ≡ Some own → (rest : List (Changed A)) → (is_key_of (Some own) key ≡ false → find (λ c. is_key_of c.0 key) rest ≡ None)
+            → (changed : Changed A) → find (λ c. is_key_of c.0 key) (only ∷ rest) ≡ Some changed → changed.1 ≡ get fields_cmp table.keyed key
+        one-carries only has of rest none changed at =
+            elim (is_key_of only.0 key) as (λ b. is_key_of only.0 key ≡ b → cond b (Some only) (find (λ c. is_key_of c.0 key) rest) ≡ Some changed → changed.1 ≡ get fields_cmp table.keyed key) [
+              | true ↦ λ here is.
+                  let same : own ≡ key = fields_same own key ((Equal-is (fields_cmp own key)).0 (ap (λ k. is_key_of k key) (sym of) ∙ here)) in
+                  ap (λ (c : Changed A). c.1) (sym (same_found only changed is)) ∙ has ∙ ap (get fields_cmp table.keyed) same
+              | false ↦ λ apart is. let no : None ≡ Some changed = sym (none (ap (λ k. is_key_of k key) (sym of) ∙ apart)) ∙ is in cc
+            ] refl at
+
+        carried : (before after : Option (Fields A)) → get fields_cmp table.keyed own ≡ before → (changed : Changed A) → find (λ c. is_key_of c.0 key) (row_goes own before ++ row_comes own after) ≡ Some changed
+            → changed.1 ≡ get fields_cmp table.keyed key
+        carried None None found = λ changed at. cc
+        carried None (Some row) found = one-carries (Some own, None) (sym found) refl [] (λ _. refl)
+        carried (Some old) None found = one-carries (Some own, Some old) (sym found) refl [] (λ _. refl)
+        carried (Some old) (Some row) found = one-carries (Some own, Some old) (sym found) refl ((Some own, None) ∷ []) (λ apart. ap (λ b. cond b (Some (Some own, None)) None) apart)
+
+    concluded-more : (state : AppliedState A) (answer : Result Bool Refusal) (made omitted : AppliedState A) → MoreChanges state made → MoreChanges state omitted → AppliedMore state (concluded answer made omitted)
+    concluded-more state (Ok true) made omitted a b = a
+    concluded-more state (Ok false) made omitted a b = b
+    concluded-more state (Err why) made omitted a b = tt
+
+    fitting-there : (flags : List Bool) (found : Option (TableState A)) (table : TableState A) → fitting flags found ≡ Some table → found ≡ Some table
+    fitting-there flags None table is = cc
+    fitting-there flags (Some other) table is = elim (columns_fit flags other.schema) as (λ b. cond b (Some other) None ≡ Some table → Some other ≡ Some table) [ true ↦ λ e. e | false ↦ λ e. cc ] is
+
+    change-more : (policy : Policy) (number : ℕ) (other : List ℕ) (flags : List Bool) (asked : Requested A) (state : AppliedState A) → AppliedMore state (change_applied policy number other flags asked state)
+    change-more policy number other flags asked state =
+        elim (target state.database other flags) as (λ t. target state.database other flags ≡ t → AppliedMore state (change_in policy number other flags asked t state)) [
+          | None ↦ λ _. nothing-more state state refl refl
+          | Some table ↦ λ is.
+              let there = fitting-there flags (table_of state.database other) table is in
+              let own = key_values flags (key_record_of asked.patch) in
+              let before = get fields_cmp table.keyed own in
+              let conflict = conflict_of flags asked.old asked.patch before in
+              let kept = noted policy number conflict state in
+              let same = noted-same policy number conflict state in
+              let after = row_after (length table.schema) asked.patch before in
+              let made = row-stays other table own before after kept (ap (λ tables. table_of tables other) same.1 ∙ there) refl in
+              concluded-more state (is_made policy number conflict) (counted (with_row_in other table own before after kept)) (left_out number kept)
+              (record {
+                more = made.more;
+                are = made.are ∙ ap (λ cs. cs ++ made.more) same.0;
+                stays = λ unnamed. made.stays unnamed ∙ ap (λ tables. row_at tables name key) same.1;
+                there = λ named. ap (λ tables. is_some (schema_of tables name)) (sym same.1) ∙ made.there named;
+                columns = made.columns ∙ ap (λ tables. schema_of tables name) same.1;
+                carries = λ change at. made.carries change at ∙ ap (λ tables. row_at tables name key) same.1;
+              })
+              (nothing-more state (left_out number kept) same.0 same.1)
+        ] refl
+
+    changes-more : (policy : Policy) (other : List ℕ) (flags : List Bool) (asks : List (Requested A)) (number : ℕ) (state : AppliedState A) → AppliedMore state (changes_applied policy number other flags asks state)
+    changes-more policy other flags [] number state = nothing-more state state refl refl
+    changes-more policy other flags (asked ∷ asks) number state =
+        one-then state (change_applied policy number other flags asked state) (λ next. changes_applied policy (number + 1) other flags asks next) (change-more policy number other flags asked state)
+        (λ mid. changes-more policy other flags asks (number + 1) mid)
+
+    skipped-same : (there : Bool) (place : ℕ) (state : AppliedState A) → ((skipped_unless there place state).changes ≡ state.changes) × ((skipped_unless there place state).database ≡ state.database)
+    skipped-same true place state = (refl, refl)
+    skipped-same false place state = (refl, refl)
+
+    from-skipped : (state start : AppliedState A) (r : Result (AppliedState A) Refusal) → (start.changes ≡ state.changes) × (start.database ≡ state.database) → AppliedMore start r → AppliedMore state r
+    from-skipped state start (Ok left) same made = both-more state start left (nothing-more state start same.0 same.1) made
+    from-skipped state start (Err why) same made = tt
+
+    pub groups-more : (policy : Policy) (groups : List (TableEntries (Requested A))) (place number : ℕ) (state : AppliedState A) → AppliedMore state (groups_applied policy place number groups state)
+    groups-more policy [] place number state = nothing-more state state refl refl
+    groups-more policy (group ∷ groups) place number state =
+        let there = is_some (target state.database group.table group.schema) in
+        one-then state (group_applied policy place number group state) (λ next. groups_applied policy (place + 1) (number + length group.changes) groups next)
+        (from-skipped state (skipped_unless there place state) (group_applied policy place number group state) (skipped-same there place state)
+        (changes-more policy group.table group.schema group.changes number (skipped_unless there place state)))
+        (λ mid. groups-more policy groups (place + 1) (number + length group.changes) mid)
+
+    pub apply-more : (tables : Tables A) (blob : Contents A) (policy : Policy) → AppliedMore (nothing_applied tables) (apply tables blob policy)
+    apply-more tables blob policy = groups-more policy (requested_of blob) 0 0 (nothing_applied tables)
+
+  pub apply-carries : (tables : Tables A) (blob : Contents A) (policy : Policy) → IfOk (apply tables blob policy) (λ left. CarryFirstRows tables left.changes)
+  apply-carries tables blob policy = inner (apply tables blob policy) (λ name key. apply-more name key tables blob policy)
+    where
+      inner : (r : Result (AppliedState A) Refusal) → ((name : List ℕ) (key : Fields A) → AppliedMore name key (nothing_applied tables) r) → IfOk r (λ left. CarryFirstRows tables left.changes)
+      inner (Ok left) each = λ name key change at. (each name key).carries change (ap (find (is_of_row name key)) (sym (each name key).are) ∙ at)
+      inner (Err why) each = tt

@@ -1,0 +1,78 @@
+-- What is left of a list that is gone over.
+use Rattle.std.proofs.Common.{◌≡◌, ℕ, zero, suc, ◌+◌, ◌≤◌, Bool, List, [], ◌∷◌, ◌++◌, length, map, drop, slice_get, Option, Some, None, IsTrue, refl, sym, ap, subst, ◌∙◌, append_assoc, arith}
+use Rattle.std.proofs.lemmas.List.{map-append}
+use Rattle.std.proofs.lemmas.List.Elements.{All-from_recursion, recursion_from_All}
+use Rattle.cap_changes.specs.Entries.{AllFit}
+use Rattle.cap_changes.specs.FieldRecord.{RecordFields}
+use Rattle.cap_changes.specs.Fits.{change_fits}
+use Rattle.cap_changes.specs.Invert.{inverse_of}
+use Rattle.cap_changes.specs.Record.{stored_fields, AreFields, IsStored, BeginsWithField}
+use Rattle.cap_changes.specs.declared.row_change.RowChange.{RowChange}
+use Rattle.cap_changes.proofs.InvertLemmas.{inverse_of-back}
+use Rattle.cap_changes.proofs.StoredRecord.{few_fields}
+
+-- one more was taken
+pub record Taken {X : Type 0} (xs others : List X) (passed : ℕ) : Type 0 where
+  pub left : others ≡ drop (passed + 1) xs
+  pub within : passed + 1 ≤ length xs
+
+pub taken : {X : Type 0} (xs : List X) (passed : ℕ) (x : X) (others : List X) → drop passed xs ≡ x ∷ others → Taken xs others passed
+taken [] zero x others is = cc
+taken [] (suc passed) x others is = cc
+taken (y ∷ xs) zero x others is = record { left = ap (drop 1) (sym is); within = omega arith }
+taken (y ∷ xs) (suc passed) x others is =
+    let t = taken xs passed x others is in
+    let same : suc (passed + 1) ≡ suc passed + 1 = omega arith in
+    record { left = t.left ∙ ap (λ (n : ℕ). drop n (y ∷ xs)) same; within = omega (arith, t.within) }
+
+-- the one so many places on is the next that is left
+pub next_at : {X : Type 0} (xs : List X) (passed : ℕ) (x : X) (others : List X) → drop passed xs ≡ x ∷ others → slice_get xs passed ≡ Some x
+next_at [] zero x others is = cc
+next_at [] (suc passed) x others is = cc
+next_at (y ∷ xs) zero x others is = cc
+next_at (y ∷ xs) (suc passed) x others is = next_at xs passed x others is
+
+pub none_left : {X : Type 0} (xs : List X) (passed : ℕ) → drop passed xs ≡ [] → length xs ≤ passed
+none_left [] passed is = omega arith
+none_left (x ∷ xs) zero is = cc
+none_left (x ∷ xs) (suc passed) is = omega (arith, none_left xs passed is)
+
+pub stored_each : (A : Type 0) (keys : Option (List Bool)) (bytes : List ℕ) → IsStored A keys bytes → AreFields (stored_fields {A = A} keys bytes)
+stored_each A None bytes is = is.each
+stored_each A (Some flags) bytes is = is.each
+
+module _ {A : Type 0} where
+  pub whole_few : (keys : Option (List Bool)) (bytes : List ℕ) (fields : RecordFields A) → keys ≡ None → IsStored A keys bytes → stored_fields keys bytes ≡ fields → length fields ≤ length bytes
+  whole_few keys bytes fields none is view =
+      subst (λ (l : RecordFields A). length l ≤ length bytes) (ap (λ (k : Option (List Bool)). stored_fields k bytes) (sym none) ∙ view)
+      (few_fields bytes (subst (λ (k : Option (List Bool)). IsStored A k bytes) none is))
+
+  pub field_taken : (fields left others : RecordFields A) (passed : ℕ) (bytes : List ℕ) → left ≡ drop passed fields → BeginsWithField left bytes others → Taken fields others passed
+  field_taken fields left others passed bytes is (field, parts, spelled, fits) = taken fields passed field others (sym is ∙ parts)
+
+module _ {X : Type 0} (fits : List Bool → X → Bool) where
+  pub first_fits : (flags flags' : List Bool) (xs others : List X) (x : X) → flags' ≡ flags → xs ≡ x ∷ others → AllFit fits flags xs → IsTrue (fits flags' x)
+  first_fits flags flags' xs others x same is all =
+      subst (λ (f : List Bool). IsTrue (fits f x)) (sym same)
+      (recursion_from_All (λ y. IsTrue (fits flags y)) (x ∷ others) (subst (λ (l : List X). AllFit fits flags l) is all)).0
+
+  pub others_fit : (flags : List Bool) (xs others : List X) (x : X) → xs ≡ x ∷ others → AllFit fits flags xs → AllFit fits flags others
+  others_fit flags xs others x is all =
+      All-from_recursion (λ y. IsTrue (fits flags y)) others
+      (recursion_from_All (λ y. IsTrue (fits flags y)) (x ∷ others) (subst (λ (l : List X). AllFit fits flags l) is all)).1
+
+-- one more image was made
+pub image_made : {X Y : Type 0} (f f' : X → Y) (xs others : List X) (x : X) (made made' all : List Y) → xs ≡ x ∷ others → f' x ≡ f x → made' ≡ made ++ f' x ∷ [] → made ++ map f xs ≡ all → made' ++ map f others ≡ all
+image_made {Y = Y} f f' xs others x made made' all is same grown so_far =
+    ap (λ (l : List Y). l ++ map f others) grown ∙ append_assoc made (f' x ∷ []) (map f others)
+    ∙ ap (λ (y : Y). made ++ y ∷ map f others) same ∙ sym (ap (λ l. made ++ map f l) is) ∙ so_far
+
+module _ {A : Type 0} where
+  pub change_back : (flags flags' : List Bool) (xs others made made' all : List (RowChange A)) (x : RowChange A) → xs ≡ x ∷ others → flags' ≡ flags → AllFit change_fits flags xs → made' ≡ made ++ inverse_of flags' x ∷ []
+      → map (inverse_of flags) made ++ xs ≡ all → map (inverse_of flags) made' ++ others ≡ all
+  change_back flags flags' xs others made made' all x is same fit grown so_far =
+      ap (λ (l : List (RowChange A)). map (inverse_of flags) l ++ others) (grown ∙ ap (λ (f : List Bool). made ++ inverse_of f x ∷ []) same)
+      ∙ ap (λ (l : List (RowChange A)). l ++ others) (map-append (inverse_of flags) made (inverse_of flags x ∷ []))
+      ∙ append_assoc (map (inverse_of flags) made) (inverse_of flags (inverse_of flags x) ∷ []) others
+      ∙ ap (λ (y : RowChange A). map (inverse_of flags) made ++ y ∷ others) (inverse_of-back flags x (first_fits change_fits flags flags xs others x refl is fit))
+      ∙ sym (ap (λ (l : List (RowChange A)). map (inverse_of flags) made ++ l) is) ∙ so_far

@@ -1,0 +1,139 @@
+-- Records that are passed over, field by field.
+use Rattle.std.proofs.Common.{◌≡◌, ℕ, ◌+◌, ◌<◌, ◌≤◌, Bool, true, false, List, [], ◌∷◌, ◌++◌, length, drop, get_or, Option, Result, Ok, Err, refl, sym, ap, subst, ◌∙◌, add-one, drop-cons}
+use Rattle.std.specs.Prelude.{IsOk}
+use Rattle.std.proofs.lemmas.List.{drop_all}
+use Rattle.cap_value.specs.declared.value.Value.{Value}
+use Rattle.cap_field.specs.declared.fault.BlobFault.{BlobFault}
+use Rattle.cap_field.specs.Reading.{◌>>=◌}
+use Rattle.cap_field.proofs.Binds.{bind_ok, ok_is, err_is}
+use Rattle.cap_field.proofs.Spelled.{AreLow, low_behind}
+use Rattle.cap_changes.specs.ChangeReading.{behind}
+use Rattle.cap_changes.specs.Field.{field_bytes}
+use Rattle.cap_changes.specs.FieldReading.{field_at}
+use Rattle.cap_changes.specs.FieldRecord.{RecordFields}
+use Rattle.cap_changes.specs.RecordReading.{record_at, old_in}
+use Rattle.cap_changes.specs.Requirements.{requirement_of, requirements, new_requirement, new_requirements}
+use Rattle.cap_changes.specs.declared.field_requirement.FieldRequirement.{FieldRequirement}
+use Rattle.cap_changes.specs.declared.field_requirement.FieldRequirement.TheVariants as required
+use Rattle.cap_changes.specs.declared.record_kind.RecordKind.TheVariants.{Keyed}
+use Rattle.cap_changes.proofs.FieldAgain.{asked_bytes, field_again}
+use Rattle.cap_changes.proofs.Spelled.{field_spelled}
+
+pub ok_of : {X E : Type 0} (read : Result X E) → IsOk read → (x : X) × (read ≡ Ok x)
+ok_of (Ok x) is = (x, refl)
+ok_of (Err e) is = absurd cc
+
+ok_read : {X E : Type 0} (read : Result X E) (x : X) → read ≡ Ok x → IsOk read
+ok_read read x is = rw is refl
+
+module _ {X : Type 0} where
+  pub read_of : (read : Result (X × List ℕ) BlobFault) (rest : List ℕ) → behind read ≡ Ok rest → (x : X) × (read ≡ Ok (x, rest))
+  read_of (Ok x) rest e = (x.0, ap (λ (r : List ℕ). Ok (x.0, r)) (ok_is x.1 rest e))
+  read_of (Err f) rest e = absurd cc
+
+  pub fault_of : (read : Result (X × List ℕ) BlobFault) (f : BlobFault) → behind read ≡ Err f → read ≡ Err f
+  fault_of (Ok x) f e = absurd cc
+  fault_of (Err g) f e = ap (λ (h : BlobFault). Err h) (err_is g f e)
+
+module _ (A : Type 0) where
+  -- ---- a record
+
+  without : (field : Option (Value A)) (read : Result (RecordFields A × List ℕ) BlobFault) → behind (read >>= (λ others. Ok (field ∷ others.0, others.1))) ≡ behind read
+  without field (Ok x) = refl
+  without field (Err f) = refl
+
+  passed : (total : ℕ) (requirement : FieldRequirement) (others : List FieldRequirement) (given after : List ℕ) (field : Option (Value A)) → field_at total requirement given ≡ Ok (field, after)
+      → behind (record_at {A = A} total (requirement ∷ others) given) ≡ behind (record_at {A = A} total others after)
+  unfolding record_at
+  passed total requirement others given after field read = rw read (without field (record_at total others after))
+
+  pub pass_goes_on : (total : ℕ) (requirement : FieldRequirement) (requirements others : List FieldRequirement) (given after : List ℕ) (field : Option (Value A)) (all : Result (List ℕ) BlobFault) → requirements ≡ requirement ∷ others
+      → field_at total requirement given ≡ Ok (field, after) → behind (record_at {A = A} total requirements given) ≡ all → behind (record_at {A = A} total others after) ≡ all
+  pass_goes_on total requirement requirements others given after field all parts read so_far =
+      sym (passed total requirement others given after field read) ∙ sym (ap (λ (r : List FieldRequirement). behind (record_at {A = A} total r given)) parts) ∙ so_far
+
+  pub pass_fails : (total : ℕ) (requirement : FieldRequirement) (requirements others : List FieldRequirement) (given : List ℕ) (f : BlobFault) (all : Result (List ℕ) BlobFault) → requirements ≡ requirement ∷ others
+      → field_at {A = A} total requirement given ≡ Err f → behind (record_at {A = A} total requirements given) ≡ all → all ≡ Err f
+  unfolding record_at
+  pass_fails total requirement requirements others given f all parts wrong so_far =
+      let one : behind (record_at {A = A} total requirements given) ≡ Err f = rw (parts, wrong) refl in sym so_far ∙ one
+
+  pub pass_ends : (total : ℕ) (requirements : List FieldRequirement) (given : List ℕ) (all : Result (List ℕ) BlobFault) → requirements ≡ [] → behind (record_at {A = A} total requirements given) ≡ all → all ≡ Ok given
+  unfolding record_at
+  pass_ends total requirements given all none so_far = let one : behind (record_at {A = A} total requirements given) ≡ Ok given = rw none refl in sym so_far ∙ one
+
+  -- ---- the old record of an UPDATE, which is known to be there
+
+  abbrev pub BeginsOld : ℕ → List Bool → List ℕ → Type 0
+  BeginsOld total flags bytes = IsOk (record_at {A = A} total (requirements Keyed flags) bytes)
+
+  -- its first field, and what is left of it
+  pub record OldStep (total : ℕ) (key : Bool) (flags : List Bool) (given : List ℕ) (field : Option (Value A)) (after : List ℕ) : Type 0 where
+    pub read : field_at 0 required.Any given ≡ Ok (field, after)
+    pub left : BeginsOld total flags after
+    pub is : old_in A total (key ∷ flags) given ≡ field ∷ old_in A total flags after
+    pub low : AreLow after
+
+  keyed_bytes : (key : Bool) (field : Option (Value A)) → asked_bytes (requirement_of Keyed key) field ≡ field_bytes field
+  keyed_bytes true field = refl
+  keyed_bytes false field = refl
+
+  old_parts : (total : ℕ) (key : Bool) (flags : List Bool) (given : List ℕ) (field : Option (Value A)) (after : List ℕ) (others : RecordFields A × List ℕ) → field_at total (requirement_of Keyed key) given ≡ Ok (field, after)
+      → record_at total (requirements Keyed flags) after ≡ Ok others → old_in A total (key ∷ flags) given ≡ field ∷ old_in A total flags after
+  unfolding record_at
+  old_parts total key flags given field after others read is = rw (read, is) refl
+
+  old_step : (total : ℕ) (key : Bool) (flags : List Bool) (given : List ℕ) → AreLow given → BeginsOld total (key ∷ flags) given → (field : Option (Value A)) × (after : List ℕ) × OldStep total key flags given field after
+  unfolding record_at
+  old_step total key flags given low known =
+      let x = ok_of (record_at {A = A} total (requirements Keyed (key ∷ flags)) given) known in
+      let first = bind_ok (field_at {A = A} total (requirement_of Keyed key) given) (λ field. record_at total (requirements Keyed flags) field.1 >>= (λ others. Ok (field.0 ∷ others.0, others.1))) x.0 x.1 in
+      let others = bind_ok (record_at {A = A} total (requirements Keyed flags) first.0.1) (λ others. Ok (first.0.0 ∷ others.0, others.1)) x.0 first.2 in
+      let spelled = field_spelled total (requirement_of Keyed key) given first.0 low first.1 in
+      let parts : given ≡ field_bytes first.0.0 ++ first.0.1 = spelled.0 ∙ ap (λ (b : List ℕ). b ++ first.0.1) (keyed_bytes key first.0.0) in (
+        first.0.0,
+        first.0.1,
+        record {
+          read = ap (field_at 0 required.Any) parts ∙ field_again 0 required.Any first.0.0 first.0.1 refl spelled.1;
+          left = ok_read (record_at total (requirements Keyed flags) first.0.1) others.0 others.1;
+          is = old_parts total key flags given first.0.0 first.0.1 others.0 first.1 others.1;
+          low = low_behind given (field_bytes first.0.0) first.0.1 parts low;
+        },
+      )
+
+  pub old_has_field : (total : ℕ) (columns flags : List Bool) (key : Bool) (given : List ℕ) → columns ≡ key ∷ flags → AreLow given → BeginsOld total columns given → IsOk (field_at {A = A} 0 required.Any given)
+  old_has_field total columns flags key given parts low known =
+      let (field, after, step) = old_step total key flags given low (subst (λ (c : List Bool). BeginsOld total c given) parts known) in rw step.read refl
+
+  pub old_left : (total : ℕ) (columns flags : List Bool) (key : Bool) (given : List ℕ) (field : Option (Value A)) (after : List ℕ) → columns ≡ key ∷ flags → AreLow given → BeginsOld total columns given
+      → field_at 0 required.Any given ≡ Ok (field, after) → OldStep total key flags given field after
+  old_left total columns flags key given field after parts low known read =
+      let (field', after', step) = old_step total key flags given low (subst (λ (c : List Bool). BeginsOld total c given) parts known) in
+      let same : (field', after') ≡ (field, after) = cc (step.read, read) in
+      subst (λ (p : Option (Value A) × List ℕ). OldStep total key flags given p.0 p.1) same step
+
+  -- ---- the new record, by it
+
+  abbrev pub NewLeft : ℕ → List Bool → List ℕ → List ℕ → Result (List ℕ) BlobFault → Type 0
+  NewLeft total flags old given all = behind (record_at {A = A} total (new_requirements flags (old_in A total flags old)) given) ≡ all
+
+  pub new_goes_on : (total : ℕ) (columns flags : List Bool) (key : Bool) (old old_after given after : List ℕ) (field new_field : Option (Value A)) (all : Result (List ℕ) BlobFault) → columns ≡ key ∷ flags → OldStep total key flags old field old_after
+      → field_at total (new_requirement (key, field)) given ≡ Ok (new_field, after) → NewLeft total columns old given all → NewLeft total flags old_after after all
+  new_goes_on total columns flags key old old_after given after field new_field all parts step read so_far =
+      pass_goes_on total (new_requirement (key, field)) (new_requirements columns (old_in A total columns old)) (new_requirements flags (old_in A total flags old_after)) given after new_field all
+      (rw parts (ap (new_requirements (key ∷ flags)) step.is)) read so_far
+
+  pub new_fails : (total : ℕ) (columns flags : List Bool) (key : Bool) (old old_after given : List ℕ) (field : Option (Value A)) (f : BlobFault) (all : Result (List ℕ) BlobFault) → columns ≡ key ∷ flags → OldStep total key flags old field old_after
+      → field_at {A = A} total (new_requirement (key, field)) given ≡ Err f → NewLeft total columns old given all → all ≡ Err f
+  new_fails total columns flags key old old_after given field f all parts step wrong so_far =
+      pass_fails total (new_requirement (key, field)) (new_requirements columns (old_in A total columns old)) (new_requirements flags (old_in A total flags old_after)) given f all
+      (rw parts (ap (new_requirements (key ∷ flags)) step.is)) wrong so_far
+
+  pub new_ends : (total : ℕ) (columns : List Bool) (old given : List ℕ) (all : Result (List ℕ) BlobFault) → columns ≡ [] → NewLeft total columns old given all → all ≡ Ok given
+  new_ends total columns old given all none so_far = pass_ends total (new_requirements columns (old_in A total columns old)) given all (rw none refl) so_far
+
+pub flags-cons : (flags : List Bool) (i : ℕ) → i < length flags → drop i flags ≡ get_or flags i false ∷ drop (i + 1) flags
+flags-cons flags i lt = rw (add-one, drop-cons flags i false) refl
+
+pub flags-past : (flags : List Bool) (i : ℕ) → length flags ≤ i → drop i flags ≡ []
+flags-past flags i le = drop_all i flags le

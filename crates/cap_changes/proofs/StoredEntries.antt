@@ -1,0 +1,263 @@
+-- Entries as their bytes, one after another, and where each ends.
+use Rattle.std.proofs.Common.{◌≡◌, ℕ, zero, suc, ◌-◌, ◌≤◌, ◌<◌, Bool, List, [], ◌∷◌, ◌++◌, length, take, drop, get_or, slice_get, Option, Some, None, IsTrue, Result, Ok, Err, is_ok, if◌then◌else◌, refl, sym, ap, subst, ◌∙◌, append_assoc, append-nil, length-append, length-drop, arith}
+use mathlib.Core.List.{IsPrefix}
+use Rattle.std.specs.Prelude.{All, OnOk, OnErr}
+use Rattle.std.specs.List.{AllByRecursion, flat_map}
+use Rattle.std.proofs.lemmas.List.{take-append-le, drop-append-le, take-append-drop, drop-drop, take_all, drop_all, length-take-le}
+use Rattle.std.proofs.lemmas.List.Elements.{All-from_recursion}
+use Rattle.std.proofs.Math.Seq.{drop-append_seam, take-append_seam}
+use Rattle.cap_row.specs.Schema.{has_key}
+use Rattle.cap_changes.specs.Entries.{TableEntries}
+use Rattle.cap_changes.specs.Stored.{part, start_of, end_of, IsEntry, entries_of, AreEntries}
+
+pub part_before : (start end : ℕ) (bytes more : List ℕ) → start ≤ end → end ≤ length bytes → part start end (bytes ++ more) ≡ part start end bytes
+part_before start end bytes more le within =
+    ap (take (end - start)) (drop-append-le start bytes more (omega arith))
+    ∙ take-append-le (end - start) (drop start bytes) more (omega (arith, length-drop start bytes))
+
+-- what was appended
+pub part_behind : (bytes piece : List ℕ) → part (length bytes) (length (bytes ++ piece)) (bytes ++ piece) ≡ piece
+part_behind bytes piece =
+    ap (take (length (bytes ++ piece) - length bytes)) (drop-append_seam bytes piece)
+    ∙ take_all (length (bytes ++ piece) - length bytes) piece (omega (arith, length-append bytes piece))
+
+split_at : (n : ℕ) (xs : List ℕ) → xs ≡ take n xs ++ drop n xs
+split_at n xs = sym (take-append-drop n xs)
+
+-- what `extend_from_slice` leaves
+pub extended : {E : Type 0} (result : Result (Unit {0}) E) (old more new : List ℕ) → new ≡ if is_ok result then old ++ more else old → OnOk result (new ≡ old ++ more) × OnErr result (IsPrefix old new)
+extended (Ok u) old more new is = (is, tt)
+extended (Err e) old more new is = (tt, ([], append-nil old ∙ sym is))
+
+-- a part, and what is behind it
+pub parts_of : (start end : ℕ) (bytes : List ℕ) → start ≤ end → drop start bytes ≡ part start end bytes ++ drop end bytes
+parts_of start end bytes le =
+    split_at (end - start) (drop start bytes) ∙ ap (λ (r : List ℕ). part start end bytes ++ r) (drop-drop (end - start) start bytes ∙ ap (λ (n : ℕ). drop n bytes) (omega arith))
+
+module _ {C : Type 0} (fits_in : List Bool → C → Bool) (has_values : C → Type 0) (bytes_of : C → List ℕ) (stored : List Bool → List ℕ → C) (flags : List Bool) where
+  abbrev Are : List ℕ → ℕ → List ℕ → Type 0
+  Are bytes start ends = AreEntries fits_in has_values bytes_of stored flags bytes start ends
+
+  abbrev Is : List ℕ → Type 0
+  Is piece = IsEntry fits_in has_values bytes_of flags (stored flags piece) piece
+
+  same_entries : (bytes more : List ℕ) (start : ℕ) (ends : List ℕ) → Are bytes start ends → entries_of stored flags (bytes ++ more) start ends ≡ entries_of stored flags bytes start ends
+  same_entries bytes more start [] are = refl
+  same_entries bytes more start (end ∷ ends) are =
+      rw (part_before start end bytes more are.0 are.1, same_entries bytes more end ends are.3) refl
+
+  still_entries : (bytes more : List ℕ) (start : ℕ) (ends : List ℕ) → Are bytes start ends → Are (bytes ++ more) start ends
+  still_entries bytes more start [] are = omega (arith, are, length-append bytes more)
+  still_entries bytes more start (end ∷ ends) are = (
+    are.0,
+    omega (arith, are.1, length-append bytes more),
+    subst Is (sym (part_before start end bytes more are.0 are.1)) are.2,
+    still_entries bytes more end ends are.3,
+  )
+
+  -- the entries of longer bytes
+  last_entry : (bytes : List ℕ) (start end : ℕ) (ends : List ℕ) → entries_of stored flags bytes start (ends ++ end ∷ []) ≡ entries_of stored flags bytes start ends ++ stored flags (part (end_of start ends) end bytes) ∷ []
+  last_entry bytes start end [] = refl
+  last_entry bytes start end (next ∷ ends) = ap (λ (xs : List C). stored flags (part start next bytes) ∷ xs) (last_entry bytes next end ends)
+
+  last_is : (bytes : List ℕ) (start end : ℕ) (ends : List ℕ) → Are bytes start ends → end_of start ends ≤ end → end ≤ length bytes → Is (part (end_of start ends) end bytes) → Are bytes start (ends ++ end ∷ [])
+  last_is bytes start end [] are le within is = (le, within, is, within)
+  last_is bytes start end (next ∷ ends) are le within is = (are.0, are.1, are.2, last_is bytes next end ends are.3 le within is)
+
+  last_end : (start end : ℕ) (ends : List ℕ) → end_of start (ends ++ end ∷ []) ≡ end
+  last_end start end [] = refl
+  last_end start end (next ∷ ends) = last_end next end ends
+
+  -- what stands when one was appended
+  pub record Appended (bytes ends : List ℕ) (before : List C) (entry : C) : Type 0 where
+    pub are : Are bytes 0 ends
+    pub end : end_of 0 ends ≡ length bytes
+    pub entries : entries_of stored flags bytes 0 ends ≡ before ++ entry ∷ []
+
+  pub appended : (old ends piece new new_ends : List ℕ) (before : List C) (entry : C) → Are old 0 ends → end_of 0 ends ≡ length old → entries_of stored flags old 0 ends ≡ before
+      → Is piece → stored flags piece ≡ entry → new ≡ old ++ piece → new_ends ≡ ends ++ length new ∷ [] → Appended new new_ends before entry
+  appended old ends piece new new_ends before entry are end seen is entry_is new_is ends_are =
+      let last : part (end_of 0 ends) (length (old ++ piece)) (old ++ piece) ≡ piece = ap (λ (n : ℕ). part n (length (old ++ piece)) (old ++ piece)) end ∙ part_behind old piece in
+      rw (ends_are, new_is) (record {
+        are = last_is (old ++ piece) 0 (length (old ++ piece)) ends (still_entries old piece 0 ends are) (omega (arith, end, length-append old piece)) (omega arith) (subst Is (sym last) is);
+        end = last_end 0 (length (old ++ piece)) ends;
+        entries = last_entry (old ++ piece) 0 (length (old ++ piece)) ends
+            ∙ ap (λ (xs : List C). xs ++ stored flags (part (end_of 0 ends) (length (old ++ piece)) (old ++ piece)) ∷ []) (same_entries old piece 0 ends are ∙ seen)
+            ∙ ap (λ (x : C). before ++ x ∷ []) (ap (stored flags) last ∙ entry_is);
+      })
+
+  -- ---- what is known of each
+
+  fit : (bytes : List ℕ) (start : ℕ) (ends : List ℕ) → Are bytes start ends → AllByRecursion (λ x. IsTrue (fits_in flags x)) (entries_of stored flags bytes start ends)
+  fit bytes start [] are = tt
+  fit bytes start (end ∷ ends) are = (are.2.fits, fit bytes end ends are.3)
+
+  pub all_fit : (bytes : List ℕ) (start : ℕ) (ends : List ℕ) → Are bytes start ends → All (λ x. IsTrue (fits_in flags x)) (entries_of stored flags bytes start ends)
+  all_fit bytes start ends are = All-from_recursion (λ x. IsTrue (fits_in flags x)) (entries_of stored flags bytes start ends) (fit bytes start ends are)
+
+  values : (bytes : List ℕ) (start : ℕ) (ends : List ℕ) → Are bytes start ends → AllByRecursion has_values (entries_of stored flags bytes start ends)
+  values bytes start [] are = tt
+  values bytes start (end ∷ ends) are = (are.2.values, values bytes end ends are.3)
+
+  pub all_values : (bytes : List ℕ) (start : ℕ) (ends : List ℕ) → Are bytes start ends → All has_values (entries_of stored flags bytes start ends)
+  all_values bytes start ends are = All-from_recursion has_values (entries_of stored flags bytes start ends) (values bytes start ends are)
+
+  spelled_from : (bytes : List ℕ) (start : ℕ) (ends : List ℕ) → Are bytes start ends → drop start bytes ≡ flat_map bytes_of (entries_of stored flags bytes start ends) ++ drop (end_of start ends) bytes
+  spelled_from bytes start [] are = refl
+  spelled_from bytes start (end ∷ ends) are =
+      parts_of start end bytes are.0
+      ∙ ap (λ (front : List ℕ). front ++ drop end bytes) are.2.spelled
+      ∙ ap (λ (rest : List ℕ). bytes_of (stored flags (part start end bytes)) ++ rest) (spelled_from bytes end ends are.3)
+      ∙ sym (append_assoc (bytes_of (stored flags (part start end bytes))) _ _)
+
+  -- the bytes are those of the entries
+  pub spelled : (bytes ends : List ℕ) → Are bytes 0 ends → end_of 0 ends ≡ length bytes → bytes ≡ flat_map bytes_of (entries_of stored flags bytes 0 ends)
+  spelled bytes ends are end =
+      spelled_from bytes 0 ends are
+      ∙ ap (λ (rest : List ℕ). flat_map bytes_of (entries_of stored flags bytes 0 ends) ++ rest) (ap (λ (n : ℕ). drop n bytes) end ∙ drop_all (length bytes) bytes (omega arith))
+      ∙ append-nil _
+
+-- an entry that is not the first begins where the one before it ends
+start_next : (start : ℕ) (ends : List ℕ) (place : ℕ) → place < length ends → get_or ends place 0 ≡ start_of start ends (suc place)
+start_next start [] place within = absurd (omega arith)
+start_next start (end ∷ ends) zero within = refl
+start_next start (end ∷ ends) (suc place) within = start_next end ends place (omega arith)
+
+pub start_behind : (start : ℕ) (ends : List ℕ) (place : ℕ) → 1 ≤ place → place ≤ length ends → get_or ends (place - 1) 0 ≡ start_of start ends place
+start_behind start ends zero some within = absurd (omega arith)
+start_behind start ends (suc place) some within = ap (λ (n : ℕ). get_or ends n 0) (omega arith) ∙ start_next start ends place (omega arith)
+
+-- ---- the first entries alone
+
+part_of_front : (cut start end : ℕ) (bytes : List ℕ) → cut ≤ length bytes → start ≤ end → end ≤ cut → part start end (take cut bytes) ≡ part start end bytes
+part_of_front cut start end bytes in_bytes le within =
+    sym (part_before start end (take cut bytes) (drop cut bytes) le (omega (arith, length-take-le cut bytes in_bytes, within)))
+    ∙ ap (part start end) (take-append-drop cut bytes)
+
+module _ {C : Type 0} (fits_in : List Bool → C → Bool) (has_values : C → Type 0) (bytes_of : C → List ℕ) (stored : List Bool → List ℕ → C) (flags : List Bool) where
+  start_within : (bytes : List ℕ) (start : ℕ) (ends : List ℕ) → AreEntries fits_in has_values bytes_of stored flags bytes start ends → start ≤ length bytes
+  start_within bytes start [] are = are
+  start_within bytes start (end ∷ ends) are = omega (arith, are.0, are.1)
+
+  cut_within : (count : ℕ) (bytes : List ℕ) (start : ℕ) (ends : List ℕ) → AreEntries fits_in has_values bytes_of stored flags bytes start ends → count < length ends
+      → (start ≤ start_of start ends count) × (start_of start ends count ≤ length bytes)
+  cut_within zero bytes start ends are lt = (omega arith, start_within bytes start ends are)
+  cut_within (suc count) bytes start [] are lt = absurd (omega arith)
+  cut_within (suc count) bytes start (end ∷ ends) are lt =
+      let others = cut_within count bytes end ends are.3 (omega arith) in
+      (omega (arith, are.0, others.0), others.1)
+
+  -- so many entries, in the bytes up to where the last of them ends
+  pub record AreFirst (cut count : ℕ) (bytes : List ℕ) (start : ℕ) (ends : List ℕ) : Type 0 where
+    pub are : AreEntries fits_in has_values bytes_of stored flags (take cut bytes) start (take count ends)
+    pub end : end_of start (take count ends) ≡ cut
+    pub entries : entries_of stored flags (take cut bytes) start (take count ends) ≡ take count (entries_of stored flags bytes start ends)
+
+  pub are_first : (cut count : ℕ) (bytes : List ℕ) (start : ℕ) (ends : List ℕ) → AreEntries fits_in has_values bytes_of stored flags bytes start ends → count < length ends → cut ≡ start_of start ends count
+      → AreFirst cut count bytes start ends
+  are_first cut zero bytes start ends are lt is =
+      let within = start_within bytes start ends are in
+      record { are = omega (arith, is, length-take-le cut bytes (omega (arith, is, within))); end = sym is; entries = refl }
+  are_first cut (suc count) bytes start [] are lt is = absurd (omega arith)
+  are_first cut (suc count) bytes start (end ∷ ends) are lt is =
+      let others = are_first cut count bytes end ends are.3 (omega arith) is in
+      let bounds = cut_within count bytes end ends are.3 (omega arith) in
+      let in_bytes : cut ≤ length bytes = omega (arith, is, bounds.1) in
+      let within : end ≤ cut = omega (arith, is, bounds.0) in
+      let same = part_of_front cut start end bytes in_bytes are.0 within in
+      record {
+        are = (are.0, omega (arith, within, length-take-le cut bytes in_bytes), subst (λ (piece : List ℕ). IsEntry fits_in has_values bytes_of flags (stored flags piece) piece) (sym same) are.2, others.are);
+        end = others.end;
+        entries = λ i. stored flags (same i) ∷ others.entries i;
+      }
+
+-- as many as there are ends
+pub as_many : {C : Type 0} (stored : List Bool → List ℕ → C) (flags : List Bool) (bytes : List ℕ) (start : ℕ) (ends : List ℕ) → length (entries_of stored flags bytes start ends) ≡ length ends
+as_many stored flags bytes start [] = refl
+as_many stored flags bytes start (end ∷ ends) = ap suc (as_many stored flags bytes end ends)
+
+module _ {C : Type 0} (fits_in : List Bool → C → Bool) (has_values : C → Type 0) (bytes_of : C → List ℕ) (stored : List Bool → List ℕ → C) (table : List ℕ) (schema : List Bool) (bytes ends : List ℕ) (old : TableEntries C) (count : ℕ)
+    (seen : ◌≡◌ {A = TableEntries C} (record { table = table; schema = schema; changes = entries_of stored schema bytes 0 ends }) old) where
+  -- what is left of a group of which the first entries are kept
+  pub record Kept (new_bytes new_ends : List ℕ) : Type 0 where
+    pub keeps : IsTrue (has_key schema) × AreEntries fits_in has_values bytes_of stored schema new_bytes 0 new_ends × (end_of 0 new_ends ≡ length new_bytes)
+    pub is : ◌≡◌ {A = TableEntries C} (record { table = table; schema = schema; changes = entries_of stored schema new_bytes 0 new_ends }) (record { table = old.table; schema = old.schema; changes = take count old.changes })
+
+  pub first_kept : (cut : ℕ) (new_bytes new_ends : List ℕ) → IsTrue (has_key schema) × AreEntries fits_in has_values bytes_of stored schema bytes 0 ends × (end_of 0 ends ≡ length bytes) → count < length ends
+      → cut ≡ start_of 0 ends count → new_ends ≡ take count ends → new_bytes ≡ take cut bytes → Kept new_bytes new_ends
+  first_kept cut new_bytes new_ends stands lt is ends_are bytes_are =
+      let first = are_first fits_in has_values bytes_of stored schema cut count bytes 0 ends stands.1 lt is in
+      let bounds = cut_within fits_in has_values bytes_of stored schema count bytes 0 ends stands.1 lt in
+      let long : length (take cut bytes) ≡ cut = length-take-le cut bytes (omega (arith, is, bounds.1)) in
+      subst (λ (e : List ℕ). Kept new_bytes e) (sym ends_are) (subst (λ (b : List ℕ). Kept b (take count ends)) (sym bytes_are) (record {
+        keeps = (stands.0, first.are, first.end ∙ sym long);
+        is = (λ i. record { table = table; schema = schema; changes = first.entries i }) ∙ ap (λ (t : TableEntries C). record { table = t.table; schema = t.schema; changes = take count t.changes }) seen;
+      }))
+
+  pub all_kept : length ends ≤ count → old ≡ record { table = old.table; schema = old.schema; changes = take count old.changes }
+  all_kept le =
+      let long : length old.changes ≤ count = omega (arith, ap (λ (t : TableEntries C). length t.changes) seen, as_many stored schema bytes 0 ends, le) in
+      λ i. record { table = old.table; schema = old.schema; changes = sym (take_all count old.changes long) i }
+
+module _ {C : Type 0} (fits_in : List Bool → C → Bool) (has_values : C → Type 0) (bytes_of : C → List ℕ) (stored : List Bool → List ℕ → C) where
+  -- what an entry in its place is
+  pub record Lent (flags : List Bool) (bytes : List ℕ) (start end : ℕ) (entry : Option C) : Type 0 where
+    pub before : start ≤ end
+    pub within : end ≤ length bytes
+    pub is : IsEntry fits_in has_values bytes_of flags (stored flags (part start end bytes)) (part start end bytes)
+    pub lent : Some (stored flags (part start end bytes)) ≡ entry
+
+  pub lent_at : (flags : List Bool) (bytes : List ℕ) (start : ℕ) (ends : List ℕ) (place : ℕ) → AreEntries fits_in has_values bytes_of stored flags bytes start ends → place < length ends
+      → Lent flags bytes (start_of start ends place) (get_or ends place 0) (slice_get (entries_of stored flags bytes start ends) place)
+  lent_at flags bytes start [] place are lt = absurd (omega arith)
+  lent_at flags bytes start (end ∷ ends) zero are lt = record { before = are.0; within = are.1; is = are.2; lent = refl }
+  lent_at flags bytes start (end ∷ ends) (suc place) are lt = lent_at flags bytes end ends place are.3 (omega arith)
+
+  pub none_at : (flags : List Bool) (bytes : List ℕ) (start : ℕ) (ends : List ℕ) (place : ℕ) → length ends ≤ place → slice_get (entries_of stored flags bytes start ends) place ≡ None
+  none_at flags bytes start [] place le = refl
+  none_at flags bytes start (end ∷ ends) zero le = absurd (omega arith)
+  none_at flags bytes start (end ∷ ends) (suc place) le = none_at flags bytes end ends place (omega arith)
+
+  -- ---- a group
+
+  abbrev pub Seen : List ℕ → List Bool → List ℕ → List ℕ → TableEntries C
+  Seen table schema bytes ends = record { table = table; schema = schema; changes = entries_of stored schema bytes 0 ends }
+
+  abbrev pub Keeps : List Bool → List ℕ → List ℕ → Type 0
+  Keeps schema bytes ends = IsTrue (has_key schema) × AreEntries fits_in has_values bytes_of stored schema bytes 0 ends × (end_of 0 ends ≡ length bytes)
+
+  -- what a call leaves that appends an entry, or answers an error
+  pub record Leaves {E : Type 0} (result : Result (Unit {0}) E) (table : List ℕ) (schema : List Bool) (new new_ends : List ℕ) (before : TableEntries C) (entry : C) : Type 0 where
+    pub keeps : Keeps schema new new_ends
+    pub ok : OnOk result (Seen table schema new new_ends ≡ record before { changes = before.changes ++ entry ∷ [] })
+    pub err : OnErr result (Seen table schema new new_ends ≡ before)
+
+  abbrev Done : {E : Type 0} → Result (Unit {0}) E
+  Done = Ok tt
+
+  ended_on : {E : Type 0} (result : Result (Unit {0}) E) (table : List ℕ) (schema : List Bool) (old ends piece new new_ends : List ℕ) (before : TableEntries C) (entry : C) → Keeps schema old ends → Seen table schema old ends ≡ before
+      → IsEntry fits_in has_values bytes_of schema (stored schema piece) piece → stored schema piece ≡ entry → new ≡ old ++ piece → new_ends ≡ ends ++ length new ∷ [] → Leaves {E = E} (Ok tt) table schema new new_ends before entry
+  ended_on result table schema old ends piece new new_ends before entry keeps seen is entry_is new_is ends_are =
+      let a = appended fits_in has_values bytes_of stored schema old ends piece new new_ends before.changes entry keeps.1 keeps.2 (ap (λ (t : TableEntries C). t.changes) seen) is entry_is new_is ends_are in record {
+        keeps = (keeps.0, a.are, a.end);
+        ok = ap (λ (xs : List C). record { table = table; schema = schema; changes = xs }) a.entries ∙ ap (λ (t : TableEntries C). record t { changes = before.changes ++ entry ∷ [] }) seen;
+        err = tt;
+      }
+
+  kept_on : {E : Type 0} (e : E) (table : List ℕ) (schema : List Bool) (old ends new new_ends : List ℕ) (before : TableEntries C) (entry : C) → Keeps schema old ends → Seen table schema old ends ≡ before → new ≡ old → new_ends ≡ ends
+      → Leaves (Err e) table schema new new_ends before entry
+  kept_on e table schema old ends new new_ends before entry keeps seen new_is ends_are = rw (new_is, ends_are) (record { keeps = keeps; ok = tt; err = seen })
+
+  taken_off : (old mid : List ℕ) (n : ℕ) → n ≡ length old → IsPrefix old mid → take n mid ≡ old
+  taken_off old mid n is (rest, so) = rw (is, ← so) (take-append_seam old rest)
+
+  pub leaves : {E : Type 0} (result pushed : Result (Unit {0}) E) (table : List ℕ) (schema : List Bool) (old ends piece mid new new_ends : List ℕ) (n : ℕ) (before : TableEntries C) (entry : C) → Keeps schema old ends → Seen table schema old ends ≡ before
+      → IsEntry fits_in has_values bytes_of schema (stored schema piece) piece → stored schema piece ≡ entry → n ≡ length old → OnOk pushed (mid ≡ old ++ piece) → OnErr pushed (IsPrefix old mid)
+      → OnOk result ((pushed ≡ Ok tt) × (new ≡ mid) × (new_ends ≡ ends ++ length mid ∷ [])) → OnErr result ((new ≡ take n mid) × (new_ends ≡ ends)) → Leaves result table schema new new_ends before entry
+  leaves (Ok u) (Ok v) table schema old ends piece mid new new_ends n before entry keeps seen is entry_is n_is put begun ok err =
+      ended_on (Ok u) table schema old ends piece new new_ends before entry keeps seen is entry_is (ok.1 ∙ put) (ok.2 ∙ ap (λ (b : List ℕ). ends ++ length b ∷ []) (sym ok.1))
+  leaves (Ok u) (Err e) table schema old ends piece mid new new_ends n before entry keeps seen is entry_is n_is put begun ok err = absurd (let wrong = ok.0 in cc)
+  leaves (Err e) (Ok v) table schema old ends piece mid new new_ends n before entry keeps seen is entry_is n_is put begun ok err =
+      kept_on e table schema old ends new new_ends before entry keeps seen (err.0 ∙ taken_off old mid n n_is (piece, sym put)) err.1
+  leaves (Err e) (Err f) table schema old ends piece mid new new_ends n before entry keeps seen is entry_is n_is put begun ok err =
+      kept_on e table schema old ends new new_ends before entry keeps seen (err.0 ∙ taken_off old mid n n_is begun) err.1

@@ -1,0 +1,93 @@
+-- The records of a touched key, field by field.
+use Rattle.std.proofs.Common.{◌≡◌, ℕ, ◌+◌, ◌<◌, List, [], ◌∷◌, ◌++◌, Bool, true, false, not, ◌&&◌, ◌||◌, cond, length, drop, get_or, Option, Some, None, refl, sym, ap, ◌∙◌, append_assoc, append-nil}
+use Rattle.std.proofs.lemmas.Bool.Decides.{same_from_decides}
+use Rattle.std.proofs.lemmas.List.{drop_more}
+use Rattle.std.proofs.lemmas.Slice.Eq.{bytes_eq-Decides}
+use Rattle.cap_value.specs.Bytes.{bytes_eq}
+use Rattle.cap_value.specs.declared.value.Value.{Value}
+use Rattle.cap_value.specs.Value.{IsValue, value_eq, value_eq_decides}
+use Rattle.cap_field.specs.Field.{value_bytes, values_bytes}
+use Rattle.cap_field.specs.FieldReading.{value_at}
+use Rattle.cap_field.proofs.FieldAgain.{value_again}
+use Rattle.cap_row.specs.Encoding.{BeginsWith}
+use Rattle.cap_row.specs.Fields.{Fields}
+use Rattle.cap_changes.specs.Change.{full_record, is_modified, old_field, new_field}
+use Rattle.cap_changes.specs.Column.{by_column}
+use Rattle.cap_changes.specs.Field.{record_bytes, field_bytes}
+
+module _ {A : Type 0} where
+  -- the bytes of a row are those of the record in which every field is defined
+  pub row_is_record : (row : Fields A) → values_bytes row ≡ record_bytes (full_record row)
+  row_is_record [] = refl
+  row_is_record (value ∷ row) = ap (λ (r : List ℕ). value_bytes value ++ r) (row_is_record row)
+
+  -- no two values have the same bytes
+  pub one_value : (a b : Value A) → IsValue a → IsValue b → value_bytes a ≡ value_bytes b → a ≡ b
+  one_value a b p q same =
+      let x = value_again 0 a [] p in
+      let y = value_again 0 b [] q in
+      let e : value_at {A = A} 0 (value_bytes a ++ []) ≡ value_at 0 (value_bytes b ++ []) = ap (λ (r : List ℕ). value_at 0 (r ++ [])) same in
+      let pair : (a, []) ≡ (b, []) = cc (x, y, e) in
+      ap (λ (p : Value A × List ℕ). p.0) pair
+
+  pub eq_by_bytes : (a b : Value A) → IsValue a → IsValue b → value_eq a b ≡ bytes_eq (value_bytes a) (value_bytes b)
+  eq_by_bytes a b p q =
+      let bytes = bytes_eq-Decides (value_bytes a) (value_bytes b) in
+      same_from_decides (value_eq a b) (bytes_eq (value_bytes a) (value_bytes b)) (value_eq_decides a b) (λ t. one_value a b p q (bytes.0 t), λ e. bytes.1 (ap value_bytes e))
+
+  pub modified_by_bytes : (key : Bool) (a b : Value A) → IsValue a → IsValue b → (not key && not (bytes_eq (value_bytes a) (value_bytes b))) ≡ is_modified key a b
+  modified_by_bytes key a b p q = ap (λ (t : Bool). not key && not t) (sym (eq_by_bytes a b p q))
+
+  one_of : (t : Bool) (a : Value A) → cond t (value_bytes a) (0 ∷ []) ≡ field_bytes (cond t (Some a) None)
+  one_of true a = refl
+  one_of false a = refl
+
+  -- the old and the new field of a column, by the bytes of its fields
+  pub old_by_bytes : (key kept : Bool) (a b : Value A) → IsValue a → IsValue b → kept ≡ (key || (not key && not (bytes_eq (value_bytes a) (value_bytes b)))) → cond kept (value_bytes a) (0 ∷ []) ≡ field_bytes (old_field key a b)
+  old_by_bytes key kept a b p q is =
+      ap (λ (t : Bool). cond t (value_bytes a) (0 ∷ [])) (is ∙ ap (λ (t : Bool). key || t) (modified_by_bytes key a b p q)) ∙ one_of (key || is_modified key a b) a
+
+  pub new_by_bytes : (key modified : Bool) (a b : Value A) → IsValue a → IsValue b → modified ≡ (not key && not (bytes_eq (value_bytes a) (value_bytes b))) → cond modified (value_bytes b) (0 ∷ []) ≡ field_bytes (new_field key a b)
+  new_by_bytes key modified a b p q is =
+      ap (λ (t : Bool). cond t (value_bytes b) (0 ∷ [])) (is ∙ modified_by_bytes key a b p q) ∙ one_of (is_modified key a b) b
+
+  -- ---- the loop
+
+  module _ (pick : Bool → Value A → Value A → Option (Value A)) where
+    no_image : (flags : List Bool) (now : List (Value A)) → by_column pick flags [] now ≡ []
+    no_image [] now = refl
+    no_image (flag ∷ flags) now = refl
+
+    no_now : (flags : List Bool) (image : List (Value A)) → by_column pick flags image [] ≡ []
+    no_now [] image = refl
+    no_now (flag ∷ flags) [] = refl
+    no_now (flag ∷ flags) (a ∷ image) = refl
+
+    pub image_ends : (flags : List Bool) (image now : List (Value A)) (out all : List ℕ) → out ++ record_bytes (by_column pick flags image now) ≡ all → image ≡ [] → out ≡ all
+    image_ends flags image now out all so none = sym (append-nil out) ∙ ap (λ (l : List (Option (Value A))). out ++ record_bytes l) (sym (ap (λ (l : List (Value A)). by_column pick flags l now) none ∙ no_image flags now)) ∙ so
+
+    pub now_ends : (flags : List Bool) (image now : List (Value A)) (out all : List ℕ) → out ++ record_bytes (by_column pick flags image now) ≡ all → now ≡ [] → out ≡ all
+    now_ends flags image now out all so none = sym (append-nil out) ∙ ap (λ (l : List (Option (Value A))). out ++ record_bytes l) (sym (ap (λ (l : List (Value A)). by_column pick flags image l) none ∙ no_now flags image)) ∙ so
+
+    pub goes_on : (flags : List Bool) (i : ℕ) (image now image' now' : List (Value A)) (a b : Value A) (out new all : List ℕ) → i < length flags
+        → out ++ record_bytes (by_column pick (drop i flags) image now) ≡ all → image ≡ a ∷ image' → now ≡ b ∷ now'
+        → new ≡ out ++ field_bytes (pick (get_or flags i false) a b) → new ++ record_bytes (by_column pick (drop (i + 1) flags) image' now') ≡ all
+    goes_on flags i image now image' now' a b out new all lt so ia ib is =
+        rw (is, append_assoc out (field_bytes (pick (get_or flags i false) a b)) (record_bytes (by_column pick (drop (i + 1) flags) image' now'))) (rw (ia, ib, drop_more flags i false lt) at so)
+
+  -- one column more, by the bytes of its fields
+  pub old_goes_on : (flags : List Bool) (i : ℕ) (image now image' now' : List (Value A)) (was is : List ℕ) (kept : Bool) (out new all : List ℕ) → i < length flags
+      → out ++ record_bytes (by_column old_field (drop i flags) image now) ≡ all → BeginsWith image was image' → BeginsWith now is now'
+      → kept ≡ (get_or flags i false || (not (get_or flags i false) && not (bytes_eq was is))) → new ≡ out ++ cond kept was (0 ∷ [])
+      → new ++ record_bytes (by_column old_field (drop (i + 1) flags) image' now') ≡ all
+  old_goes_on flags i image now image' now' was is kept out new all lt so (a, ia, (wa, p)) (b, ib, (wb, q)) kept_is new_is =
+      goes_on old_field flags i image now image' now' a b out new all lt so ia ib
+      (new_is ∙ ap (λ (r : List ℕ). out ++ r) (ap (λ (r : List ℕ). cond kept r (0 ∷ [])) wa ∙ old_by_bytes (get_or flags i false) kept a b p q (rw (wa, wb) at kept_is)))
+
+  pub new_goes_on : (flags : List Bool) (i : ℕ) (image now image' now' : List (Value A)) (was is : List ℕ) (modified : Bool) (out new all : List ℕ) → i < length flags
+      → out ++ record_bytes (by_column new_field (drop i flags) image now) ≡ all → BeginsWith image was image' → BeginsWith now is now'
+      → modified ≡ (not (get_or flags i false) && not (bytes_eq was is)) → new ≡ out ++ cond modified is (0 ∷ [])
+      → new ++ record_bytes (by_column new_field (drop (i + 1) flags) image' now') ≡ all
+  new_goes_on flags i image now image' now' was is modified out new all lt so (a, ia, (wa, p)) (b, ib, (wb, q)) modified_is new_is =
+      goes_on new_field flags i image now image' now' a b out new all lt so ia ib
+      (new_is ∙ ap (λ (r : List ℕ). out ++ r) (ap (λ (r : List ℕ). cond modified r (0 ∷ [])) wb ∙ new_by_bytes (get_or flags i false) modified a b p q (rw (wa, wb) at modified_is)))

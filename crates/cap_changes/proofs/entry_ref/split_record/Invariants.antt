@@ -1,0 +1,5 @@
+use Rattle.cap_changes.proofs.SplitLemmas.{Passed}
+use Rattle.cap_changes.proofs.entry_ref.split_record.Given as goal
+
+abbrev pub invariant-loop-column : goal.invariant-loop-column
+invariant-loop-column g l = Passed g.row.A.Denot l.width l.bytes l._column l.rest

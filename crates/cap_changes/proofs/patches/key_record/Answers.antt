@@ -1,9 +1,0 @@
-use Rattle.std.proofs.Common.{sym, ◌∙◌}
-use Rattle.std.proofs.lemmas.List.{append-nil}
-use Rattle.cap_changes.proofs.ColumnLemmas.{pairs_ended}
-use Rattle.cap_changes.proofs.patches.key_record.Goals as goal
-
-pub returns : goal.returns
-returns g c =
-    let ended = pairs_ended c.loop-key.key-iterator c.next.new.self c.next.result c.in-None.is c.next.ensures.steps in
-    c.new.ensures ∙ sym (append-nil _) ∙ (rw ended at c.loop-key.invariant)

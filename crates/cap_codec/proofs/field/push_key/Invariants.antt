@@ -1,6 +1,0 @@
-use Rattle.std.proofs.Common.{◌≡◌, ◌++◌, take}
-use Rattle.cap_codec.specs.Field.{key_bytes}
-use Rattle.cap_codec.proofs.field.push_key.Given as goal
-
-abbrev pub invariant-loop-field : goal.invariant-loop-field
-invariant-loop-field g l = l.out.items ≡ l.fn.out.items ++ key_bytes (take l.field-index l.fields)

@@ -1,0 +1,14 @@
+use Rattle.std.proofs.Common.{ap, ◌∙◌}
+use Rattle.std.specs.Global.{Global}
+use Rattle.cap_changes.specs.declared.row_change.RowChange.{RowChange}
+use Rattle.cap_connection.specs.Fields.{change_new}
+use Rattle.cap_connection.proofs.iter_fields.change_new.Goals as goal
+
+pub returns-in-Insert : goal.returns-in-Insert
+returns-in-Insert c = c.get.ensures.value ∙ ap (λ (change : RowChange Global). change_new change c.args.column) c.in-Insert.ensures
+
+pub returns-in-Update : goal.returns-in-Update
+returns-in-Update c = c.get-in-Update.ensures.value ∙ ap (λ (change : RowChange Global). change_new change c.args.column) c.in-Update.ensures
+
+pub returns-in-Delete : goal.returns-in-Delete
+returns-in-Delete c = ap (λ (change : RowChange Global). change_new change c.args.column) c.in-Delete.ensures

@@ -1,0 +1,156 @@
+-- The touches by changes that carry the rows before a commit, and by the rows before it.
+use Rattle.std.proofs.Common.{◌≡◌, ℕ, Bool, true, false, cond, Option, Some, None, Result, Ok, Err, IfOk, List, [], ◌∷◌, ◌&&◌, ◌||◌, refl, sym, ap, subst, ◌∙◌}
+use Rattle.std.specs.List.{cons_option, filter_map, find}
+use Rattle.std.specs.Option.{option_map}
+use Rattle.std.specs.Cmp.{Equal-is, eq_by_cmp_equiv, tied_itself}
+use Rattle.cap_value.specs.Bytes.{bytes_eq}
+use Rattle.cap_value.specs.declared.refusal.Refusal.{Refusal}
+use Rattle.cap_row.specs.Fields.{Fields}
+use Rattle.cap_row.specs.Key.{fields_cmp, fields_cmp_total, fields_eq}
+use Rattle.cap_tree.specs.Tree.{get, put_entry}
+use Rattle.cap_table.specs.Sound.{is_key_of}
+use Rattle.cap_database.specs.Carried.{CarryFirstRows, is_of_row}
+use Rattle.cap_database.specs.Operation.{run}
+use Rattle.cap_database.specs.Outcome.{OutcomeState}
+use Rattle.cap_database.specs.Read.{row_at}
+use Rattle.cap_database.specs.Snapshot.{SnapshotState}
+use Rattle.cap_database.specs.Tables.{Tables, create}
+use Rattle.cap_database.specs.declared.change.Change.{Change}
+use Rattle.cap_database.specs.declared.op.Op.{Op}
+use Rattle.cap_database.specs.declared.refused_at.RefusedAt.{RefusedAt}
+use Rattle.cap_database.proofs.StayLemmas.{run-carries}
+use Rattle.cap_codec.specs.declared.read.Contents.{Contents}
+use Rattle.cap_apply.specs.declared.policy.Policy.{Policy}
+use Rattle.cap_apply.specs.Applied.{AppliedState}
+use Rattle.cap_apply.specs.Apply.{apply}
+use Rattle.cap_apply.proofs.StayLemmas.{apply-carries}
+use Rattle.cap_txn.specs.Stale.{stale}
+use Rattle.cap_session.specs.declared.record.Record.{Record}
+use Rattle.cap_session.specs.Recording.{is_cascade, touches_of}
+use Rattle.cap_session.specs.Records.{Records, Touch, record_after, touch, with_touches}
+use Rattle.cap_session.proofs.RecordLemmas.{get-put}
+use Rattle.cap_core.specs.declared.command.Command.{Command}
+use Rattle.cap_core.specs.declared.command.Command.TheVariants as command
+use Rattle.cap_core.specs.declared.event.Event.{Event}
+use Rattle.cap_core.specs.Flags.{changes_shown, is_quiet}
+use Rattle.cap_core.specs.History.{effect_of, event_effect}
+use Rattle.cap_core.specs.Outcome.{Effect, Refused as Why, applied, commit_unless, created, made, no_effect, outcome}
+use Rattle.cap_core.specs.Past.{is_accepted}
+
+module _ {A : Type 0} where
+  -- a change of a row of this table, as a touch of its key with the row before the commit
+  abbrev pub told_of : Tables A → Bool → List ℕ → Change A → Option (Touch A)
+  told_of before indirect name change =
+      cond (bytes_eq name change.table) (option_map (λ key. record { key = key; image = row_at before name key; indirect = indirect || is_cascade change.cause }) change.key) None
+
+  abbrev pub told_by : Tables A → Bool → List ℕ → List (Change A) → List (Touch A)
+  told_by before indirect name changes = filter_map (told_of before indirect name) changes
+
+  -- ---- a touch of a key that has a record, whatever its image
+
+  touch-same : (records : Records A) (t : Touch A) (image : Option (Fields A)) → (get fields_cmp records t.key ≡ None → t.image ≡ image) → touch records t ≡ touch records (record t { image = image })
+  touch-same records t image same = ap (put_entry fields_cmp records t.key) (inner (get fields_cmp records t.key) same)
+    where
+      inner : (found : Option (Record A)) → (found ≡ None → t.image ≡ image) → record_after found t.image t.indirect ≡ record_after found image t.indirect
+      inner None same = ap (λ row. record { image = row; indirect = t.indirect }) (same refl)
+      inner (Some r) same = refl
+
+  itself : (key : Fields A) → fields_eq key key ≡ true
+  itself key = (Equal-is (fields_cmp key key)).1 (tied_itself fields_cmp_total key)
+
+  module _ (before : Tables A) (indirect : Bool) (name : List ℕ) where
+    -- the first change of a key without a record carries the row
+    abbrev Carried : Records A → List (Change A) → Type 0
+    Carried records changes = (key : Fields A) (change : Change A) → get fields_cmp records key ≡ None → find (is_of_row name key) changes ≡ Some change → change.before ≡ row_at before name key
+
+    -- the key that was touched has a record
+    touched-other : (records : Records A) (t : Touch A) (key : Fields A) → get fields_cmp (touch records t) key ≡ None → (fields_eq t.key key ≡ false) × (get fields_cmp records key ≡ None)
+    touched-other records t key none =
+        let made = record_after (get fields_cmp records t.key) t.image t.indirect in
+        elim (fields_eq key t.key) as (λ b. fields_eq key t.key ≡ b → cond b (Some made) (get fields_cmp records key) ≡ None → (fields_eq t.key key ≡ false) × (get fields_cmp records key ≡ None)) [
+          | true ↦ λ _ clash. cc
+          | false ↦ λ apart there. ((eq_by_cmp_equiv fields_cmp_total).symm t.key key ∙ apart, there)
+        ] refl (sym (get-put records t.key made key) ∙ none)
+
+    told-same : (changes : List (Change A)) (records : Records A) → Carried records changes → with_touches records (touches_of indirect name changes) ≡ with_touches records (told_by before indirect name changes)
+    told-same [] records carry = refl
+    told-same (change ∷ changes) records carry =
+        let own : Option (Fields A) → Fields A → Touch A = λ image key. record { key = key; image = image; indirect = indirect || is_cascade change.cause } in
+        let rest = touches_of indirect name changes in
+        let others = told_by before indirect name changes in
+        let Here : Bool → Option (Fields A) → Type 0 = λ b k. (key : Fields A) (found : Change A) → get fields_cmp records key ≡ None → cond (b && is_key_of k key) (Some change) (find (is_of_row name key) changes) ≡ Some found → found.before ≡ row_at before name key in
+        elim (bytes_eq name change.table) as (λ b. Here b change.key → with_touches records (cons_option (cond b (option_map (own change.before) change.key) None) rest)
+        ≡ with_touches records (cons_option (cond b (option_map (λ key. own (row_at before name key) key) change.key) None) others)) [
+          | false ↦ λ here. told-same changes records here
+          | true ↦ elim change.key as (λ k. Here true k → with_touches records (cons_option (option_map (own change.before) k) rest) ≡ with_touches records (cons_option (option_map (λ key. own (row_at before name key) key) k) others)) [
+            | None ↦ λ here. told-same changes records here
+            | Some key ↦ λ here.
+                let t = own change.before key in
+                told-same changes (touch records t)
+                (λ q found none at.
+                let apart = touched-other records t q none in
+                here q found apart.1 (ap (λ b. cond b (Some change) (find (is_of_row name q) changes)) apart.0 ∙ at))
+                ∙ ap (λ after. with_touches after others) (touch-same records t (row_at before name key) (λ none. here key change none (ap (λ b. cond b (Some change) (find (is_of_row name key) changes)) (itself key))))
+          ]
+        ] carry
+
+  pub carried-told : (before : Tables A) (indirect : Bool) (name : List ℕ) (changes : List (Change A)) (records : Records A) → ((key : Fields A) (change : Change A) → find (is_of_row name key) changes ≡ Some change → change.before ≡ row_at before name key)
+      → with_touches records (touches_of indirect name changes) ≡ with_touches records (told_by before indirect name changes)
+  carried-told before indirect name changes records carry = told-same before indirect name changes records (λ key change _ at. carry key change at)
+
+  -- ---- the changes of an event
+
+  nothing-carries : (tables : Tables A) → CarryFirstRows tables []
+  nothing-carries tables name key change is = cc
+
+  abbrev EffectCarries : Tables A → Result (Effect A) Why → Type 0
+  EffectCarries tables r = IfOk r (λ effect. CarryFirstRows tables effect.changes)
+
+  made-carries : (tables : Tables A) (r : Result (OutcomeState A) RefusedAt) → IfOk r (λ left. CarryFirstRows tables left.changes) → EffectCarries tables (made r)
+  made-carries tables (Ok left) carry = carry
+  made-carries tables (Err refused) carry = tt
+
+  commit-carries : (why : Option Refusal) (tables : Tables A) (ops : List (Op A)) → EffectCarries tables (commit_unless why tables ops)
+  commit-carries (Some why) tables ops = tt
+  commit-carries None tables ops = made-carries tables (run tables ops) (run-carries tables ops)
+
+  applied-carries : (tables : Tables A) (r : Result (AppliedState A) Refusal) → IfOk r (λ left. CarryFirstRows tables left.changes) → EffectCarries tables (applied r)
+  applied-carries tables (Ok left) carry = carry
+  applied-carries tables (Err why) carry = tt
+
+  created-carries : (tables : Tables A) (r : Result (Tables A) Refusal) → EffectCarries tables (created r)
+  created-carries tables (Ok after) = nothing-carries tables
+  created-carries tables (Err why) = tt
+
+  outcome-carries : (now : SnapshotState A) (c : Command A) → EffectCarries now.database (outcome now c)
+  outcome-carries now (command.CreateTable name schema) = created-carries now.database (create now.database name schema)
+  outcome-carries now (command.Commit batch) = commit-carries (stale batch.base batch.seen now) now.database batch.ops
+  outcome-carries now (command.Apply blob policy quiet) = applied-carries now.database (apply now.database blob policy) (apply-carries now.database blob policy)
+  outcome-carries now _ = nothing-carries now.database
+
+  pub event-carries : (now : SnapshotState A) (event : Event A) → CarryFirstRows now.database (event_effect now event).changes
+  event-carries now event =
+      elim (is_accepted event.reply) as (λ b. CarryFirstRows now.database (cond b (effect_of now.database (outcome now event.command)) (no_effect now.database)).changes) [
+        | true ↦ inner (outcome now event.command) (outcome-carries now event.command)
+        | false ↦ nothing-carries now.database
+      ]
+    where
+      inner : (r : Result (Effect A) Why) → EffectCarries now.database r → CarryFirstRows now.database (effect_of now.database r).changes
+      inner (Ok effect) carry = carry
+      inner (Err why) carry = nothing-carries now.database
+
+  -- what was left has changes that carry the rows before
+  pub ran-carries : (tables : Tables A) (ops : List (Op A)) (left : OutcomeState A) → run tables ops ≡ Ok left → CarryFirstRows tables left.changes
+  ran-carries tables ops left is = subst (λ r. IfOk r (λ (o : OutcomeState A). CarryFirstRows tables o.changes)) is (run-carries tables ops)
+
+  pub was-applied-carries : (tables : Tables A) (blob : Contents A) (policy : Policy) (left : AppliedState A) → apply tables blob policy ≡ Ok left → CarryFirstRows tables left.changes
+  was-applied-carries tables blob policy left is = subst (λ r. IfOk r (λ (a : AppliedState A). CarryFirstRows tables a.changes)) is (apply-carries tables blob policy)
+
+  -- a session is shown all of them, or none
+  pub shown-carries : (tables : Tables A) (changes : List (Change A)) (session : ℕ) (c : Command A) → CarryFirstRows tables changes → (name : List ℕ) (key : Fields A) (change : Change A)
+      → find (is_of_row name key) (changes_shown session c changes) ≡ Some change → change.before ≡ row_at tables name key
+  shown-carries tables changes session c carry name key change =
+      elim (is_quiet session c) as (λ b. find (is_of_row name key) (cond b [] changes) ≡ Some change → change.before ≡ row_at tables name key) [
+        | true ↦ λ is. cc
+        | false ↦ λ is. carry name key change is
+      ]

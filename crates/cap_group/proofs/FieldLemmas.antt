@@ -1,0 +1,185 @@
+-- Two records of one row, field by field, by the bytes of their fields.
+use Rattle.std.proofs.Common.{◌≡◌, ℕ, ◌+◌, ◌<◌, ◌≤◌, List, [], ◌∷◌, ◌++◌, Bool, true, false, not, ◌&&◌, ◌||◌, cond, length, drop, get_or, Option, Some, None, IfSome, refl, sym, ap, subst, ◌∙◌, append_assoc, append-nil}
+use Rattle.std.proofs.lemmas.Bool.Decides.{same_from_decides}
+use Rattle.cap_value.specs.Bytes.{bytes_eq}
+use Rattle.cap_value.specs.declared.value.Value.{Value}
+use Rattle.cap_value.specs.declared.value.Value.TheVariants.{Null, Int, Text, Blob}
+use Rattle.cap_value.specs.Value.{IsValue}
+use Rattle.cap_changes.specs.Column.{by_column}
+use Rattle.cap_changes.specs.Field.{record_bytes, field_bytes}
+use Rattle.cap_changes.specs.FieldRecord.{RecordFields}
+use Rattle.cap_changes.specs.Record.{BeginsWithField}
+use Rattle.cap_changes.proofs.PassLemmas.{flags-cons, flags-past}
+use Rattle.cap_changes.proofs.PutLemmas.{put_all}
+use Rattle.cap_changes.proofs.TouchedLemmas.{eq_by_bytes}
+use Rattle.cap_group.specs.Record as together
+
+-- a piece is put, and this is left
+put_on : {X : Type 0} (out out' piece rest whole all : List X) → out' ≡ out ++ piece → whole ≡ piece ++ rest → out ++ whole ≡ all → out' ++ rest ≡ all
+put_on {X} out out' piece rest whole all put parts so_far =
+    ap (λ (l : List X). l ++ rest) put ∙ append_assoc out piece rest ∙ sym (ap (λ (l : List X). out ++ l) parts) ∙ so_far
+
+-- a key field, or one that is not the same
+either : (key same : Bool) → (key || not same) ≡ (key || (not key && not same))
+either true same = refl
+either false same = refl
+
+module _ {A : Type 0} where
+  -- fields that are the same have the same bytes, and no others
+  pub field_eq_bytes : (b a : (Option (Value A))) → IfSome b IsValue → IfSome a IsValue → bytes_eq (field_bytes b) (field_bytes a) ≡ together.field_eq b a
+  field_eq_bytes None None p q = refl
+  field_eq_bytes None (Some Null) p q = refl
+  field_eq_bytes None (Some (Int n)) p q = refl
+  field_eq_bytes None (Some (Text t)) p q = refl
+  field_eq_bytes None (Some (Blob t)) p q = refl
+  field_eq_bytes (Some Null) None p q = refl
+  field_eq_bytes (Some (Int n)) None p q = refl
+  field_eq_bytes (Some (Text t)) None p q = refl
+  field_eq_bytes (Some (Blob t)) None p q = refl
+  field_eq_bytes (Some b) (Some a) p q = sym (eq_by_bytes b a p q)
+
+  not_undefined : (v : Value A) → bytes_eq (field_bytes (Some v)) (0 ∷ []) ≡ true → ⊥
+  not_undefined Null e = cc
+  not_undefined (Int n) e = cc
+  not_undefined (Text t) e = cc
+  not_undefined (Blob t) e = cc
+
+  undefined : (a : (Option (Value A))) (bytes : List ℕ) → bytes ≡ field_bytes a → bytes_eq bytes (0 ∷ []) ≡ true → a ≡ None
+  undefined None bytes is same = refl
+  undefined (Some v) bytes is same = absurd (not_undefined v (ap (λ (l : List ℕ). bytes_eq l (0 ∷ [])) (sym is) ∙ same))
+
+  -- the next field of a record over another
+  pub over_begins : (below belows above aboves : RecordFields A) (b a : List ℕ) → BeginsWithField below b belows → BeginsWithField above a aboves →
+      BeginsWithField (together.record_over below above) (cond (bytes_eq a (0 ∷ [])) b a) (together.record_over belows aboves)
+  over_begins below belows above aboves b a (f, parts, spelled, fits) (f', parts', spelled', fits') = (
+    together.field_over f f',
+    (λ i. together.record_over (parts i) (parts' i)),
+    (elim (bytes_eq a (0 ∷ [])) as (λ t. bytes_eq a (0 ∷ []) ≡ t → cond t b a ≡ field_bytes (together.field_over f f')) [
+      | true ↦ λ same. spelled ∙ sym (ap (λ (o : (Option (Value A))). field_bytes (together.field_over f o)) (undefined f' a spelled' same))
+      | false ↦ λ other. spelled' ∙ over_defined f f' (ap (λ (l : List ℕ). bytes_eq l (0 ∷ [])) (sym spelled') ∙ other)
+    ] refl),
+    over_fits f f' fits fits',
+  )
+    where
+      over_defined : (f f' : (Option (Value A))) → bytes_eq (field_bytes f') (0 ∷ []) ≡ false → field_bytes f' ≡ field_bytes (together.field_over f f')
+      over_defined f None other = cc
+      over_defined f (Some v) other = refl
+
+      over_fits : (f f' : (Option (Value A))) → IfSome f IsValue → IfSome f' IsValue → IfSome (together.field_over f f') IsValue
+      over_fits f None p q = p
+      over_fits f (Some v) p q = q
+
+  pub over_none : (below : RecordFields A) → together.record_over below [] ≡ []
+  over_none [] = refl
+  over_none (f ∷ fs) = refl
+
+  pub over_self : (fields : RecordFields A) → together.record_over fields fields ≡ fields
+  over_self [] = refl
+  over_self (None ∷ fields) = ap (λ (l : RecordFields A). None ∷ l) (over_self fields)
+  over_self (Some v ∷ fields) = ap (λ (l : RecordFields A). Some v ∷ l) (over_self fields)
+
+  -- ---- loops over columns
+
+  module _ (f : Bool → (Option (Value A)) → (Option (Value A)) → (Option (Value A))) where
+    -- the field of one column is put
+    pub column_put : (flags : List Bool) (i : ℕ) (before befores after afters : RecordFields A) (was is piece out out' all : List ℕ) → i < length flags → BeginsWithField before was befores → BeginsWithField after is afters
+        → ((b a : (Option (Value A))) → IfSome b IsValue → IfSome a IsValue → was ≡ field_bytes b → is ≡ field_bytes a → piece ≡ field_bytes (f (get_or flags i false) b a))
+        → out' ≡ out ++ piece → out ++ record_bytes (by_column f (drop i flags) before after) ≡ all → out' ++ record_bytes (by_column f (drop (i + 1) flags) befores afters) ≡ all
+    column_put flags i before befores after afters was is piece out out' all lt (b, parts, spelled, fits) (a, parts', spelled', fits') made put so_far =
+        put_on out out' piece (record_bytes (by_column f (drop (i + 1) flags) befores afters)) (record_bytes (by_column f (drop i flags) before after)) all put
+        (rw (flags-cons flags i lt, parts, parts') (ap (λ (l : List ℕ). l ++ record_bytes (by_column f (drop (i + 1) flags) befores afters)) (sym (made b a fits fits' spelled spelled')))) so_far
+
+    no_before : (flags : List Bool) (after : RecordFields A) → by_column f flags [] after ≡ []
+    no_before [] after = refl
+    no_before (key ∷ flags) after = refl
+
+    no_after : (flags : List Bool) (before : RecordFields A) → by_column f flags before [] ≡ []
+    no_after [] before = refl
+    no_after (key ∷ flags) [] = refl
+    no_after (key ∷ flags) (b ∷ before) = refl
+
+    -- no column is left
+    pub before_ends : (flags : List Bool) (before after : RecordFields A) (out all : List ℕ) → before ≡ [] → out ++ record_bytes (by_column f flags before after) ≡ all → out ≡ all
+    before_ends flags before after out all none so_far =
+        put_all out _ all (ap (λ (b : RecordFields A). record_bytes (by_column f flags b after)) none ∙ ap record_bytes (no_before flags after)) so_far
+
+    pub after_ends : (flags : List Bool) (before after : RecordFields A) (out all : List ℕ) → after ≡ [] → out ++ record_bytes (by_column f flags before after) ≡ all → out ≡ all
+    after_ends flags before after out all none so_far =
+        put_all out _ all (ap (λ (a : RecordFields A). record_bytes (by_column f flags before a)) none ∙ ap record_bytes (no_after flags before)) so_far
+
+    pub columns_end : (flags : List Bool) (i : ℕ) (before after : RecordFields A) (out all : List ℕ) → length flags ≤ i → out ++ record_bytes (by_column f (drop i flags) before after) ≡ all → out ≡ all
+    columns_end flags i before after out all le so_far =
+        put_all out _ all (ap (λ (l : List Bool). record_bytes (by_column f l before after)) (flags-past flags i le)) so_far
+
+  -- the old and the new field of a column
+  choose : (t : Bool) (b : (Option (Value A))) → cond t (field_bytes b) (0 ∷ []) ≡ field_bytes (cond t b None)
+  choose true b = refl
+  choose false b = refl
+
+  modified_is : (key : Bool) (b a : (Option (Value A))) → IfSome b IsValue → IfSome a IsValue → (not key && not (bytes_eq (field_bytes b) (field_bytes a))) ≡ together.is_modified key b a
+  modified_is key b a p q = ap (λ (t : Bool). not key && not t) (field_eq_bytes b a p q)
+
+  pub old_is : (key kept : Bool) (b a : (Option (Value A))) (was is piece : List ℕ) → IfSome b IsValue → IfSome a IsValue → was ≡ field_bytes b → is ≡ field_bytes a → kept ≡ (key || not (bytes_eq was is)) →
+      piece ≡ cond kept was (0 ∷ []) → piece ≡ field_bytes (together.old_field key b a)
+  old_is key kept b a was is piece p q spelled spelled' test put =
+      let t : kept ≡ (key || together.is_modified key b a) =
+      test ∙ (λ i. key || not (bytes_eq (spelled i) (spelled' i))) ∙ either key (bytes_eq (field_bytes b) (field_bytes a)) ∙ ap (λ (m : Bool). key || m) (modified_is key b a p q) in
+      put ∙ (λ i. cond (t i) (spelled i) (0 ∷ [])) ∙ choose (key || together.is_modified key b a) b
+
+  pub new_is : (key kept : Bool) (b a : (Option (Value A))) (was is piece : List ℕ) → IfSome b IsValue → IfSome a IsValue → was ≡ field_bytes b → is ≡ field_bytes a → kept ≡ (not key && not (bytes_eq was is)) →
+      piece ≡ cond kept is (0 ∷ []) → piece ≡ field_bytes (together.new_field key b a)
+  new_is key kept b a was is piece p q spelled spelled' test put =
+      let t : kept ≡ together.is_modified key b a =
+      test ∙ (λ i. not key && not (bytes_eq (spelled i) (spelled' i))) ∙ modified_is key b a p q in
+      put ∙ (λ i. cond (t i) (spelled' i) (0 ∷ [])) ∙ choose (together.is_modified key b a) a
+
+  pub old_put : (flags : List Bool) (i : ℕ) (before befores after afters : RecordFields A) (was is out out' all : List ℕ) (kept : Bool) → i < length flags → BeginsWithField before was befores → BeginsWithField after is afters
+      → kept ≡ (get_or flags i false || not (bytes_eq was is)) → out' ≡ out ++ cond kept was (0 ∷ []) → out ++ record_bytes (by_column together.old_field (drop i flags) before after) ≡ all
+      → out' ++ record_bytes (by_column together.old_field (drop (i + 1) flags) befores afters) ≡ all
+  old_put flags i before befores after afters was is out out' all kept lt begins begins' test put so_far =
+      column_put together.old_field flags i before befores after afters was is (cond kept was (0 ∷ [])) out out' all lt begins begins'
+      (λ b a p q spelled spelled'. old_is (get_or flags i false) kept b a was is (cond kept was (0 ∷ [])) p q spelled spelled' test refl) put so_far
+
+  pub new_put : (flags : List Bool) (i : ℕ) (before befores after afters : RecordFields A) (was is out out' all : List ℕ) (kept : Bool) → i < length flags → BeginsWithField before was befores → BeginsWithField after is afters
+      → kept ≡ (not (get_or flags i false) && not (bytes_eq was is)) → out' ≡ out ++ cond kept is (0 ∷ []) → out ++ record_bytes (by_column together.new_field (drop i flags) before after) ≡ all
+      → out' ++ record_bytes (by_column together.new_field (drop (i + 1) flags) befores afters) ≡ all
+  new_put flags i before befores after afters was is out out' all kept lt begins begins' test put so_far =
+      column_put together.new_field flags i before befores after afters was is (cond kept is (0 ∷ [])) out out' all lt begins begins'
+      (λ b a p q spelled spelled'. new_is (get_or flags i false) kept b a was is (cond kept is (0 ∷ [])) p q spelled spelled' test refl) put so_far
+
+  -- ---- whether a column differs
+
+  pub differ_more : (flags : List Bool) (i : ℕ) (before befores after afters : RecordFields A) (was is : List ℕ) → i < length flags → BeginsWithField before was befores → BeginsWithField after is afters →
+      together.differ (drop i flags) before after ≡ ((not (get_or flags i false) && not (bytes_eq was is)) || together.differ (drop (i + 1) flags) befores afters)
+  differ_more flags i before befores after afters was is lt (b, parts, spelled, fits) (a, parts', spelled', fits') =
+      (λ k. together.differ (flags-cons flags i lt k) (parts k) (parts' k))
+      ∙ ap (λ (t : Bool). t || together.differ (drop (i + 1) flags) befores afters)
+      (sym (modified_is (get_or flags i false) b a fits fits') ∙ (λ k. not (get_or flags i false) && not (bytes_eq (sym spelled k) (sym spelled' k))))
+
+  -- the columns that are left, where this one does not differ
+  pub differ_left : (flags : List Bool) (i : ℕ) (before befores after afters : RecordFields A) (was is : List ℕ) (all modified : Bool) → i < length flags → BeginsWithField before was befores → BeginsWithField after is afters
+      → modified ≡ (not (get_or flags i false) && not (bytes_eq was is)) → modified ≡ false → together.differ (drop i flags) before after ≡ all → together.differ (drop (i + 1) flags) befores afters ≡ all
+  differ_left flags i before befores after afters was is all modified lt begins begins' test same so_far =
+      ap (λ (t : Bool). t || together.differ (drop (i + 1) flags) befores afters) (sym same ∙ test)
+      ∙ sym (differ_more flags i before befores after afters was is lt begins begins') ∙ so_far
+
+  pub differ_here : (flags : List Bool) (i : ℕ) (before befores after afters : RecordFields A) (was is : List ℕ) (all modified : Bool) → i < length flags → BeginsWithField before was befores → BeginsWithField after is afters
+      → modified ≡ (not (get_or flags i false) && not (bytes_eq was is)) → modified ≡ true → together.differ (drop i flags) before after ≡ all → true ≡ all
+  differ_here flags i before befores after afters was is all modified lt begins begins' test other so_far =
+      ap (λ (t : Bool). t || together.differ (drop (i + 1) flags) befores afters) (sym other ∙ test)
+      ∙ sym (differ_more flags i before befores after afters was is lt begins begins') ∙ so_far
+
+  pub differ_before : (flags : List Bool) (before after : RecordFields A) → before ≡ [] → together.differ flags before after ≡ false
+  differ_before [] before after none = refl
+  differ_before (key ∷ flags) before after none = ap (λ (b : RecordFields A). together.differ (key ∷ flags) b after) none
+
+  pub differ_after : (flags : List Bool) (before after : RecordFields A) → after ≡ [] → together.differ flags before after ≡ false
+  differ_after flags before after none = ap (λ (a : RecordFields A). together.differ flags before a) none ∙ no_after_differ flags before
+    where
+      no_after_differ : (flags : List Bool) (before : RecordFields A) → together.differ flags before [] ≡ false
+      no_after_differ [] before = refl
+      no_after_differ (key ∷ flags) [] = refl
+      no_after_differ (key ∷ flags) (b ∷ before) = refl
+
+  pub differ_past : (flags : List Bool) (i : ℕ) (before after : RecordFields A) → length flags ≤ i → together.differ (drop i flags) before after ≡ false
+  differ_past flags i before after le = ap (λ (l : List Bool). together.differ l before after) (flags-past flags i le)

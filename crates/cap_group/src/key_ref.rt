@@ -1,0 +1,111 @@
+//! The key of the row that a change is of, in place.
+ghost use Rattle.std.specs.Prelude.{◌≡◌, ◌∷◌, [], MatchOption, None, if◌then◌else◌};
+ghost use Rattle.std.specs.Map.Iter.{TakesFirst};
+ghost use Rattle.cap_field.specs.FieldReading.{value_of};
+ghost use Rattle.cap_row.specs.Key.{fields_cmp};
+ghost use Rattle.cap_group.specs.ChangeKey.{key_values};
+
+use cap_changes::RecordRef;
+use cap_field::ValueRef;
+use cap_value::AllocHandle;
+use std::cmp::Ordering;
+use std::marker::Model;
+
+// The values of a key that are left to go over, in place.
+#[derive(Drop)]
+pub(crate) struct KeyRef<'a, A: AllocHandle> {
+    flags: &'a [bool],
+    fields: RecordRef<'a, A>,
+}
+
+impl<'a, A: AllocHandle> Model for KeyRef<'a, A> {
+    ghost use Rattle.cap_row.specs.Fields.{Fields};
+    ghost use Rattle.cap_group.specs.ChangeKey.{key_values};
+
+    ghost Value = { Fields A };
+
+    ghost view = { λ k. key_values k.flags.now k.fields };
+}
+
+impl<'a, A: AllocHandle> KeyRef<'a, A> {
+    // The values of the key fields of a record.
+    #[inline(always)]
+    pub(crate) fn new(flags: &'a [bool], fields: RecordRef<'a, A>) -> Self
+        ensures { result ≡ key_values flags.now fields.entry }
+    {
+        KeyRef { flags, fields }
+    }
+
+    #[inline(always)]
+    fn copy(&self) -> Self
+        ensures { result ≡ self.now }
+    {
+        KeyRef {
+            flags: self.flags,
+            fields: self.fields.copy(),
+        }
+    }
+
+    // The next value.
+    #[inline(always)]
+    pub(crate) fn next_value(&mut self) -> Option<ValueRef<'a>>
+        ensures { TakesFirst (value_of {A = A}) self.old result self.new }
+    {
+        match first_value(self.flags, &mut self.fields) {
+            Some((value, others)) => {
+                self.flags = others;
+                Some(value)
+            }
+            None => {
+                self.flags = &[];
+                None
+            }
+        }
+    }
+
+    // The order of keys.
+    pub(crate) fn order(&self, other: &Self) -> Ordering
+        ensures { result ≡ fields_cmp self.now other.now }
+    {
+        let (mut left, mut right) = (self.copy(), other.copy());
+        loop {
+            match (left.next_value(), right.next_value()) {
+                (Some(value), Some(against)) => match value.order::<A>(against) {
+                    Ordering::Equal => {}
+                    order => return order,
+                },
+                (Some(_), None) => return Ordering::Greater,
+                (None, Some(_)) => return Ordering::Less,
+                (None, None) => return Ordering::Equal,
+            }
+        }
+    }
+}
+
+// The first value of a key field, and the flags behind it.
+#[inline(always)]
+fn first_value<'a, A: AllocHandle>(
+    flags: &'a [bool],
+    fields: &mut RecordRef<'a, A>,
+) -> Option<(ValueRef<'a>, &'a [bool])>
+    ensures { MatchOption result (key_values flags.now fields.old ≡ []) (λ found.
+        key_values flags.now fields.old ≡ value_of found.0 ∷ key_values found.1.now fields.new) }
+{
+    let mut rest = flags;
+    while let [key, others @ ..] = rest {
+        let found = if_key(*key, fields.next_field()?);
+        if let Some(value) = found {
+            return Some((value, others));
+        }
+        rest = others;
+    }
+    None
+}
+
+// The value of a field of the key.
+#[inline(always)]
+fn if_key(key: bool, field: Option<ValueRef<'_>>) -> Option<ValueRef<'_>>
+    ensures { result ≡ (if key then field.entry else None) }
+{
+    if key { field } else { None }
+}

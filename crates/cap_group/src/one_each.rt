@@ -1,0 +1,54 @@
+//! The changes of a group, one for each row.
+ghost use Rattle.std.specs.Prelude.{◌≡◌, ◌++◌, [], All, IfOk, OnOk, map};
+ghost use Rattle.std.specs.List.Sorted.{IsSorted};
+ghost use Rattle.cap_group.specs.KeyedChanges.{entries_of, no_changes, with_changes};
+ghost use Rattle.cap_group.specs.Place.{IsPlace, place_cmp};
+
+use crate::combine::Combine;
+use crate::place::{Place, places_of};
+use crate::together::Together;
+use cap_changes::TableGroup;
+use cap_value::{AllocHandle, OutOfMemory};
+
+// The changes of a group, one for each row, in the order of their keys.
+pub(crate) fn one_each<C: Combine<A> + Drop, A: AllocHandle>(
+    alloc: A,
+    group: &TableGroup<C, A>,
+) -> Result<TableGroup<C, A>, OutOfMemory>
+    ensures { IfOk result (λ made. made ≡ entries_of (with_changes C.key C.combined
+        (no_changes group.now.table group.now.schema) group.now.changes)) }
+{
+    let mut places = places_of(alloc, group)?;
+    places.sort()?;
+    let mut made = TableGroup::new(alloc, group.table().copy()?, group.schema().copy()?);
+    push_rows(alloc, &mut made, group.schema().flags(), places.as_slice())?;
+    Ok(made)
+}
+
+// Appends what the changes of each row are together, where they are in the order of their keys.
+fn push_rows<C: Combine<A> + Drop, A: AllocHandle>(
+    alloc: A,
+    group: &mut TableGroup<C, A>,
+    flags: &[bool],
+    places: &[Place<'_, C, A>],
+) -> Result<(), OutOfMemory>
+    requires none { group.old.changes ≡ [] }
+    requires columns { group.old.schema ≡ flags.now }
+    requires each { All (IsPlace C.key C.fits_in flags.now) places.now }
+    requires sorted { IsSorted place_cmp places.now }
+    ensures { OnOk result (group.new ≡ entries_of (with_changes C.key C.combined
+        (no_changes group.old.table flags.now) (map (λ place. place.change) places.now))) }
+{
+    if places.is_empty() {
+        return Ok(());
+    }
+    let mut row = Together::new(alloc, flags);
+    row.add(places[0].change())?;
+    for number in 1..places.len() {
+        if !places[number - 1].is_of_row(&places[number]) {
+            row.finish(group)?;
+        }
+        row.add(places[number].change())?;
+    }
+    row.finish(group)
+}

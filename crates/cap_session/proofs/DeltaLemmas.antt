@@ -1,0 +1,120 @@
+-- Lists of which items are changed at their places.
+use Rattle.std.proofs.Common.{◌≡◌, ◌<◌, ◌≤◌, ℕ, zero, suc, Bool, Some, List, [], ◌∷◌, ◌++◌, length, map, get_or, set, take, drop, refl, sym, ap, ap₂, ◌∙◌, nat_eq, arith}
+use Rattle.std.proofs.lemmas.Bool.{eqb-false, eqb-true}
+use Rattle.std.specs.Map.{keys_of, values_of}
+use Rattle.std.specs.Prelude.{slice_get}
+use Rattle.indexmap.specs.Layout.{set_value_at}
+use Rattle.cap_session.specs.Delta.{changed_at, with_parts, with_records}
+use Rattle.cap_session.specs.Records.{Records}
+use Rattle.cap_session.specs.Session.{AttachedTables, forget}
+use Rattle.cap_session.proofs.PlaceLemmas.{IsFirst, NonePass}
+
+module _ {X : Type 0} where
+  pub set-changed : (make : X → X) (xs : List X) (i : ℕ) (x d : X) → x ≡ make (get_or xs i d) → set xs i x ≡ changed_at i make xs
+  set-changed make [] i x d is = refl
+  set-changed make (y ∷ ys) zero x d is = ap (λ z. z ∷ ys) is
+  set-changed make (y ∷ ys) (suc i) x d is = ap (λ others. y ∷ others) (set-changed make ys i x d is)
+
+  pub changed-not : (xs : List X) (i : ℕ) → changed_at i (λ x. x) xs ≡ xs
+  changed-not [] i = refl
+  changed-not (x ∷ xs) zero = refl
+  changed-not (x ∷ xs) (suc i) = ap (λ others. x ∷ others) (changed-not xs i)
+
+  pub changed-beyond : (make : X → X) (xs : List X) (i : ℕ) → length xs ≤ i → changed_at i make xs ≡ xs
+  changed-beyond make [] i le = refl
+  changed-beyond make (x ∷ xs) zero le = absurd (omega (arith, le))
+  changed-beyond make (x ∷ xs) (suc i) le = ap (λ others. x ∷ others) (changed-beyond make xs i (omega (arith, le)))
+
+  changed-twice : (f g : X → X) (xs : List X) (i : ℕ) → changed_at i f (changed_at i g xs) ≡ changed_at i (λ x. f (g x)) xs
+  changed-twice f g [] i = refl
+  changed-twice f g (x ∷ xs) zero = refl
+  changed-twice f g (x ∷ xs) (suc i) = ap (λ others. x ∷ others) (changed-twice f g xs i)
+
+  changed-other : (f g : X → X) (xs : List X) (p q : ℕ) → (p ≡ q → ⊥) → changed_at p f (changed_at q g xs) ≡ changed_at q g (changed_at p f xs)
+  changed-other f g [] p q differs = refl
+  changed-other f g (x ∷ xs) zero zero differs = absurd (differs refl)
+  changed-other f g (x ∷ xs) zero (suc q) differs = refl
+  changed-other f g (x ∷ xs) (suc p) zero differs = refl
+  changed-other f g (x ∷ xs) (suc p) (suc q) differs = ap (λ others. x ∷ others) (changed-other f g xs p q (λ same. differs (ap suc same)))
+
+  -- two ways to change an item alike
+  pub changed-same : (f h : X → X) (xs : List X) (i : ℕ) (x : X) → x ≡ get_or xs i x → f x ≡ h x → changed_at i f xs ≡ changed_at i h xs
+  changed-same f h [] i x is same = refl
+  changed-same f h (y ∷ ys) zero x is same = ap (λ z. z ∷ ys) (ap f (sym is) ∙ same ∙ ap h is)
+  changed-same f h (y ∷ ys) (suc i) x is same = ap (λ others. y ∷ others) (changed-same f h ys i x is same)
+
+  -- one item more is changed, as each of a list is
+  pub changed-step : (h f : X → X) (xs : List X) (i : ℕ) (x : X) → i < length xs → x ≡ get_or xs i x → f x ≡ h x → changed_at i f (map h (take i xs) ++ drop i xs) ≡ map h (take (suc i) xs) ++ drop (suc i) xs
+  changed-step h f [] i x lt is same = absurd (omega (arith, lt))
+  changed-step h f (y ∷ ys) zero x lt is same = ap (λ z. z ∷ ys) (ap f (sym is) ∙ same ∙ ap h is)
+  changed-step h f (y ∷ ys) (suc i) x lt is same = ap (λ others. h y ∷ others) (changed-step h f ys i x (omega (arith, lt)) is same)
+
+-- the part is of the item at this place
+abbrev pub has_place : {P : Type 0} → ℕ → ℕ × P → Bool
+has_place place part = nat_eq place part.0
+
+module _ {X P : Type 0} (make : P → X → X) where
+  -- the last part is published first
+  pub parts-last : (xs : List X) (parts : List (ℕ × P)) (last : ℕ × P) → with_parts make (changed_at last.0 (make last.1) xs) parts ≡ with_parts make xs (parts ++ last ∷ [])
+  parts-last xs [] last = refl
+  parts-last xs (p ∷ ps) last = ap (changed_at p.0 (make p.1)) (parts-last xs ps last)
+
+  -- parts of other items
+  pub parts-other : (f : X → X) (xs : List X) (parts : List (ℕ × P)) (place : ℕ) → NonePass (has_place place) parts → with_parts make (changed_at place f xs) parts ≡ changed_at place f (with_parts make xs parts)
+  parts-other f xs [] place none = refl
+  parts-other f xs (p ∷ ps) place none =
+      ap (changed_at p.0 (make p.1)) (parts-other f xs ps place none.1)
+      ∙ sym (changed-other f (make p.1) (with_parts make xs ps) place p.0 (eqb-false place p.0 none.0))
+
+module _ {K V : Type 0} where
+  pub set-value : (ts : List (K × V)) (p : ℕ) (s : V) → set_value_at ts p s ≡ changed_at p (λ t. (t.0, s)) ts
+  set-value [] p s = refl
+  set-value (t ∷ ts) zero s = refl
+  set-value (t ∷ ts) (suc p) s = ap (λ others. t ∷ others) (set-value ts p s)
+
+  -- two ways to change a value alike
+  pub value-same : (f h : V → V) (ts : List (K × V)) (p : ℕ) (r : V) → slice_get (values_of ts) p ≡ Some r → f r ≡ h r → changed_at p (λ t. (t.0, f t.1)) ts ≡ changed_at p (λ t. (t.0, h t.1)) ts
+  value-same f h [] p r at same = refl
+  value-same f h (t ∷ ts) zero r at same = let own : t.1 ≡ r = cc in ap (λ y. (t.0, y) ∷ ts) (ap f own ∙ same ∙ ap h (sym own))
+  value-same f h (t ∷ ts) (suc p) r at same = ap (λ others. t ∷ others) (value-same f h ts p r at same)
+
+  -- a value that is set to what it is
+  pub set-same : (ts : List (K × V)) (p : ℕ) (r s : V) → slice_get (values_of ts) p ≡ Some r → s ≡ r → set_value_at ts p s ≡ ts
+  set-same ts p r s at is = set-value ts p s ∙ value-same (λ _. s) (λ y. y) ts p r at is ∙ changed-not ts p
+
+  pub keys-changed : (f : V → V) (ts : List (K × V)) (p : ℕ) → keys_of (changed_at p (λ t. (t.0, f t.1)) ts) ≡ keys_of ts
+  keys-changed f [] p = refl
+  keys-changed f (t ∷ ts) zero = refl
+  keys-changed f (t ∷ ts) (suc p) = ap (λ keys. t.0 ∷ keys) (keys-changed f ts p)
+
+module _ {A : Type 0} where
+  pub keys-parts : (ts : AttachedTables A) (parts : List (ℕ × Records A)) → keys_of (with_parts with_records ts parts) ≡ keys_of ts
+  keys-parts ts [] = refl
+  keys-parts ts (p ∷ ps) = keys-changed (λ _. p.1) (with_parts with_records ts ps) p.0 ∙ keys-parts ts ps
+
+  -- records that are there already are changed
+  pub parts-first : (f : Records A → Records A) (ts : AttachedTables A) (parts : List (ℕ × Records A)) (place i : ℕ) (new d : ℕ × Records A) → IsFirst (has_place place) parts i → new.0 ≡ (get_or parts i d).0 → new.1 ≡ f (get_or parts i d).1
+      → with_parts with_records ts (set parts i new) ≡ changed_at place (λ t. (t.0, f t.1)) (with_parts with_records ts parts)
+  parts-first f ts [] place i new d first own made = absurd first
+  parts-first f ts (p ∷ ps) place zero new d first own made =
+      let here : place ≡ p.0 = eqb-true place p.0 first in
+      ap₂ (λ q s. changed_at q (with_records s) (with_parts with_records ts ps)) (own ∙ sym here) made
+      ∙ sym (changed-twice (λ t. (t.0, f t.1)) (with_records p.1) (with_parts with_records ts ps) place)
+      ∙ ap (λ q. changed_at place (λ t. (t.0, f t.1)) (changed_at q (with_records p.1) (with_parts with_records ts ps))) here
+  parts-first f ts (p ∷ ps) place (suc i) new d first own made =
+      ap (changed_at p.0 (with_records p.1)) (parts-first f ts ps place i new d first.1 own made)
+      ∙ sym (changed-other (λ t. (t.0, f t.1)) (with_records p.1) (with_parts with_records ts ps) place p.0 (eqb-false place p.0 first.0))
+
+  -- what is made of a table that no part is of, beside it or not at all
+  module _ (make : List ℕ × Records A → List ℕ × Records A) (ts : AttachedTables A) (parts : List (ℕ × Records A)) (place : ℕ) (none : NonePass (has_place place) parts) where
+    pub parts-push : (s : Records A) → changed_at place (with_records s) ts ≡ changed_at place make ts → with_parts with_records ts (parts ++ (place, s) ∷ []) ≡ changed_at place make (with_parts with_records ts parts)
+    parts-push s is = sym (parts-last with_records ts parts (place, s)) ∙ ap (λ tables. with_parts with_records tables parts) is ∙ parts-other with_records make ts parts place none
+
+    pub parts-stay : ts ≡ changed_at place make ts → with_parts with_records ts parts ≡ changed_at place make (with_parts with_records ts parts)
+    parts-stay is = ap (λ tables. with_parts with_records tables parts) is ∙ parts-other with_records make ts parts place none
+
+  -- a table more whose records are forgotten
+  pub forget-step : (ts : AttachedTables A) (i : ℕ) → i < length ts → set_value_at (forget (take i ts) ++ drop i ts) i [] ≡ forget (take (suc i) ts) ++ drop (suc i) ts
+  forget-step [] i lt = absurd (omega arith)
+  forget-step (t ∷ ts) zero lt = refl
+  forget-step (t ∷ ts) (suc i) lt = ap (λ others. (t.0, []) ∷ others) (forget-step ts i (omega (arith, lt)))
