@@ -1,8 +1,7 @@
-//! A row got by its key, put under it, taken out from under it, or replaced by one that is made of it, in
-//! place and by one search. Whoever judges a put or a take by the row that it finds makes the change first,
-//! and puts the row back where the change is not to be.
-ghost use Rattle.std.specs.Prelude.{◌≡◌, length, IfOk, IfSome, OnOk, OnErr, Some};
-ghost use Rattle.std.specs.Option.{option_copied};
+//! A row put under its key, taken out from under it, or replaced by one that is made of it, in place and by
+//! one search. Whoever judges a put or a take by the row that it finds makes the change first, and puts the
+//! row back where the change is not to be.
+ghost use Rattle.std.specs.Prelude.{◌≡◌, length, IfOk, OnOk, OnErr, Some};
 ghost use Rattle.cap_row.specs.Key.{key_of, fields_cmp};
 ghost use Rattle.cap_row.specs.Fields.{Fields};
 ghost use Rattle.cap_tree.specs.Replace.{Replaces};
@@ -17,14 +16,6 @@ use cap_tree::Remake;
 use cap_value::{AllocHandle, Fault, OutOfMemory};
 
 impl<A: AllocHandle> Table<A> {
-    /// The row of a key.
-    pub fn get_keyed(&self, key: &Key<A>) -> Option<&Row<A>>
-        ensures row { option_copied result ≡ get fields_cmp self.now.keyed key.now }
-        ensures width { IfSome result (λ row. length row.now ≡ length self.now.schema) }
-    {
-        self.keyed.get(key)
-    }
-
     /// Puts a row under its own key, and answers the row that was there, if any. It searches once.
     ///
     /// On an error the table is as before.
