@@ -46,20 +46,12 @@ pub other_false : (a b : Bool) → (a || b) ≡ false → b ≡ false
 other_false true b is = cc
 other_false false b is = is
 
-second_true : (a b : Bool) → (a && b) ≡ true → b ≡ true
-second_true true b is = is
-second_true false b is = cc
-
 -- what was found
 pub same_found : {X : Type 0} (a b : X) → Some a ≡ Some b → a ≡ b
 same_found a b is = cc
 
 -- an item that is found in the first list, or in the second where none is in the first
 module _ {X : Type 0} (test : X → Bool) where
-  pub none-any : (xs : List X) → list_any test xs ≡ false → find test xs ≡ None
-  none-any [] none = refl
-  none-any (x ∷ xs) none = elim (test x) as (λ b. (b || list_any test xs) ≡ false → cond b (Some x) (find test xs) ≡ None) [ true ↦ λ e. cc | false ↦ λ e. none-any xs e ] none
-
   pub any-none : (xs : List X) → find test xs ≡ None → list_any test xs ≡ false
   any-none [] none = refl
   any-none (x ∷ xs) none = elim (test x) as (λ b. cond b (Some x) (find test xs) ≡ None → (b || list_any test xs) ≡ false) [ true ↦ λ e. cc | false ↦ λ e. any-none xs e ] none

@@ -36,11 +36,6 @@ set_same (x ∷ xs) zero d l = refl
 set_same (x ∷ xs) (suc i) d l = ap (λ t. x ∷ t) (set_same xs i d (omega arith))
 
 module _ {A : Type 0} (ts : Tables A) (op : Op A) (t : TableState A) (there : table_of ts op.table ≡ Some t) where
-  pub step_leaves : {X : Type 0} (r : Result X (Fault Refusal)) (new : TableState A) → LeavesUnlessMemory r (act t op.action) new → LeavesUnlessMemory r (step ts op) (put_entry bytes_cmp ts op.table new)
-  step_leaves (Ok x) new l = ap (λ found. stepped ts found op) there ∙ ap (in_place ts op.table) l
-  step_leaves (Err (Refused why)) new l = ap (λ found. stepped ts found op) there ∙ ap (in_place ts op.table) l
-  step_leaves (Err OutOfMemory) new l = tt
-
   pub told : {X : Type 0} (r : Result X (Fault Refusal)) (f : X → List (Change A)) → IfOk r (λ x. f x ≡ changes_to op.table op.cause (changed_rows t op.action)) → IfOk r (λ x. f x ≡ changes ts op)
   told (Ok x) f l = l ∙ ap (λ found. changes_in found op) (sym there)
   told (Err e) f l = tt
@@ -65,13 +60,7 @@ module _ {A : Type 0} where
   pub after_step : (ts new : Tables A) → AreTables ts → IsOrdered bytes_cmp new → length new ≡ length ts → EachRises new → AreTables new
   after_step ts new h ordered same each = record { ordered = ordered; few = rw same h.few; each = each }
 
-  pub absent_table : (ts : Tables A) (op : Op A) → table_of ts op.table ≡ None → step ts op ≡ stepped ts None op
-  absent_table ts op none = ap (λ found. stepped ts found op) none
-
 module _ {A : Type 0} (ts : Tables A) (name : List ℕ) where
-  pub exists_already : is_some (table_of ts name) ≡ true → refused_create ts name ≡ Some TableExists
-  exists_already there = rw there
-
   pub too_many : is_some (table_of ts name) ≡ false → 64 ≤ length ts → refused_create ts name ≡ Some TooMany
   too_many there many = let below : nat_lt (length ts) 64 ≡ false = grind (arith, nat_tests) in rw (there, below)
 

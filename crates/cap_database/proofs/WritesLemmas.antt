@@ -87,10 +87,6 @@ module _ {K X : Type 0} (R : K → K → Ordering) (o : IsTotalOrder R) (same : 
   sets es [] = es
   sets es (w ∷ ws) = sets (set_at es w.0 w.1) ws
 
-  pub sorted-sets : (es : List (K × X)) (ws : List (K × Option X)) → is_sorted R es ≡ true → is_sorted R (sets es ws) ≡ true
-  sorted-sets es [] s = s
-  sorted-sets es (w ∷ ws) s = sorted-sets (set_at es w.0 w.1) ws (sorted-set es w.0 w.1 s)
-
   -- what no write is at stays
   pub get-sets : (es : List (K × X)) (ws : List (K × Option X)) (q : K) → is_sorted R es ≡ true → AllByRecursion (λ w. w.0 ≡ q → ⊥) ws → get R (sets es ws) q ≡ get R es q
   get-sets es [] q s apart = refl

@@ -15,9 +15,6 @@ use Rattle.cap_session.proofs.PlaceLemmas.{IsFirst, NonePass, is-first, is-none,
 use Rattle.cap_session.proofs.TableLemmas.{touch-none, touched-first}
 
 module _ {A : Type 0} where
-  pub place-there : (name : List ℕ) (ts : AttachedTables A) (place : ℕ) → position (bytes_eq name) (keys_of ts) ≡ Some place → place < length ts
-  place-there name ts place at = let lt = place-within (bytes_eq name) (keys_of ts) place at in omega (arith, lt, length-map ts (λ t. t.0))
-
   module _ (name : List ℕ) (touches : List (Touch A)) (ts : AttachedTables A) where
     -- touches of the table that stands at the place of the name, among these tables or others with their names
     pub noted : (keys : List (List ℕ)) (place : ℕ) → keys_of ts ≡ keys → position (bytes_eq name) keys ≡ Some place → IsDistinct bytes_eq keys

@@ -58,10 +58,6 @@ module _ {A : Type 0} (name : List ℕ) where
       nothing None is = refl
       nothing (Some x) is = cc
 
-pub new-absent : (l a : Bool) → (not l && a) ≡ true → l ≡ false
-new-absent true a is = cc
-new-absent false a is = refl
-
 -- no rule attaches a table
 pub nothing-attached : {A : Type 0} (changes : List (Change A)) (ts : AttachedTables A) → attach_by_rule Nothing changes ts ≡ ts
 nothing-attached [] ts = refl
