@@ -20,7 +20,7 @@ use Rattle.cap_database.specs.Keyed.{GoesBack, IsOwnRow, row_set, set_in, with_r
 use Rattle.cap_database.specs.Read.{row_at}
 use Rattle.cap_database.specs.Tables.{AreTables, Tables, table_of}
 use Rattle.cap_database.proofs.KeptLemmas.{each-found, each-put, names_same}
-use Rattle.cap_database.proofs.PlaceLemmas.{ordered_put}
+use Rattle.cap_tree.proofs.EntryLemmas.{ordered_put}
 use Rattle.cap_database.proofs.UndoneLemmas.{put-found}
 
 module _ {K V : Type 0} (R : K → K → Ordering) (o : IsTotalOrder R) where
@@ -51,7 +51,7 @@ module _ {K V : Type 0} (R : K → K → Ordering) (o : IsTotalOrder R) where
         | Greater ↦ λ p found. ap (λ x. e ∷ x) (there-already same es k v s.1 found)
       ] refl is
 
-one_table : {X : Type 0} (found : Option X) (x y : X) → found ≡ Some x → found ≡ Some y → x ≡ y
+pub one_table : {X : Type 0} (found : Option X) (x y : X) → found ≡ Some x → found ≡ Some y → x ≡ y
 one_table found x y first second = cc
 
 module _ {A : Type 0} where

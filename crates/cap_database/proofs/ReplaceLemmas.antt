@@ -16,12 +16,9 @@ use Rattle.cap_database.specs.Keyed.{IsOwnRow, set_in}
 use Rattle.cap_database.specs.Read.{row_at}
 use Rattle.cap_database.specs.Replace.{MakesOwnRows, ReplacesRow}
 use Rattle.cap_database.specs.Tables.{AreTables, Tables, table_of}
-use Rattle.cap_database.proofs.BackLemmas.{put-tables, there-already}
+use Rattle.cap_database.proofs.BackLemmas.{one_table, put-tables, there-already}
 use Rattle.cap_database.proofs.KeptLemmas.{each-found, names_same}
 use Rattle.std.proofs.lemmas.Cmp.{nat_list_cmp_total}
-
-one_table : {X : Type 0} (found : Option X) (x y : X) → found ≡ Some x → found ≡ Some y → x ≡ y
-one_table found x y first second = cc
 
 module _ {A E S : Type 0} (gives : S → Fields A → Result (Fields A) E → S → Type 0) (tables : Tables A) (name : List ℕ) (key : Fields A) (old s : S) where
   -- the tables stay in order, and so do the rows of each

@@ -1,5 +1,5 @@
 -- Operations on different rows of one table of a database.
-use Rattle.std.proofs.Common.{◌≡◌, ℕ, true, false, cond, Option, Some, Ok, List, refl, sym, ap, ◌∙◌}
+use Rattle.std.proofs.Common.{◌≡◌, ℕ, true, false, cond, Some, Ok, List, refl, sym, ap, ◌∙◌}
 use Rattle.std.specs.Prelude.{option_and_then}
 use Rattle.std.specs.Option.{option_map}
 use Rattle.std.specs.Ordering.{eq_by_cmp}
@@ -15,12 +15,10 @@ use Rattle.cap_database.specs.Read.{row_at}
 use Rattle.cap_database.specs.Tables.{AreRising, Tables, table_of}
 use Rattle.cap_database.specs.declared.op.Op.{Op}
 use Rattle.cap_database.proofs.CommuteLemmas.{Stepped, steps, was_stepped}
+use Rattle.cap_database.proofs.BackLemmas.{one_table}
 use Rattle.cap_database.proofs.KeptLemmas.{each-found, get-put}
 use Rattle.cap_database.proofs.RowsLemmas.{rows-commute}
 use Rattle.cap_database.proofs.UndoneLemmas.{put-again, put-found}
-
-one_table : {X : Type 0} (found : Option X) (x y : X) → found ≡ Some x → found ≡ Some y → x ≡ y
-one_table found x y first second = cc
 
 some_same : (m n : ℕ) → Some m ≡ Some n → m ≡ n
 some_same m n e = cc

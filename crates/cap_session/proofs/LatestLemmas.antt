@@ -1,8 +1,7 @@
 -- Records of a tree with one more at its key: their number, and what is found.
-use Rattle.std.proofs.Common.{◌≡◌, ◌+◌, ◌-◌, ℕ, zero, suc, arith, Bool, true, false, cond, Option, Some, None, List, [], ◌∷◌, length, refl, sym, ap, ap₂, subst, ◌∙◌, Ordering, Less, Equal, Greater}
+use Rattle.std.proofs.Common.{◌≡◌, ◌+◌, ℕ, Bool, true, false, cond, Option, Some, None, List, [], ◌∷◌, length, refl, sym, ap, ap₂, subst, ◌∙◌, Ordering, Less, Equal, Greater}
 use Rattle.std.specs.Ordering.{is_eq, match_ordering}
-use Rattle.std.specs.List.Sorted.{IsStrictlySortedBy}
-use Rattle.std.specs.Prelude.{is_some, slice_get}
+use Rattle.std.specs.Prelude.{is_some}
 use Rattle.cap_row.specs.Fields.{Fields}
 use Rattle.cap_row.specs.Key.{fields_cmp, fields_cmp_total, fields_eq}
 use Rattle.cap_tree.specs.Shape.{EachBelow}
@@ -33,23 +32,6 @@ module _ {A : Type 0} where
   above_none : (q : Fields A) (records : Records A) → EachBelow fields_cmp q records → get fields_cmp records q ≡ None
   above_none q [] each = refl
   above_none q (r ∷ rs) each = rw each.0 (above_none q rs each.1)
-
-  -- a key above the last one is above each
-  past_at : (q : Fields A) (records : Records A) (i : ℕ) (x : Fields A × Record A) → IsOrdered fields_cmp records → i + 1 ≡ length records → slice_get records i ≡ Some x → fields_cmp q x.0 ≡ Greater → EachBelow fields_cmp q records
-  unfolding IsStrictlySortedBy
-  past_at q [] i x s is at h = tt
-  past_at q (e ∷ []) zero x s is at h = (cc, tt)
-  past_at q (e ∷ []) (suc i) x s is at h = absurd (omega arith)
-  past_at q (e ∷ f ∷ fs) zero x s is at h = absurd (omega arith)
-  past_at q (e ∷ f ∷ fs) (suc i) x s is at h =
-      let rest = past_at q (f ∷ fs) i x s.1 (omega arith) at h in (
-        reversed fields_cmp_total e.0 q Less (fields_cmp_total.trans e.0 f.0 q s.0.0 (reversed fields_cmp_total q f.0 Greater rest.0)),
-        rest,
-      )
-
-  pub past_last : (q : Fields A) (records : Records A) (x : Fields A × Record A) → IsOrdered fields_cmp records → slice_get records (length records - 1) ≡ Some x → fields_cmp q x.0 ≡ Greater → EachBelow fields_cmp q records
-  past_last q [] x s at h = tt
-  past_last q (r ∷ rs) x s at h = past_at q (r ∷ rs) (length (r ∷ rs) - 1) x s (omega arith) at h
 
   -- The records of a tree and the one that was put last, where there is one.
   module _ (tree : Records A) (latest : Option (Fields A × Record A)) (last : Fields A × Record A) (is : latest ≡ Some last) where

@@ -1,6 +1,5 @@
 -- Touches of the table of a name.
-use Rattle.std.proofs.Common.{◌≡◌, ◌<◌, ◌||◌, ℕ, Bool, true, false, cond, Some, None, List, [], ◌∷◌, length, refl, sym, ap, ap₂, subst, arith}
-use Rattle.std.proofs.lemmas.List.{length-map}
+use Rattle.std.proofs.Common.{◌≡◌, ◌||◌, ℕ, Bool, true, false, cond, Some, None, List, [], ◌∷◌, refl, sym, ap, ap₂, subst}
 use Rattle.std.specs.List.{IsDistinct, position}
 use Rattle.std.specs.Map.{keys_of}
 use Rattle.std.specs.Cmp.Lexicographic.{bytes_decides}
@@ -11,7 +10,7 @@ use Rattle.cap_session.specs.Delta.{changed_at}
 use Rattle.cap_session.specs.Recording.{is_cascade, record_diff, touch_table, touches_of}
 use Rattle.cap_session.specs.Records.{Touch, with_touches}
 use Rattle.cap_session.specs.Session.{AttachedTables, SessionState, attach, attached}
-use Rattle.cap_session.proofs.PlaceLemmas.{IsFirst, NonePass, is-first, is-none, place-within}
+use Rattle.cap_session.proofs.PlaceLemmas.{IsFirst, NonePass, is-first, is-none}
 use Rattle.cap_session.proofs.TableLemmas.{touch-none, touched-first}
 
 module _ {A : Type 0} where

@@ -18,9 +18,7 @@ use Rattle.cap_table.specs.declared.row_ref.RowRef.TheVariants.{Key, Loose}
 use Rattle.cap_table.specs.Ids.{GivesIdsOnce}
 use Rattle.cap_table.specs.Operation.{delete_row, insert_row, moved, placed, row_of, under_key, under_next_id, updated, update_row, with_id, with_key, without}
 use Rattle.cap_table.specs.Table.{TableState}
-
-is_same : (m n : ℕ) → (m == n) ≡ true → m ≡ n
-is_same m n e = grind (arith, nat_tests)
+use Rattle.cap_table.proofs.TableLemmas.{is_same_length}
 
 is_other : (m n : ℕ) → (m == n) ≡ false → m ≡ n → ⊥
 is_other m n e is = grind (arith, nat_tests)
@@ -102,7 +100,7 @@ module _ {A : Type 0} where
   with_id-once : (t : TableState A) (id : ℕ) (row : Fields A) → is_some (get nat_cmp t.loose id) ≡ true → GivesIdsOnce t (with_id t id row)
   with_id-once t id row stood = same_ids t (with_id t id row) refl (λ q some.
       elim (id == q) as (λ b. (id == q) ≡ b → is_some (get nat_cmp t.loose q) ≡ true) [
-        | true ↦ λ e. subst (λ n. is_some (get nat_cmp t.loose n) ≡ true) (is_same id q e) stood
+        | true ↦ λ e. subst (λ n. is_some (get nat_cmp t.loose n) ≡ true) (is_same_length id q e) stood
         | false ↦ λ e. ap is_some (sym (after-put t.loose id q row (is_other id q e))) ∙ some
       ] refl)
 
@@ -122,7 +120,7 @@ module _ {A : Type 0} where
   next-once : (t : TableState A) (row : Fields A) → GivesIdsOnce t (record (with_id t t.next_id row) { next_id = t.next_id + 1 })
   next-once t row = once t (record (with_id t t.next_id row) { next_id = t.next_id + 1 }) (omega arith) (λ q none some.
       elim (t.next_id == q) as (λ b. (t.next_id == q) ≡ b → (t.next_id ≤ q) × (q < t.next_id + 1)) [
-        | true ↦ λ e. let is = is_same t.next_id q e in (omega (arith, is), omega (arith, is))
+        | true ↦ λ e. let is = is_same_length t.next_id q e in (omega (arith, is), omega (arith, is))
         | false ↦ λ e. let clash : true ≡ false = sym some ∙ ap is_some (after-put t.loose t.next_id q row (is_other t.next_id q e)) ∙ none in cc
       ] refl)
 

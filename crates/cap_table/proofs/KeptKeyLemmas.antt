@@ -1,14 +1,13 @@
 -- An update that sets no key column leaves each row its key.
 use Rattle.std.proofs.Common.{◌≡◌, ℕ, suc, ◌+◌, Bool, true, false, List, [], ◌∷◌, map, get_or, refl, ap, subst, arith}
-use Rattle.std.specs.Prelude.{◌==◌, not, Option, Some, None, length, cond}
+use Rattle.std.specs.Prelude.{not}
 use Rattle.std.specs.List.{list_any, enumerate_from}
 use Rattle.std.proofs.lemmas.Bool.Decides.{nat_tests}
 use Rattle.cap_value.specs.declared.value.Value.{Value}
 use Rattle.cap_row.specs.Fields.{Fields}
 use Rattle.cap_row.specs.Key.{key_fields, key_from, key_of}
 use Rattle.cap_row.specs.Row.{new_value, row_with}
-use Rattle.cap_table.specs.KeptKey.{keeps_key, new_key}
-use Rattle.cap_table.specs.Table.{TableState}
+use Rattle.cap_table.specs.KeptKey.{keeps_key}
 
 not_any : (b : Bool) → not b ≡ true → b ≡ false
 not_any true is = cc

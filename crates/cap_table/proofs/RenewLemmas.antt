@@ -1,11 +1,10 @@
 -- An update that leaves the key, made of the row that is found.
-use Rattle.std.proofs.Common.{◌≡◌, ℕ, Bool, true, cond, Option, Some, None, List, Ok, Err, Result, length, refl, sym, ap, subst, ◌∙◌}
-use Rattle.std.specs.Prelude.{is_some, ◌==◌}
+use Rattle.std.proofs.Common.{◌≡◌, ℕ, true, cond, Option, Some, None, List, Ok, Err, Result, length, refl, sym, ap, subst, ◌∙◌}
+use Rattle.std.specs.Prelude.{is_some}
 use Rattle.std.specs.Option.{option_map}
 use Rattle.std.specs.Cmp.{Equal-is, tied_itself}
 use Rattle.std.proofs.lemmas.List.{length-map}
 use Rattle.std.proofs.lemmas.List.FromFn.{length-enumerate_from}
-use Rattle.cap_value.specs.declared.refusal.Refusal.{Refusal as Why}
 use Rattle.cap_value.specs.declared.refusal.Refusal.TheVariants.{BadColumn, NoRow}
 use Rattle.cap_value.specs.declared.value.Value.{Value}
 use Rattle.cap_row.specs.Fields.{Fields}
@@ -15,26 +14,15 @@ use Rattle.cap_tree.specs.Tree.{get, put_entry}
 use Rattle.cap_table.specs.WithHook.{LeavesOnceAllowed}
 use Rattle.cap_table.specs.Hooked.{GivesRenewed}
 use Rattle.cap_table.specs.Operation.{moved, row_of, under_key, update_row, updated, with_key, without}
-use Rattle.cap_table.specs.Sound.{IsTable, is_key_of, keyed_stands}
+use Rattle.cap_table.specs.Sound.{IsTable}
 use Rattle.cap_table.specs.Table.{TableState}
 use Rattle.cap_table.specs.declared.not_made.NotMade.{NotMade}
 use Rattle.cap_table.specs.declared.not_made.NotMade.TheVariants.{Refused, OutOfMemory, Vetoed}
 use Rattle.cap_table.specs.declared.row_ref.RowRef.TheVariants.{Key}
-use Rattle.cap_table.proofs.TableLemmas.{fields_same, first, found-passes, is_same_length, put_keyed, second, tied}
+use Rattle.cap_table.proofs.BackLemmas.{own-row}
+use Rattle.cap_table.proofs.TableLemmas.{put_keyed}
 
 module _ {A : Type 0} where
-  its-own : (own : Option (Fields A)) (key : Fields A) → is_key_of own key ≡ true → own ≡ Some key
-  its-own None key is = cc
-  its-own (Some own) key is = ap Some (tied fields_cmp own key fields_same is)
-
-  -- a row that is found has the table's width, and its own key
-  pub own_row : (t : TableState A) (key row : Fields A) → IsTable t → get fields_cmp t.keyed key ≡ Some row → (length row ≡ length t.schema) × (key_of t.schema row ≡ Some key)
-  own_row t key row h there =
-      let passes = found-passes fields_cmp (λ row. keyed_stands t.schema row.0 row.1) fields_same t.keyed key row h.keyed there in (
-        is_same_length (length row) (length t.schema) (first (length row == length t.schema) (is_key_of (key_of t.schema row) key) passes),
-        its-own (key_of t.schema row) key (second (length row == length t.schema) (is_key_of (key_of t.schema row) key) passes),
-      )
-
   module _ (t : TableState A) (key : Fields A) (changes : List (ℕ × Value A)) where
     pub no-row : are_columns (length t.schema) (columns_of changes) ≡ true → get fields_cmp t.keyed key ≡ None → update_row t (Key key) changes ≡ Err NoRow
     no-row cols none = ap (λ b. cond b (updated t (Key key) changes (row_of t (Key key))) (Err BadColumn)) cols ∙ ap (λ o. updated t (Key key) changes o) none
@@ -44,7 +32,7 @@ module _ {A : Type 0} where
       with-ok = ap (λ b. cond b (Ok (row_with changes row)) (Err BadColumn)) cols
 
       pub stands : (length row ≡ length t.schema) × (key_of t.schema row ≡ Some key)
-      stands = own_row t key row h there
+      stands = own-row t key row h there
 
       pub updated-to : update_row t (Key key) changes ≡ Ok (with_key t key (row_with changes row))
       updated-to =

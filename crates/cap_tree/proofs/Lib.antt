@@ -5,7 +5,7 @@ mod CutLemmas
 pub mod Crossing
 pub mod EntryLemmas
 mod HeightLemmas
-mod LeafLemmas
+pub mod LeafLemmas
 mod ChildLemmas
 mod PathLemmas
 mod PlaceLemmas
