@@ -5,7 +5,7 @@ use Rattle.cap_tree.specs.Tree.{put_entry}
 use Rattle.cap_session.specs.Records.{Records, Touch, touch}
 use Rattle.cap_session.proofs.AddedLemmas.{makes-push, makes-stay}
 use Rattle.cap_session.proofs.DeltaLemmas.{changed-not, value-same}
-use Rattle.cap_session.proofs.delta.put_beside.Goals as goal
+use Rattle.cap_session.proofs.delta.reserve_record.Goals as goal
 
 pub returns-in_ok-push-clause-touched : goal.returns-in_ok-push-clause-touched
 returns-in_ok-push-clause-touched g c = λ tables at.

@@ -1,7 +1,7 @@
 use Rattle.std.proofs.Common.{◌≡◌, drop}
 use Rattle.cap_session.specs.Recording.{touch_tables}
 use Rattle.cap_session.proofs.AddedLemmas.{AreLeft}
-use Rattle.cap_session.proofs.delta.touch_beside.Given as goal
+use Rattle.cap_session.proofs.delta.reserve_touches.Given as goal
 
 abbrev pub invariant-loop-change : goal.invariant-loop-change
 invariant-loop-change g l =

@@ -2,10 +2,10 @@ use Rattle.std.proofs.Common.{◌≡◌, ◌+◌, [], ◌∷◌, drop, length, a
 use Rattle.std.proofs.lemmas.List.{drop_all}
 use Rattle.cap_session.specs.Code.Added.{Makes}
 use Rattle.cap_session.specs.Recording.{touch_table, touch_tables, touches_of}
-use Rattle.cap_session.proofs.AddedLemmas.{beside-same, none-beside}
+use Rattle.cap_session.proofs.AddedLemmas.{reserved-same, none-reserved}
 use Rattle.cap_session.proofs.CommitLemmas.{no-change, one-more, one-table}
 use Rattle.cap_session.proofs.ListLemmas.{drop-item}
-use Rattle.cap_session.proofs.delta.touch_beside.Goals as goal
+use Rattle.cap_session.proofs.delta.reserve_touches.Goals as goal
 
 pub loop-change-init : goal.loop-change-init
 loop-change-init g c =
@@ -13,7 +13,7 @@ loop-change-init g c =
       refl,
       record {
         now = ts;
-        beside = none-beside c.args.session ts c.args.touched.now.items;
+        reserved = none-reserved c.args.session ts c.args.touched.now.items;
         left = refl;
       },
     )
@@ -35,7 +35,7 @@ loop-change-preserved g c =
       c.touch_by.ensures.kept ∙ same,
       record {
         now = make left.now;
-        beside = makes others left.now starts left.beside;
+        reserved = makes others left.now starts left.reserved;
         left =
             ap (touch_tables indirect rest) (one-table indirect change left.now) ∙ one-more indirect change rest left.now
             ∙ ap (λ cs. touch_tables indirect cs left.now) (sym (drop-item changes i change c.loop-change-test.true c.change-item.is)) ∙ left.left;
@@ -50,5 +50,5 @@ returns-clause-touched g c =
     let ts = c.args.tables.now.entries in
     let indirect = c.args.indirect in
     let left = c.loop-change.invariant.1 in
-    beside-same c.args.session ts left.now (touch_tables indirect c.args.changes.now ts) c.args.touched.now.items c.loop-change.touched.items
-    (sym (ap (λ rest. touch_tables indirect rest left.now) (drop_all c.loop-change.change-index c.args.changes.now c.loop-change-test.false) ∙ no-change indirect left.now) ∙ left.left) left.beside
+    reserved-same c.args.session ts left.now (touch_tables indirect c.args.changes.now ts) c.args.touched.now.items c.loop-change.touched.items
+    (sym (ap (λ rest. touch_tables indirect rest left.now) (drop_all c.loop-change.change-index c.args.changes.now c.loop-change-test.false) ∙ no-change indirect left.now) ∙ left.left) left.reserved
