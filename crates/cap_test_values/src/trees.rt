@@ -72,47 +72,6 @@ fn each_call_succeeds_with_ample_memory(rt: HostRuntime) -> Result<(), Fail> {
     Ok(())
 }
 
-fn entries(alloc: Global, count: u64) -> Result<Vec<(u64, u64)>, AllocError> {
-    let mut entries = Vec::new(alloc);
-    for n in 1..=count {
-        entries.push((n, n.wrapping_mul(10)))?;
-    }
-    Ok(entries)
-}
-
-// The tree of the entries; none where they do not rise.
-fn sorted(alloc: Global, entries: Vec<(u64, u64)>) -> Option<Numbers<Global>> {
-    match Tree::from_sorted(alloc, entries) {
-        Ok(tree) => tree,
-        Err(_) => None,
-    }
-}
-
-// The height of the tree of so many entries, where it has just these.
-fn sorted_height(alloc: Global, count: u64) -> Option<u64> {
-    let tree = sorted(alloc, entries(alloc, count).ok()?)?;
-    is_rising(&tree, count).then_some(tree.height())
-}
-
-// Whether there is no tree of two entries with one key.
-fn is_refused_twice(alloc: Global) -> Option<bool> {
-    let twice = vec![in alloc; (1, 10), (2, 20), (2, 30)].ok()?;
-    match Tree::<u64, u64, Global>::from_sorted(alloc, twice) {
-        Ok(tree) => Some(tree.is_none()),
-        Err(_) => None,
-    }
-}
-
-#[test]
-fn a_tree_of_a_sorted_list(rt: HostRuntime) {
-    for count in [0u64, 1, 2, 3, 100, 1000] {
-        let highest = u64::from(u64::BITS - count.leading_zeros());
-        let height = sorted_height(rt.alloc(), count);
-        assert!(rt; height.is_some() && height <= Some(highest));
-    }
-    assert!(rt; is_refused_twice(rt.alloc()) == Some(true));
-}
-
 // The changes that are refused their memory in turn: each of the tree of the numbers up to 100.
 #[derive(Clone, Copy, Drop)]
 enum Change {

@@ -1,5 +1,4 @@
 mod BranchLemmas
-mod BuildLemmas
 mod ChangeLemmas
 mod CutLemmas
 pub mod Crossing

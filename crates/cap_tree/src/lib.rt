@@ -3,7 +3,6 @@
 //! the others in place.
 #![tactic(auto)]
 
-mod build;
 mod change;
 mod child;
 mod find;

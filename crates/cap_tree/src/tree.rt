@@ -1,6 +1,6 @@
 //! The tree, seen as the list of its entries in the order of their keys.
 ghost use Rattle.std.specs.Prelude.{◌≡◌, ℕ, ◌+◌, ◌-◌, ◌*◌, ◌^◌, ◌<◌, ◌≤◌, [], ◌++◌, length, slice_get};
-ghost use Rattle.std.specs.Prelude.{IfNone, IfSome, IsTrue, IsSome, IfOk, IfErr, OnOk, OnErr, Ok, Err, None};
+ghost use Rattle.std.specs.Prelude.{IfNone, IfSome, IsTrue, IfOk, IfErr, OnOk, OnErr, Ok, Err, None};
 ghost use Rattle.std.specs.Prelude.{Some, is_some, if◌then◌else◌, ◌↔◌};
 ghost use Rattle.std.specs.Option.{option_copied};
 ghost use Rattle.std.specs.List.{All};
@@ -11,7 +11,6 @@ ghost use Rattle.cap_tree.specs.Replace.{Replaces};
 ghost use Rattle.cap_tree.specs.Root.{IsTop};
 ghost use Rattle.cap_tree.specs.Tree.{IsOrdered, get, put_entry, take_entry, Updates};
 
-use crate::build::{build, is_ordered};
 use crate::change::{Put, Take, ask_for_none};
 use crate::find::{find, last};
 use crate::hook::Hook;
@@ -334,19 +333,6 @@ impl<K: Ord + Exact + Drop, V: Exact + Drop, A: AllocHandle> Tree<K, V, A> {
         let mut whole = self.snapshot()?;
         whole.insert(key, value)?;
         Ok(whole)
-    }
-
-    /// The tree of a list of entries, or none where some key is not below the one that follows it. It takes
-    /// time in proportion to the number of entries, and its nodes are as full as they can be.
-    pub fn from_sorted(alloc: A, entries: Vec<(K, V), A>) -> Result<Option<Self>, OutOfMemory>
-        ensures entries { IfOk result (λ o. IfSome o (λ t. t ≡ entries.items)) }
-        ensures ordered { IfOk result (λ o. IsSome o ↔ IsOrdered K.cmp entries.items) }
-    {
-        if !is_ordered(entries.as_slice()) {
-            return Ok(None);
-        }
-        let root = build(alloc, entries)?;
-        Ok(Some(Tree { alloc, root }))
     }
 }
 
