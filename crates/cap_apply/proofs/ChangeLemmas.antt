@@ -1,13 +1,11 @@
 -- One change: the operations of the code make the requested change.
-use Rattle.std.proofs.Common.{◌≡◌, ℕ, ◌≤◌, Bool, true, false, cond, Option, Some, None, Result, Ok, Err, List, [], ◌∷◌, ◌++◌, length, map, refl, sym, ap, ◌∙◌, arith}
+use Rattle.std.proofs.Common.{◌≡◌, ℕ, ◌≤◌, Bool, true, false, cond, Option, Some, None, Result, Ok, Err, List, [], ◌∷◌, ◌++◌, length, refl, sym, ap, ◌∙◌, arith}
 use Rattle.std.specs.Prelude.{is_some}
-use Rattle.std.proofs.lemmas.List.{length-map}
 use Rattle.cap_value.specs.Bytes.{bytes_cmp}
 use Rattle.cap_value.specs.Memory.{AnswersUnlessMemory, LeavesUnlessMemory}
 use Rattle.cap_value.specs.declared.memory.Fault.{Fault}
 use Rattle.cap_value.specs.declared.memory.Fault.TheVariants.{Refused, OutOfMemory}
 use Rattle.cap_value.specs.declared.refusal.Refusal.{Refusal}
-use Rattle.cap_value.specs.declared.refusal.Refusal.TheVariants.{Duplicate}
 use Rattle.cap_row.specs.Fields.{Fields}
 use Rattle.cap_row.specs.Key.{fields_cmp, key_of}
 use Rattle.cap_row.specs.Schema.{has_key}
@@ -34,12 +32,12 @@ use Rattle.cap_apply.specs.Policy.{is_made, made_anyway}
 use Rattle.cap_apply.specs.Row.{assigned_from, conflict_of, key_record_of, key_values, missed, new_row, row_after, set_fields}
 use Rattle.cap_apply.specs.Target.{columns_fit, fitting, target}
 use Rattle.cap_apply.specs.declared.conflict.ConflictKind.{ConflictKind}
-use Rattle.cap_apply.specs.declared.conflict.ConflictKind.TheVariants.{NotFound, Conflict}
+use Rattle.cap_apply.specs.declared.conflict.ConflictKind.TheVariants.{NotFound}
 use Rattle.cap_apply.specs.declared.policy.Answer.{Answer}
 use Rattle.cap_apply.specs.declared.policy.Answer.TheVariants.{Omit, Replace, Abort}
 use Rattle.cap_apply.specs.declared.policy.Policy.{Policy}
-use Rattle.cap_apply.proofs.OperationLemmas.{operated_ok, operated_err, act_insert_new, act_insert_taken, act_update, keys_update, act_delete}
-use Rattle.cap_apply.proofs.RowLemmas.{row_with-assigned, are_columns-assigned, few_fields, key_of-set_fields, key_of-new_row, length-new_row, record_key, set_all}
+use Rattle.cap_apply.proofs.OperationLemmas.{operated_ok, act_insert_new, act_update, keys_update, act_delete}
+use Rattle.cap_apply.proofs.RowLemmas.{row_with-assigned, are_columns-assigned, record_key}
 
 module _ {A : Type 0} where
   -- the table that a group is for
@@ -94,10 +92,6 @@ module _ {A : Type 0} where
         operated_ok state name table there (Insert row) (with_key table key row) (act_insert_new table key row wide is none)
         ∙ ap (λ (k : Option (Fields A)). with_rows (with_key table key row) ((k, None) ∷ [])) is
 
-    pub insert_refused : (row before : Fields A) → length row ≡ length table.schema → key_of table.schema row ≡ Some key → get fields_cmp table.keyed key ≡ Some before →
-        operated state (directly name (Insert row)) ≡ Err Duplicate
-    insert_refused row before wide is some = operated_err state name table there (Insert row) Duplicate (act_insert_taken table key row before wide is some)
-
     pub update_is : (fields : RecordFields A) (before row : Fields A) → length fields ≤ length table.schema → get fields_cmp table.keyed key ≡ Some before →
         set_fields fields before ≡ row → key_of table.schema row ≡ Some key →
         operated state (directly name (Update (Key key) (assigned_from 0 fields))) ≡ Ok (with_row_in name table key (Some before) (Some row) state)
@@ -121,9 +115,6 @@ pub judged_err : (X Y : Type 0) {S E : Type 0} (fault : Fault E) (m : Result Y E
 judged_err X Y (Refused why) m answer left f h = f why h
 judged_err X Y OutOfMemory m answer left f h = tt
 
-never : {X E : Type 0} {x : X} {e : E} → Ok x ≡ Err e → ⊥
-never is = cc
-
 pub same_ok : {X E : Type 0} {x y : X} (answer : Result X E) → answer ≡ Ok x → answer ≡ Ok y → x ≡ y
 same_ok answer is is_too = cc
 
@@ -132,12 +123,6 @@ pub answers_err : (X Y : Type 0) {E : Type 0} (fault : Fault E) (a b : Result Y 
     AnswersUnlessMemory {X = Y} (Err fault) b
 answers_err X Y (Refused why) a b left e h = sym e ∙ h
 answers_err X Y OutOfMemory a b left e h = tt
-
--- what is made for certain is not refused
-pub made_err : (X Y : Type 0) {S T E : Type 0} (fault : Fault E) (m : Result T E) (x : T) (now : T) (answer : Result S E) (left : S) → m ≡ Ok x →
-    LeavesUnlessMemory {X = Y} (Err fault) m now → LeavesUnlessMemory {X = X} (Err fault) answer left
-made_err X Y (Refused why) m x now answer left ok h = absurd (never (sym ok ∙ h))
-made_err X Y OutOfMemory m x now answer left ok h = tt
 
 -- there is nothing to replace where no row was found
 no_replacement : (number : ℕ) (answer : Answer) → made_anyway number NotFound answer ≡ Ok true → ⊥
@@ -152,13 +137,6 @@ module _ {A : Type 0} where
   missed_made policy number flags old (Some row) e = (row, refl)
 
   module _ (policy : Policy) (number : ℕ) (name : List ℕ) (flags : List Bool) (state : AppliedState A) (h : HasTarget state.database name flags) where
-    -- the states that a judged conflict leaves
-    abbrev pub judged : Option ConflictKind → Bool → AppliedState A
-    judged conflict made = cond made (noted policy number conflict state) (left_out number (noted policy number conflict state))
-
-    -- a change made by an operation: what the operation leaves, and that it is the requested change
-    abbrev pub MadeBy : Requested A → AppliedState A → Op A → Type 0
-    MadeBy requested mid op = (x : AppliedState A) × (operated mid op ≡ Ok x) × (change_applied policy number name flags requested state ≡ Ok (counted x))
 
     module _ (requested : Requested A) (before : Option (Fields A)) (conflict : Option ConflictKind)
         (found : get fields_cmp h.table.keyed (key_values flags (key_record_of requested.patch)) ≡ before) (met : conflict_of flags requested.old requested.patch before ≡ conflict) where
@@ -167,101 +145,10 @@ module _ {A : Type 0} where
           applied_at policy number name flags requested state h before conflict found met
           ∙ ap (λ m. concluded m (counted (with_row_in name h.table (key_values flags (key_record_of requested.patch)) before (row_after (length h.table.schema) requested.patch before) (noted policy number conflict state))) (left_out number (noted policy number conflict state))) e
 
-      change_made : is_made policy number conflict ≡ Ok true → change_applied policy number name flags requested state
-          ≡ Ok (counted (with_row_in name h.table (key_values flags (key_record_of requested.patch)) before (row_after (length h.table.schema) requested.patch before) (noted policy number conflict state)))
-      change_made e =
-          applied_at policy number name flags requested state h before conflict found met
-          ∙ ap (λ m. concluded m (counted (with_row_in name h.table (key_values flags (key_record_of requested.patch)) before (row_after (length h.table.schema) requested.patch before) (noted policy number conflict state))) (left_out number (noted policy number conflict state))) e
-
     module _ (keyed : has_key flags ≡ true) (indirect : Bool) where
-      pub update_made : (old new : RecordFields A) (before : Option (Fields A)) (conflict : Option ConflictKind) (made : Bool) (mid : AppliedState A) (op : Op A) →
-          satisfy (requirements record_kinds.Keyed flags) new ≡ true → get fields_cmp h.table.keyed (key_values flags new) ≡ before →
-          ((row : Fields A) → before ≡ Some row → length row ≡ length h.table.schema) → missed flags old before ≡ conflict → made ≡ true →
-          is_made policy number conflict ≡ Ok made → mid ≡ judged conflict made → op ≡ directly name (Update (Key (key_values flags new)) (assigned_from 0 new)) →
-          MadeBy (record { old = old; patch = patched.Update indirect new }) mid op
-      update_made old new before conflict false mid op fits found wide met agreed e mid_is op_is = cc
-      update_made old new before conflict true mid op fits found wide met agreed e mid_is op_is =
-          let kept = noted policy number conflict state in
-          let present = missed_made policy number flags old before (ap (is_made policy number) met ∙ e) in
-          let row = present.0 in
-          let there = found ∙ present.1 in (
-            with_row_in name h.table (key_values flags new) (Some row) (Some (set_fields new row)) kept,
-            (λ i. operated (mid_is i) (op_is i))
-                ∙ update_is kept name h.table (noted_there policy number conflict state name h.table h.there) (key_values flags new) new row (set_fields new row)
-                (few_fields flags h.table.schema new h.fit keyed fits) there refl (key_of-set_fields flags h.table.schema new h.fit keyed fits row (wide row present.1)),
-            change_made (record { old = old; patch = patched.Update indirect new }) (Some row) conflict there (ap (missed flags old) (sym present.1) ∙ met) e,
-          )
-
-      pub overwrite_made : (new : RecordFields A) (row before : Fields A) (made : Bool) (mid : AppliedState A) (op : Op A) →
-          satisfy (requirements record_kinds.Keyed flags) new ≡ true → row ≡ new_row (length h.table.schema) new → get fields_cmp h.table.keyed (key_values flags new) ≡ Some before →
-          length before ≡ length h.table.schema → made ≡ true → is_made policy number (Some Conflict) ≡ Ok made → mid ≡ judged (Some Conflict) made →
-          op ≡ directly name (Update (Key (key_values flags new)) (assigned_from 0 (map Some row))) →
-          MadeBy (record { old = []; patch = patched.Insert indirect new }) mid op
-      overwrite_made new row before false mid op fits row_is found wide agreed e mid_is op_is = cc
-      overwrite_made new row before true mid op fits row_is found wide agreed e mid_is op_is =
-          let kept = noted policy number (Some Conflict) state in
-          let whole = new_row (length h.table.schema) new in
-          let width : length whole ≡ length h.table.schema = length-new_row flags h.table.schema new h.fit keyed fits in
-          let few : length (map Some whole) ≤ length h.table.schema = rw (length-map whole Some) (omega (arith, width)) in (
-            with_row_in name h.table (key_values flags new) (Some before) (Some whole) kept,
-            (λ i. operated (mid_is i) (op_is i))
-                ∙ ap (λ (r : Fields A). operated kept (directly name (Update (Key (key_values flags new)) (assigned_from 0 (map Some r))))) row_is
-                ∙ update_is kept name h.table h.there (key_values flags new) (map Some whole) before whole few found (set_all whole before (wide ∙ sym width))
-                (key_of-new_row flags h.table.schema new h.fit keyed fits),
-            change_made (record { old = []; patch = patched.Insert indirect new }) (Some before) (Some Conflict) found refl e,
-          )
 
       module _ (new : RecordFields A) (row : Fields A) (op : Op A) (fits : satisfy (requirements record_kinds.Keyed flags) new ≡ true) (row_is : row ≡ new_row (length h.table.schema) new)
           (op_is : op ≡ directly name (Insert row)) where
-        op_whole : op ≡ directly name (Insert (new_row (length h.table.schema) new))
-        op_whole = op_is ∙ ap (λ (r : Fields A). directly name (Insert r)) row_is
-
-        put_in : get fields_cmp h.table.keyed (key_values flags new) ≡ None →
-            operated state op ≡ Ok (with_row_in name h.table (key_values flags new) None (Some (new_row (length h.table.schema) new)) state)
-        put_in none =
-            ap (operated state) op_whole
-            ∙ insert_is state name h.table h.there (key_values flags new) (new_row (length h.table.schema) new) (length-new_row flags h.table.schema new h.fit keyed fits)
-            (key_of-new_row flags h.table.schema new h.fit keyed fits) none
-
-        kept_out : (before : Fields A) → get fields_cmp h.table.keyed (key_values flags new) ≡ Some before → operated state op ≡ Err Duplicate
-        kept_out before some =
-            ap (operated state) op_whole
-            ∙ insert_refused state name h.table h.there (key_values flags new) (new_row (length h.table.schema) new) before (length-new_row flags h.table.schema new h.fit keyed fits)
-            (key_of-new_row flags h.table.schema new h.fit keyed fits) some
-
-        made_if_free : (next : AppliedState A) → operated state op ≡ Ok next → (before : Option (Fields A)) → get fields_cmp h.table.keyed (key_values flags new) ≡ before →
-            change_applied policy number name flags (record { old = []; patch = patched.Insert indirect new }) state ≡ Ok (counted next)
-        made_if_free next ok None none =
-            applied_at policy number name flags (record { old = []; patch = patched.Insert indirect new }) state h None None none refl
-            ∙ ap (λ (s : AppliedState A). Ok (counted s)) (same_ok (operated state op) (put_in none) ok)
-        made_if_free next ok (Some before) some = absurd (never (sym ok ∙ kept_out before some))
-
-        pub insert_made : (next : AppliedState A) → operated state op ≡ Ok next →
-            change_applied policy number name flags (record { old = []; patch = patched.Insert indirect new }) state ≡ Ok (counted next)
-        insert_made next ok = made_if_free next ok (get fields_cmp h.table.keyed (key_values flags new)) refl
-
-        taken_if_refused : (why : Refusal) → operated state op ≡ Err why → (before : Option (Fields A)) → get fields_cmp h.table.keyed (key_values flags new) ≡ before →
-            is_some before ≡ true
-        taken_if_refused why err None none = absurd (never (sym (put_in none) ∙ err))
-        taken_if_refused why err (Some before) some = refl
-
-        pub insert_is_taken : (why : Refusal) → operated state op ≡ Err why → is_some (get fields_cmp h.table.keyed (key_values flags new)) ≡ true
-        insert_is_taken why err = taken_if_refused why err (get fields_cmp h.table.keyed (key_values flags new)) refl
-
-    pub delete_made : (indirect : Bool) (old key : RecordFields A) (before : Option (Fields A)) (conflict : Option ConflictKind) (made : Bool) (mid : AppliedState A) (op : Op A) →
-        get fields_cmp h.table.keyed (key_values flags key) ≡ before → missed flags old before ≡ conflict → made ≡ true →
-        is_made policy number conflict ≡ Ok made → mid ≡ judged conflict made → op ≡ directly name (Delete (Key (key_values flags key))) →
-        MadeBy (record { old = old; patch = patched.Delete indirect key }) mid op
-    delete_made indirect old key before conflict false mid op found met agreed e mid_is op_is = cc
-    delete_made indirect old key before conflict true mid op found met agreed e mid_is op_is =
-        let kept = noted policy number conflict state in
-        let present = missed_made policy number flags old before (ap (is_made policy number) met ∙ e) in
-        let there = found ∙ present.1 in (
-          with_row_in name h.table (key_values flags key) (Some present.0) None kept,
-          (λ i. operated (mid_is i) (op_is i))
-              ∙ delete_is kept name h.table (noted_there policy number conflict state name h.table h.there) (key_values flags key) present.0 there,
-          change_made (record { old = old; patch = patched.Delete indirect key }) (Some present.0) conflict there (ap (missed flags old) (sym present.1) ∙ met) e,
-        )
 
     -- a delete requests the same whether its record has the key fields only or all of them
     delete_in : (indirect : Bool) (old : RecordFields A) (found : Option (TableState A)) →

@@ -205,9 +205,6 @@ module _ {A : Type 0} where
             ∙ ap (with_changes name ((Some key, before) ∷ [])) (judged_is ∙ ap (judged_on taken conflict) agreed ∙ ap (noted policy number conflict) taken_is ∙ noted_placed policy number conflict name key None state)
             ∙ (λ i. with_changes name ((Some (key_is i), present.1 i) ∷ []) (placed name (key_is i) None (noted policy number conflict state)))))
 
-        judged_left : made ≡ false → judged ≡ left_out number (noted policy number conflict (placed name key None state))
-        judged_left agreed = judged_is ∙ ap (judged_on taken conflict) agreed ∙ ap (λ (s : AppliedState A). left_out number (noted policy number conflict s)) taken_is
-
         pub delete_back : (row : Fields A) (next : AppliedState A) → made ≡ false → GoesBack state.database taken.database name key row → next ≡ placed name key (Some row) judged →
             change_applied policy number name flags deletes state ≡ Ok next
         delete_back row next agreed back is =
