@@ -20,6 +20,7 @@ use Rattle.cap_database.specs.Tables.{Tables, table_of}
 use Rattle.cap_database.proofs.KeptKeyLemmas.{row-found}
 use Rattle.cap_database.proofs.KeptLemmas.{get-put, same_name}
 use Rattle.cap_changes.specs.Entries.{TableEntries}
+use Rattle.cap_changes.proofs.ChangeLemmas.{other_order}
 use Rattle.cap_codec.specs.declared.read.Contents.{Contents}
 use Rattle.cap_codec.specs.declared.read.Contents.TheVariants.{Changes, Patches}
 use Rattle.cap_apply.specs.Applied.{AppliedState}
@@ -32,7 +33,7 @@ use Rattle.cap_apply.specs.declared.conflict.ConflictKind.{ConflictKind}
 use Rattle.cap_apply.specs.declared.policy.Answer.{Answer}
 use Rattle.cap_apply.specs.declared.policy.Policy.{Policy}
 use Rattle.cap_apply.proofs.ChangeLemmas.{applied_at, has_target}
-use Rattle.cap_apply.proofs.EntryLemmas.{get_put_other, unequal}
+use Rattle.cap_apply.proofs.EntryLemmas.{get_put_other}
 use Rattle.cap_applier.specs.Applier.{ApplierState, answered, blob_answered, with_progress}
 use Rattle.cap_applier.specs.Named.{IsUnnamed, Names, SameRow}
 use Rattle.cap_applier.specs.Progress.{ProgressState}
@@ -55,7 +56,7 @@ module _ {K V : Type 0} (cmp : K → K → Ordering) (same : (x y : K) → cmp x
 
 module _ {A : Type 0} where
   apart_keys : (key other : Fields A) → (other ≡ key → ⊥) → is_eq (fields_cmp other key) ≡ false
-  apart_keys key other apart = unequal (fields_cmp other key) (λ e. apart ((fields_cmp-Equal other key).0 e))
+  apart_keys key other apart = other_order (fields_cmp other key) (λ e. apart ((fields_cmp-Equal other key).0 e))
 
   row_stays : (table : TableState A) (key : Fields A) (after : Option (Fields A)) (other : Fields A) → (other ≡ key → ⊥) → get fields_cmp (with_row table key after).keyed other ≡ get fields_cmp table.keyed other
   row_stays table key None other apart = get_take_other fields_cmp (λ x y. (fields_cmp-Equal x y).0) key other (apart_keys key other apart) table.keyed

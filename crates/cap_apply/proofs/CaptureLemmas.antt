@@ -18,6 +18,7 @@ use Rattle.cap_changes.specs.Patch.{patch_of, update_record}
 use Rattle.cap_changes.specs.FieldRecord.{RecordFields}
 use Rattle.cap_changes.specs.declared.row_change.RowChange.{RowChange}
 use Rattle.cap_changes.specs.declared.row_change.RowChange.TheVariants.{Insert, Update, Delete}
+use Rattle.cap_changes.proofs.ChangeLemmas.{same_first}
 use Rattle.cap_apply.specs.Applied.{AppliedState}
 use Rattle.cap_apply.specs.Apply.{change_applied, counted, with_row_in}
 use Rattle.cap_apply.specs.Requested.{Requested, requested_by_change, requested_by_patch}
@@ -101,9 +102,6 @@ module _ {A : Type 0} where
   between_agrees (flag ∷ flags) (old ∷ image) [] = refl
   between_agrees (flag ∷ flags) (old ∷ image) (new ∷ now) =
       and_from (has_old_value flag (old_field flag old new) old) _ (old_agrees_at flag (value_eq old new) old) (between_agrees flags image now)
-
-  same_first : {a b : Value A} {xs ys : Fields A} → (a ∷ xs) ≡ (b ∷ ys) → (a ≡ b) × (xs ≡ ys)
-  same_first e = (cc, cc)
 
   set_at : (same : Bool) (old new : Value A) → (same ≡ true → old ≡ new) → unwrap_or (cond (not same) (Some new) None) old ≡ new
   set_at true old new e = e refl

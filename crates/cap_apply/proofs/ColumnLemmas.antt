@@ -44,11 +44,11 @@ module _ {A : Type 0} where
   noted-database policy number None state = refl
   noted-database policy number (Some kind) state = refl
 
-  with_row-columns : (table : TableState A) (key : Fields A) (row : Option (Fields A)) → (with_row table key row).schema ≡ table.schema
-  with_row-columns table key None = refl
-  with_row-columns table key (Some row) = refl
+  pub same_columns : (table : TableState A) (key : Fields A) (row : Option (Fields A)) → (with_row table key row).schema ≡ table.schema
+  same_columns table key None = refl
+  same_columns table key (Some row) = refl
 
-  fitting-there : (flags : List Bool) (found : Option (TableState A)) (table : TableState A) → fitting flags found ≡ Some table → found ≡ Some table
+  pub fitting-there : (flags : List Bool) (found : Option (TableState A)) (table : TableState A) → fitting flags found ≡ Some table → found ≡ Some table
   fitting-there flags None table is = cc
   fitting-there flags (Some other) table is = elim (columns_fit flags other.schema) as (λ b. cond b (Some other) None ≡ Some table → Some other ≡ Some table) [ true ↦ λ e. e | false ↦ λ e. cc ] is
 
@@ -58,7 +58,7 @@ module _ {A : Type 0} where
       → table_of state.database name ≡ Some table → SameColumns state.database (counted (with_row_in name table key before after (noted policy number conflict state)))
   row-columns policy number name table key before after conflict state there other =
       ap (λ (tables : Tables A). schema_of (put_entry bytes_cmp tables name (with_row table key after)) other) (noted-database policy number conflict state)
-      ∙ schema_of-put state.database name table (with_row table key after) there (with_row-columns table key after) other
+      ∙ schema_of-put state.database name table (with_row table key after) there (same_columns table key after) other
 
   change-columns : (policy : Policy) (number : ℕ) (name : List ℕ) (flags : List Bool) (requested : Requested A) (state : AppliedState A) (found : Option (TableState A)) → target state.database name flags ≡ found
       → IfOk (change_in policy number name flags requested found state) (SameColumns state.database)

@@ -6,17 +6,20 @@ use Rattle.cap_value.specs.Bytes.{bytes_cmp, bytes_cmp-Equal}
 use Rattle.cap_row.specs.Fields.{Fields}
 use Rattle.cap_row.specs.Key.{fields_cmp, fields_cmp_total, fields_cmp-Equal}
 use Rattle.cap_tree.specs.Tree.{IsOrdered, get, put_entry}
+use Rattle.cap_tree.proofs.EntryLemmas.{ordered_take}
 use Rattle.cap_table.specs.Table.{TableState}
 use Rattle.cap_database.specs.Tables.{Tables, table_of}
 use Rattle.cap_database.proofs.PlaceLemmas.{ordered_put}
 use Rattle.cap_changes.specs.Patch.{patch_of}
+use Rattle.cap_changes.proofs.ChangeLemmas.{other_order}
 use Rattle.cap_apply.specs.Applied.{AppliedState}
 use Rattle.cap_apply.specs.Apply.{and_then, changes_applied, counted, with_row, with_row_in}
 use Rattle.cap_apply.specs.Requested.{Requested, requested_by_change, requested_by_patch}
 use Rattle.cap_apply.specs.Difference.{AllApplied, AreApart, Difference, IsDifference, OtherTables, RowsAfter, StandAfter, StandBefore, turned}
 use Rattle.cap_apply.specs.declared.policy.Policy.{Policy}
 use Rattle.cap_apply.proofs.CaptureLemmas.{AsksFor, asks_by_change, asks_by_patch, captured_one, turned_difference}
-use Rattle.cap_apply.proofs.EntryLemmas.{get_put, get_put_other, get_take, ordered_take, unequal}
+use Rattle.cap_apply.proofs.EntryLemmas.{get_put, get_put_other, get_take}
+use Rattle.cap_apply.proofs.ColumnLemmas.{same_columns}
 
 module _ {A : Type 0} where
   -- ---- a table with a row under a key
@@ -32,21 +35,17 @@ module _ {A : Type 0} where
         get fields_cmp (with_row table key after).keyed other ≡ get fields_cmp table.keyed other
     rows_other None ordered other apart =
         get_take fields_cmp fields_cmp_total key table.keyed ordered other
-        ∙ ap (λ b. cond b None (get fields_cmp table.keyed other)) (unequal (fields_cmp key other) (λ e. apart (sym ((fields_cmp-Equal key other).0 e))))
+        ∙ ap (λ b. cond b None (get fields_cmp table.keyed other)) (other_order (fields_cmp key other) (λ e. apart (sym ((fields_cmp-Equal key other).0 e))))
     rows_other (Some row) ordered other apart =
-        get_put_other fields_cmp (λ x y. (fields_cmp-Equal x y).0) key row other (unequal (fields_cmp other key) (λ e. apart ((fields_cmp-Equal other key).0 e))) table.keyed
+        get_put_other fields_cmp (λ x y. (fields_cmp-Equal x y).0) key row other (other_order (fields_cmp other key) (λ e. apart ((fields_cmp-Equal other key).0 e))) table.keyed
 
     rows_ordered : (after : Option (Fields A)) → IsOrdered fields_cmp table.keyed → IsOrdered fields_cmp (with_row table key after).keyed
-    rows_ordered None ordered = ordered_take fields_cmp key table.keyed ordered
+    rows_ordered None ordered = ordered_take fields_cmp fields_cmp_total key table.keyed ordered
     rows_ordered (Some row) ordered = ordered_put fields_cmp fields_cmp_total key row table.keyed ordered
 
     same_loose : (after : Option (Fields A)) → (with_row table key after).loose ≡ table.loose
     same_loose None = refl
     same_loose (Some row) = refl
-
-    same_columns : (after : Option (Fields A)) → (with_row table key after).schema ≡ table.schema
-    same_columns None = refl
-    same_columns (Some row) = refl
 
     same_next_id : (after : Option (Fields A)) → (with_row table key after).next_id ≡ table.next_id
     same_next_id None = refl
@@ -55,7 +54,7 @@ module _ {A : Type 0} where
   other_table : (database : Tables A) (name other : List ℕ) (table : TableState A) → (other ≡ name → ⊥) →
       table_of (put_entry bytes_cmp database name table) other ≡ table_of database other
   other_table database name other table apart =
-      get_put_other bytes_cmp (λ x y. (bytes_cmp-Equal x y).0) name table other (unequal (bytes_cmp other name) (λ e. apart ((bytes_cmp-Equal other name).0 e))) database
+      get_put_other bytes_cmp (λ x y. (bytes_cmp-Equal x y).0) name table other (other_order (bytes_cmp other name) (λ e. apart ((bytes_cmp-Equal other name).0 e))) database
 
   -- the others are unchanged
   stand_still : (flags : List Bool) (table next : TableState A) (key : Fields A) (ds : List (Difference A)) →

@@ -1,5 +1,5 @@
 -- A list of entries in order, after one is put and after one is taken: the value at each key.
-use Rattle.std.proofs.Common.{◌≡◌, true, false, cond, Some, None, List, [], ◌∷◌, refl, sym, ap, ◌∙◌}
+use Rattle.std.proofs.Common.{◌≡◌, false, cond, Some, None, List, [], ◌∷◌, refl, sym, ap, ◌∙◌}
 use Rattle.std.specs.declared.cmp.Ordering.{Ordering}
 use Rattle.std.specs.declared.cmp.Ordering.TheVariants.{Less, Equal, Greater}
 use Rattle.std.specs.Ordering.{is_eq, match_ordering}
@@ -7,15 +7,8 @@ use Rattle.std.specs.Cmp.{IsTotalOrder, Equal-is, eq_by_cmp_equiv}
 use Rattle.std.proofs.lemmas.Map.{lookup-remove_entry}
 use Rattle.std.proofs.lemmas.Map.Keys.{IsDistinct-from_sorted}
 use Rattle.std.specs.BTreeMap.{is_at}
-use Rattle.std.specs.List.{AllByRecursion}
-use Rattle.std.specs.List.Sorted.{IsStrictlySortedBy}
 use Rattle.std.specs.Map.{keys_of}
 use Rattle.cap_tree.specs.Tree.{IsOrdered, get, put_entry, take_entry}
-
-pub unequal : (o : Ordering) → (o ≡ Equal → ⊥) → is_eq o ≡ false
-unequal Less other = refl
-unequal Equal other = absurd (other refl)
-unequal Greater other = refl
 
 module _ {K V : Type 0} (cmp : K → K → Ordering) where
   pub get_put : (k : K) (v : V) → cmp k k ≡ Equal → (es : List (K × V)) → get cmp (put_entry cmp es k v) k ≡ Some v
@@ -41,20 +34,3 @@ module _ {K V : Type 0} (cmp : K → K → Ordering) where
   pub get_take : IsTotalOrder cmp → (k : K) (es : List (K × V)) → IsOrdered cmp es → (q : K) → get cmp (take_entry cmp es k) q ≡ cond (is_eq (cmp k q)) None (get cmp es q)
   get_take o k es s q =
       lookup-remove_entry (eq_by_cmp_equiv o) (is_at (cmp k)) (λ x y t. ap is_eq (o.congr k x y ((Equal-is (cmp k x)).0 t))) q es (IsDistinct-from_sorted cmp (keys_of es) s)
-
-  each_take : (P : K → Type 0) (k : K) (es : List (K × V)) → AllByRecursion P (keys_of es) → AllByRecursion P (keys_of (take_entry cmp es k))
-  each_take P k [] h = tt
-  each_take P k (e ∷ es) h =
-      elim (is_at (cmp k) e.0) as (λ b. AllByRecursion P (keys_of (cond b es (e ∷ take_entry cmp es k)))) [
-        | true ↦ h.1
-        | false ↦ (h.0, each_take P k es h.1)
-      ]
-
-  pub ordered_take : (k : K) (es : List (K × V)) → IsOrdered cmp es → IsOrdered cmp (take_entry cmp es k)
-  unfolding IsStrictlySortedBy
-  ordered_take k [] s = tt
-  ordered_take k (e ∷ es) s =
-      elim (is_at (cmp k) e.0) as (λ b. IsStrictlySortedBy cmp (keys_of (cond b es (e ∷ take_entry cmp es k)))) [
-        | true ↦ s.1
-        | false ↦ (each_take (λ y. cmp e.0 y ≡ Less) k es s.0, ordered_take k es s.1)
-      ]

@@ -1,17 +1,34 @@
 -- Fields that are gone over one after another, beside the columns.
-use Rattle.std.proofs.Common.{◌≡◌, ℕ, ◌+◌, ◌<◌, ◌≤◌, Bool, true, false, ◌&&◌, Option, List, [], ◌∷◌, ◌++◌, length, map, drop, take, get_or, refl, sym, ap, ◌∙◌, append-nil}
+use Rattle.std.proofs.Common.{◌≡◌, ℕ, ◌+◌, ◌<◌, ◌≤◌, Bool, true, false, ◌&&◌, Option, Some, None, is_some, IfSome, List, [], ◌∷◌, ◌++◌, length, map, drop, take, get_or, refl, sym, ap, ◌∙◌, append-nil}
 use Rattle.std.specs.Prelude.{if◌then◌else◌}
-use Rattle.std.specs.Option.{unwrap_or}
+use Rattle.std.specs.List.{list_all}
+use Rattle.std.specs.Option.{unwrap_or, option_map, option_to_list}
+use Rattle.std.proofs.lemmas.Bool.{and_parts}
+use Rattle.cap_value.specs.Bytes.{bytes_eq}
+use Rattle.cap_value.specs.Value.{IsValue}
 use Rattle.cap_value.specs.declared.value.Value.{Value}
+use Rattle.cap_value.specs.declared.value.Value.TheVariants.{Null}
+use Rattle.cap_field.specs.Field.{value_bytes}
+use Rattle.cap_row.specs.Encoding.{fields_of, BeginsWith, Encodes}
 use Rattle.cap_row.specs.Fields.{Fields}
+use Rattle.cap_row.proofs.EncodingLemmas.{encoded}
+use Rattle.cap_changes.specs.Change.{full_record}
+use Rattle.cap_changes.specs.Field.{field_bytes}
 use Rattle.cap_changes.specs.FieldRecord.{RecordFields}
 use Rattle.cap_changes.specs.Patch.{update_record}
+use Rattle.cap_changes.specs.Record.{BeginsWithField}
+use Rattle.cap_changes.specs.Requirements.{requirements, satisfies, satisfy}
+use Rattle.cap_changes.specs.declared.field_requirement.FieldRequirement.TheVariants.{Key}
+use Rattle.cap_changes.specs.declared.record_kind.RecordKind.TheVariants.{Full}
 use Rattle.cap_changes.proofs.PassLemmas.{flags-cons, flags-past}
-use Rattle.cap_changes.proofs.PutLemmas.{put_on}
+use Rattle.cap_changes.proofs.PutLemmas.{put_all, put_on}
+use Rattle.cap_changes.proofs.WholeLemmas.{undefined}
+use Rattle.cap_changes.proofs.FitLemmas.{full_keyed}
+use Rattle.cap_apply.proofs.RowLemmas.{keyed_length}
 use Rattle.cap_apply.specs.Row.{has_old_value, has_old_values, key_values, set_fields}
 
-put_all : {X : Type 0} (out whole all : List X) → whole ≡ [] → out ++ whole ≡ all → out ≡ all
-put_all {X} out whole all none so_far = sym (append-nil out) ∙ sym (ap (λ (l : List X). out ++ l) none) ∙ so_far
+some_given : (field : List ℕ) → field ≡ 0 ∷ [] → bytes_eq field (0 ∷ []) ≡ false → ⊥
+some_given field is other = cc (ap (λ (l : List ℕ). bytes_eq l (0 ∷ [])) (sym is) ∙ other)
 
 module _ {A : Type 0} where
   -- ---- the key
@@ -26,10 +43,36 @@ module _ {A : Type 0} where
   pub key_done : (flags : List Bool) (i : ℕ) (fields : RecordFields A) (made all : Fields A) → length flags ≤ i → made ++ key_values (drop i flags) fields ≡ all → made ≡ all
   key_done flags i fields made all le so_far = put_all made (key_values (drop i flags) fields) all (ap (λ f. key_values f fields) (flags-past flags i le)) so_far
 
+  -- the field of one more column
+  key_next : (flags : List Bool) (i : ℕ) (fields rest : RecordFields A) (field : Option (Value A)) → i < length flags → fields ≡ field ∷ rest →
+      key_values (drop i flags) fields ≡ option_to_list (if get_or flags i false then field else None) ++ key_values (drop (i + 1) flags) rest
+  key_next flags i fields rest field lt is = (λ k. key_values (flags-cons flags i lt k) (is k)) ∙ of_column (get_or flags i false) field
+    where
+      of_column : (flag : Bool) (field : Option (Value A)) → key_values (flag ∷ drop (i + 1) flags) (field ∷ rest) ≡ option_to_list (if flag then field else None) ++ key_values (drop (i + 1) flags) rest
+      of_column true None = refl
+      of_column false None = refl
+      of_column true (Some value) = refl
+      of_column false (Some value) = refl
+
+  pub key_passed : (flags : List Bool) (i : ℕ) (fields rest : RecordFields A) (field : Option (Value A)) (made all : Fields A) → i < length flags → fields ≡ field ∷ rest → (if get_or flags i false then field else None) ≡ None
+      → made ++ key_values (drop i flags) fields ≡ all → made ++ key_values (drop (i + 1) flags) rest ≡ all
+  key_passed flags i fields rest field made all lt is none so_far =
+      sym (ap (λ (l : Fields A). made ++ l) (key_next flags i fields rest field lt is ∙ ap (λ (o : Option (Value A)). option_to_list o ++ key_values (drop (i + 1) flags) rest) none)) ∙ so_far
+
+  pub key_found : (flags : List Bool) (i : ℕ) (fields rest : RecordFields A) (field : Option (Value A)) (value : Value A) (all : Fields A) → i < length flags → fields ≡ field ∷ rest → (if get_or flags i false then field else None) ≡ Some value
+      → key_values (drop i flags) fields ≡ all → value ∷ key_values (drop (i + 1) flags) rest ≡ all
+  key_found flags i fields rest field value all lt is some so_far =
+      sym (key_next flags i fields rest field lt is ∙ ap (λ (o : Option (Value A)). option_to_list o ++ key_values (drop (i + 1) flags) rest) some) ∙ so_far
+
+  -- the key is one value
+  pub only_is : {V : Type 0} (shows : V → Value A) (only : Option V) (all : Fields A) → option_to_list (option_map shows only) ≡ all → IfSome only (λ value. all ≡ shows value ∷ [])
+  only_is shows None all is = tt
+  only_is shows (Some value) all is = sym is
+
   -- ---- the row after an update
 
   -- one more value: the field where it is defined
-  pub set_put : (flags : List Bool) (i : ℕ) (key keys new news : RecordFields A) (kept set chosen : Option (Value A)) (row rest made made' all : Fields A) → i < length flags → key ≡ kept ∷ keys → new ≡ set ∷ news
+  set_put : (flags : List Bool) (i : ℕ) (key keys new news : RecordFields A) (kept set chosen : Option (Value A)) (row rest made made' all : Fields A) → i < length flags → key ≡ kept ∷ keys → new ≡ set ∷ news
       → chosen ≡ (if get_or flags i false then kept else set) → made' ≡ made ++ map (unwrap_or chosen) (take 1 row) → rest ≡ drop 1 row
       → made ++ set_fields (update_record (drop i flags) key new) row ≡ all → made' ++ set_fields (update_record (drop (i + 1) flags) keys news) rest ≡ all
   set_put flags i key keys new news kept set chosen [] rest made made' all lt k n is put passed so_far =
@@ -63,6 +106,74 @@ module _ {A : Type 0} where
       no_new [] key = refl
       no_new (flag ∷ flags) [] = refl
       no_new (flag ∷ flags) (field ∷ key) = refl
+
+  -- ---- fields by their bytes
+
+  own : (field : List ℕ) (value : Value A) → field ≡ field_bytes (Some value) → IsValue value → (fields_of field ≡ value ∷ []) × Encodes {A = A} field (fields_of field)
+  own field value is fits = encoded field (value ∷ []) (fits, tt) (is ∙ sym (append-nil (value_bytes value)))
+
+  undefined_put : (field : List ℕ) (given : Option (Value A)) (row : Fields A) → field ≡ field_bytes given → bytes_eq field (0 ∷ []) ≡ true → take 1 row ≡ map (unwrap_or given) (take 1 row)
+  undefined_put field given row is same = kept row ∙ ap (λ (o : Option (Value A)). map (unwrap_or o) (take 1 row)) (sym (undefined given field is same))
+    where
+      kept : (row : Fields A) → take 1 row ≡ map (unwrap_or None) (take 1 row)
+      kept [] = refl
+      kept (value ∷ row) = refl
+
+  -- the bytes of a value are those of a row
+  pub field_encodes : (field : List ℕ) → ((given : Option (Value A)) × (field ≡ field_bytes given) × IfSome given IsValue) → bytes_eq field (0 ∷ []) ≡ false → Encodes {A = A} field (fields_of field)
+  field_encodes field (None, is, fits) some = absurd (some_given field is some)
+  field_encodes field (Some value, is, fits) some = (own field value is fits).1
+
+  pub next_kept : (field : List ℕ) (made made' row : Fields A) → bytes_eq field (0 ∷ []) ≡ true → made' ≡ made ++ take 1 row →
+      (given : Option (Value A)) → field ≡ field_bytes given → IfSome given IsValue → made' ≡ made ++ map (unwrap_or given) (take 1 row)
+  next_kept field made made' row same put given is fits = put ∙ ap (λ (l : Fields A). made ++ l) (undefined_put field given row is same)
+
+  pub next_set : (field : List ℕ) (made made' row others : Fields A) (bytes : List ℕ) → bytes_eq field (0 ∷ []) ≡ false → BeginsWith row bytes others → made' ≡ made ++ fields_of field →
+      (given : Option (Value A)) → field ≡ field_bytes given → IfSome given IsValue → made' ≡ made ++ map (unwrap_or given) (take 1 row)
+  next_set field made made' row others bytes some begins put None is fits = absurd (some_given field is some)
+  next_set field made made' row others bytes some (old, first, _) put (Some new) is fits =
+      put ∙ ap (λ (l : Fields A). made ++ l) ((own field new is fits).0 ∙ sym (ap (λ (l : Fields A). map (unwrap_or (Some new)) (take 1 l)) first))
+
+  -- the field of a column that is set
+  pub bytes_chosen : (flag : Bool) (kept set chosen : List ℕ) (key keys new news : RecordFields A) → BeginsWithField key kept keys → BeginsWithField new set news → chosen ≡ (if flag then kept else set) →
+      (given : Option (Value A)) × (chosen ≡ field_bytes given) × IfSome given IsValue
+  bytes_chosen true kept set chosen key keys new news (k, _, spelled, fits) begins is = (k, is ∙ spelled, fits)
+  bytes_chosen false kept set chosen key keys new news begins (n, _, spelled, fits) is = (n, is ∙ spelled, fits)
+
+  -- one more value
+  pub bytes_put : (flags : List Bool) (i : ℕ) (key keys new news : RecordFields A) (kept set chosen : List ℕ) (row rest made made' all : Fields A) → i < length flags → BeginsWithField key kept keys → BeginsWithField new set news
+      → chosen ≡ (if get_or flags i false then kept else set)
+      → ((given : Option (Value A)) → chosen ≡ field_bytes given → IfSome given IsValue → made' ≡ made ++ map (unwrap_or given) (take 1 row)) → rest ≡ drop 1 row
+      → made ++ set_fields (update_record (drop i flags) key new) row ≡ all → made' ++ set_fields (update_record (drop (i + 1) flags) keys news) rest ≡ all
+  bytes_put flags i key keys new news kept set chosen row rest made made' all lt (k, key_is, k_spelled, k_fits) (n, new_is, n_spelled, n_fits) is put passed so_far =
+      let given = if get_or flags i false then k else n in
+      let parts = by_flag (get_or flags i false) in
+      set_put flags i key keys new news k n given row rest made made' all lt key_is new_is refl (put given (is ∙ parts.0) parts.1) passed so_far
+    where
+      by_flag : (flag : Bool) → ((if flag then kept else set) ≡ field_bytes (if flag then k else n)) × IfSome (if flag then k else n) IsValue
+      by_flag true = (k_spelled, k_fits)
+      by_flag false = (n_spelled, n_fits)
+
+  -- ---- the row of an insert
+
+  pub full_defined : (flags : List Bool) (fields : RecordFields A) → satisfy (requirements Full flags) fields ≡ true → list_all is_some fields ≡ true
+  full_defined [] [] met = refl
+  full_defined [] (field ∷ fields) met = cc
+  full_defined (flag ∷ flags) [] met = cc
+  full_defined (true ∷ flags) (None ∷ fields) met = cc
+  full_defined (true ∷ flags) (Some value ∷ fields) met = full_defined flags fields (and_parts (satisfies Key (Some value)) (satisfy (requirements Full flags) fields) met).1
+  full_defined (false ∷ flags) (None ∷ fields) met = cc
+  full_defined (false ∷ flags) (Some value ∷ fields) met = full_defined flags fields met
+
+  pub full_wide : (flags : List Bool) (fields : RecordFields A) → satisfy (requirements Full flags) fields ≡ true → length fields ≡ length flags
+  full_wide flags fields met = keyed_length flags fields (full_keyed flags fields met)
+
+  full_values : (values : Fields A) → map (λ field. unwrap_or field Null) (full_record values) ≡ values
+  full_values [] = refl
+  full_values (value ∷ values) = ap (λ (l : Fields A). value ∷ l) (full_values values)
+
+  pub values_put : (fields : RecordFields A) (values : Fields A) → fields ≡ full_record values → values ≡ map (λ field. unwrap_or field Null) fields
+  values_put fields values is = sym (ap (map (λ field. unwrap_or field Null)) is ∙ full_values values)
 
   -- ---- the old values
 

@@ -1,17 +1,17 @@
 -- Changes and groups, one after another.
-use Rattle.std.proofs.Common.{◌≡◌, ℕ, suc, ◌+◌, ◌<◌, Bool, true, false, cond, Option, Some, None, Result, Ok, Err, List, [], ◌∷◌, length, map, drop, get_or, refl, sym, ap, subst, ◌∙◌, arith, drop-cons}
+use Rattle.std.proofs.Common.{◌≡◌, ℕ, ◌+◌, ◌<◌, Bool, true, false, cond, Option, Some, None, Result, Ok, Err, List, [], ◌∷◌, length, map, drop, get_or, refl, sym, ap, subst, ◌∙◌}
 use Rattle.std.specs.Prelude.{is_some}
 use Rattle.std.specs.Cmp.{tied_itself}
 use Rattle.std.proofs.lemmas.Cmp.{nat_list_cmp_total}
 use Rattle.std.proofs.lemmas.List.{length-map}
 use Rattle.cap_value.specs.Bytes.{bytes_cmp}
 use Rattle.cap_value.specs.declared.refusal.Refusal.{Refusal}
-use Rattle.cap_row.specs.Fields.{Fields}
 use Rattle.cap_row.specs.Key.{fields_cmp}
 use Rattle.cap_tree.specs.Tree.{get, put_entry}
 use Rattle.cap_table.specs.Table.{TableState}
 use Rattle.cap_database.specs.Tables.{Tables}
 use Rattle.cap_changes.specs.Entries.{TableEntries}
+use Rattle.cap_changes.proofs.LeftLemmas.{drop_here}
 use Rattle.cap_apply.specs.Applied.{AppliedState}
 use Rattle.cap_apply.specs.Apply.{and_then, change_applied, change_in, changes_applied, concluded, counted, group_applied, groups_applied, left_out, noted, skipped, skipped_unless, with_row, with_row_in}
 use Rattle.cap_apply.specs.Requested.{Requested, requested_in}
@@ -22,18 +22,10 @@ use Rattle.cap_apply.specs.declared.conflict.ConflictKind.{ConflictKind}
 use Rattle.cap_apply.specs.declared.policy.Policy.{Policy}
 use Rattle.cap_apply.proofs.ChangeLemmas.{applied_at, has_target}
 use Rattle.cap_apply.proofs.EntryLemmas.{get_put}
-
-drop_here : {X : Type 0} (xs : List X) (i : ℕ) (x : X) → i < length xs → x ≡ get_or xs i x → drop i xs ≡ x ∷ drop (i + 1) xs
-drop_here xs i x within is =
-    let n : suc i ≡ i + 1 = omega arith in
-    drop-cons xs i x within ∙ (λ k. sym is k ∷ drop (n k) xs)
+use Rattle.cap_apply.proofs.ColumnLemmas.{same_columns}
 
 module _ {A : Type 0} where
   -- ---- the table of a group stays
-
-  same_columns : (table : TableState A) (key : Fields A) (after : Option (Fields A)) → (with_row table key after).schema ≡ table.schema
-  same_columns table key None = refl
-  same_columns table key (Some row) = refl
 
   put_target : (database : Tables A) (name : List ℕ) (flags : List Bool) (table : TableState A) → columns_fit flags table.schema ≡ true →
       is_some (target (put_entry bytes_cmp database name table) name flags) ≡ true

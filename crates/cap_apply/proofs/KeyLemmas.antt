@@ -12,9 +12,10 @@ use Rattle.cap_changes.specs.declared.record_kind.RecordKind.TheVariants as reco
 use Rattle.cap_changes.specs.declared.row_change.RowChange.{RowChange}
 use Rattle.cap_changes.specs.declared.row_change.RowChange.TheVariants as changed
 use Rattle.cap_changes.proofs.PatchLemmas.{update_fits}
+use Rattle.cap_changes.proofs.FitLemmas.{full_keyed}
 use Rattle.cap_apply.specs.KeyRecord.{key_record}
 use Rattle.cap_apply.specs.Row.{key_record_of, key_values}
-use Rattle.cap_apply.proofs.RowLemmas.{alone_keyed, full_keyed, is_key-key_values, record_key, update_key}
+use Rattle.cap_apply.proofs.RowLemmas.{alone_keyed, is_key-key_values, record_key, update_key}
 
 module _ {A : Type 0} where
   pub change_key : (flags : List Bool) (change : RowChange A) → change_fits flags change ≡ true → key_values flags (key_record_of (patch_of flags change)) ≡ key_values flags (key_record change)

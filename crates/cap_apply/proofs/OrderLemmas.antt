@@ -33,6 +33,7 @@ use Rattle.cap_changes.specs.declared.patch.Patch.{Patch}
 use Rattle.cap_changes.specs.declared.patch.Patch.TheVariants as patched
 use Rattle.cap_changes.specs.declared.record_kind.RecordKind.TheVariants as record_kinds
 use Rattle.cap_changes.proofs.PatchLemmas.{update_fits}
+use Rattle.cap_changes.proofs.FitLemmas.{full_keyed}
 use Rattle.cap_codec.specs.declared.read.Contents.{Contents}
 use Rattle.cap_codec.specs.declared.read.Contents.TheVariants.{Changes, Patches}
 use Rattle.cap_apply.specs.Applied.{AppliedState}
@@ -47,7 +48,7 @@ use Rattle.cap_apply.specs.Target.{target}
 use Rattle.cap_apply.specs.declared.conflict.ConflictKind.{ConflictKind}
 use Rattle.cap_apply.specs.declared.policy.Policy.{Policy}
 use Rattle.cap_apply.proofs.ChangeLemmas.{HasTarget, applied_at, delete_is, has_target, insert_is, missed_made, noted_there, update_is}
-use Rattle.cap_apply.proofs.RowLemmas.{few_fields, full_keyed, key_of-new_row, key_of-set_fields, length-new_row, set_all}
+use Rattle.cap_apply.proofs.RowLemmas.{few_fields, key_of-new_row, key_of-set_fields, length-new_row, set_all}
 
 same_length : (m n : ℕ) → nat_eq m n ≡ true → m ≡ n
 same_length m n is = grind (arith, nat_tests)

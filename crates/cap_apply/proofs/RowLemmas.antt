@@ -50,16 +50,6 @@ fit_length (false ∷ flags) (false ∷ schema) fit = omega (arith, fit_length f
 
 module _ {A : Type 0} where
   -- the key fields of fields that satisfy the requirements of a change
-  pub full_keyed : (flags : List Bool) (fields : RecordFields A) → satisfy (requirements record_kinds.Full flags) fields ≡ true → satisfy (requirements record_kinds.Keyed flags) fields ≡ true
-  full_keyed [] [] met = refl
-  full_keyed [] (field ∷ fields) met = cc
-  full_keyed (flag ∷ flags) [] met = cc
-  full_keyed (true ∷ flags) (field ∷ fields) met =
-      let parts = and_parts (satisfies asks.Key field) (satisfy (requirements record_kinds.Full flags) fields) met in
-      and_from (satisfies asks.Key field) _ parts.0 (full_keyed flags fields parts.1)
-  full_keyed (false ∷ flags) (field ∷ fields) met =
-      full_keyed flags fields (and_parts (satisfies asks.Defined field) (satisfy (requirements record_kinds.Full flags) fields) met).1
-
   pub alone_keyed : (flags : List Bool) (fields : RecordFields A) → satisfy (requirements record_kinds.KeyAlone flags) fields ≡ true → satisfy (requirements record_kinds.Keyed flags) fields ≡ true
   alone_keyed [] [] met = refl
   alone_keyed [] (field ∷ fields) met = cc

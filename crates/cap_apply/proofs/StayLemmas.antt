@@ -30,9 +30,10 @@ use Rattle.cap_apply.specs.Apply.{apply, change_applied, change_in, changes_appl
 use Rattle.cap_apply.specs.Policy.{is_made}
 use Rattle.cap_apply.specs.Requested.{Requested, requested_of}
 use Rattle.cap_apply.specs.Row.{conflict_of, key_record_of, key_values, row_after}
-use Rattle.cap_apply.specs.Target.{columns_fit, fitting, target}
+use Rattle.cap_apply.specs.Target.{target}
 use Rattle.cap_apply.specs.declared.conflict.ConflictKind.{ConflictKind}
 use Rattle.cap_apply.specs.declared.policy.Policy.{Policy}
+use Rattle.cap_apply.proofs.ColumnLemmas.{fitting-there, same_columns}
 
 module _ {A : Type 0} where
   module _ (name : List ℕ) (key : Fields A) where
@@ -102,15 +103,11 @@ module _ {A : Type 0} where
       there = λ named.
           let same : name ≡ other = (bytes_decides name other).0 (named-table name key other Direct (row_goes own before ++ row_comes own after) named) in
           ap (λ n. is_some (schema_of state.database n)) same ∙ ap (λ t. is_some (option_map (λ s. s.schema) t)) there;
-      columns = schema_of-put state.database other table (with_row table own after) there (same_columns after) name;
+      columns = schema_of-put state.database other table (with_row table own after) there (same_columns table own after) name;
       carries = found-row name key (λ row. row ≡ row_at state.database name key) other Direct (row_goes own before ++ row_comes own after)
           (λ same changed at. carried before after found changed at ∙ ap (option_and_then (λ t. get fields_cmp t.keyed key)) (sym there) ∙ ap (λ n. row_at state.database n key) (sym same));
     }
       where
-        same_columns : (row : Option (Fields A)) → (with_row table own row).schema ≡ table.schema
-        same_columns None = refl
-        same_columns (Some row) = refl
-
         kept : (before after : Option (Fields A)) → get fields_cmp table.keyed own ≡ before → list_any (λ changed. is_key_of changed.0 key) (row_goes own before ++ row_comes own after) ≡ false
             → get fields_cmp (with_row table own after).keyed key ≡ get fields_cmp table.keyed key
         kept None None found unnamed = ap (λ es. get fields_cmp es key) (take_entry-absent fields_cmp own table.keyed found)
@@ -139,10 +136,6 @@ module _ {A : Type 0} where
     concluded-more state (Ok true) made omitted a b = a
     concluded-more state (Ok false) made omitted a b = b
     concluded-more state (Err why) made omitted a b = tt
-
-    fitting-there : (flags : List Bool) (found : Option (TableState A)) (table : TableState A) → fitting flags found ≡ Some table → found ≡ Some table
-    fitting-there flags None table is = cc
-    fitting-there flags (Some other) table is = elim (columns_fit flags other.schema) as (λ b. cond b (Some other) None ≡ Some table → Some other ≡ Some table) [ true ↦ λ e. e | false ↦ λ e. cc ] is
 
     change-more : (policy : Policy) (number : ℕ) (other : List ℕ) (flags : List Bool) (asked : Requested A) (state : AppliedState A) → AppliedMore state (change_applied policy number other flags asked state)
     change-more policy number other flags asked state =

@@ -41,7 +41,8 @@ impl<A: AllocHandle> Applied<A> {
             table.now columns.now (record { old = []; patch = patched.Insert indirect new.now }) self.old)
             self.new }
     {
-        let row = new_row(self.alloc(), width_of(self.database(), table), new)?;
+        let width = width_of(self.database(), table);
+        let row = new_row(self.alloc(), width, columns.flags(), new)?;
         let key = key_of_fields(self.alloc(), columns.flags(), new)?;
         let Some(taken) = self.put(table, key.copy()?, row)? else {
             self.add_change(table, key, None)?;

@@ -1,16 +1,19 @@
 //! Rows, keys and assignments from the fields of a change.
-ghost use Rattle.std.specs.Prelude.{◌≡◌, [], ◌∷◌, ◌++◌, map, take, drop, IfOk, IfSome, IsTrue, OnOk};
+ghost use Rattle.std.specs.Prelude.{◌≡◌, ◌∷◌, [], ◌++◌, Option, map, take, drop, IfOk, IfSome, IsTrue, OnOk};
 ghost use Rattle.std.specs.Option.{unwrap_or};
 ghost use Rattle.cap_value.specs.Value.{IsValue};
-ghost use Rattle.cap_value.specs.declared.value.Value.TheVariants.{Null};
+ghost use Rattle.cap_value.specs.declared.value.Value.{Value};
 ghost use Rattle.cap_field.specs.FieldReading.{value_of};
+ghost use Rattle.cap_changes.specs.Field.{field_bytes};
 ghost use Rattle.cap_changes.specs.FieldReading.{field_of};
-ghost use Rattle.cap_row.specs.Key.{is_key};
 ghost use Rattle.cap_changes.specs.Patch.{update_record};
+ghost use Rattle.cap_changes.specs.Requirements.{requirements, satisfy};
+ghost use Rattle.cap_changes.specs.declared.record_kind.RecordKind.TheVariants.{Full};
+ghost use Rattle.cap_row.specs.Key.{is_key};
 ghost use Rattle.cap_apply.specs.Row.{has_old_values, has_old_value, key_values, new_row, set_fields};
 
 use cap_changes::RecordRef;
-use cap_field::ValueRef;
+use cap_field::{UNDEFINED, ValueRef};
 use cap_row::{Key, KeyValues, Row, RowBuilder, RowFields};
 use cap_value::{AllocHandle, OutOfMemory};
 use smallvec::SmallVec;
@@ -24,10 +27,33 @@ pub(crate) fn key_of_fields<A: AllocHandle>(
     requires { IsTrue (is_key (key_values flags.now fields.now)) }
     ensures { IfOk result (λ key. key ≡ key_values flags.now fields.now) }
 {
-    let Some(key) = Key::of_values(alloc, key_values(alloc, flags, fields)?)? else {
-        unreachable!()
+    let key = match only_value(flags, fields) {
+        Some(value) => Key::of_one(value.own(alloc)?),
+        None => Key::of_values(alloc, key_values(alloc, flags, fields)?)?,
     };
+    let Some(key) = key else { unreachable!() };
     Ok(key)
+}
+
+// The value of the key, where it is one alone: most keys have one column.
+fn only_value<'a, A: AllocHandle>(flags: &[bool], fields: &RecordRef<'a, A>) -> Option<ValueRef<'a>>
+    ensures value { IfSome result (λ value. key_values {A = A} flags.now fields.now ≡ value_of value ∷ []) }
+    ensures fits { IfSome result (λ value. IsValue {A = A} (value_of value)) }
+{
+    let mut only = None;
+    let mut rest = fields.copy();
+    for flag in flags {
+        let Some(field) = rest.next_field() else {
+            break;
+        };
+        if *flag && let Some(value) = field {
+            if only.is_some() {
+                return None;
+            }
+            only = Some(value);
+        }
+    }
+    only
 }
 
 fn key_values<A: AllocHandle>(
@@ -54,51 +80,21 @@ fn key_values<A: AllocHandle>(
 pub(crate) fn new_row<A: AllocHandle>(
     alloc: A,
     width: usize,
+    flags: &[bool],
     fields: &RecordRef<'_, A>,
 ) -> Result<Row<A>, OutOfMemory>
+    requires { IsTrue (satisfy (requirements Full flags.now) fields.now) }
     ensures { IfOk result (λ row. row ≡ new_row width fields.now) }
 {
-    let mut builder = RowBuilder::new(alloc);
-    let mut further = width;
-    let mut rest = fields.copy();
-    while let Some(field) = rest.next_field() {
-        push_or_null(&mut builder, field)?;
-        further = further.saturating_sub(1);
-    }
+    let values = fields.as_values();
+    let further = width.saturating_sub(flags.len());
+    let room = values.as_bytes().len().saturating_add(further);
+    let mut builder = RowBuilder::with_room(alloc, room)?;
+    builder.push_rest(values)?;
     for _further in 0..further {
         builder.push_null()?;
     }
     builder.finish()
-}
-
-// Appends a field, and NULL where it is undefined.
-fn push_or_null<A: AllocHandle>(
-    builder: &mut RowBuilder<A>,
-    field: Option<ValueRef<'_>>,
-) -> Result<(), OutOfMemory>
-    requires { IfSome (field_of {A = A} field) IsValue }
-    ensures { OnOk result (builder.new ≡ builder.old ++ unwrap_or (field_of field.entry) Null ∷ []) }
-{
-    match field {
-        Some(value) => push_value(builder, value),
-        None => builder.push_null(),
-    }
-}
-
-// Appends a value.
-fn push_value<A: AllocHandle>(
-    builder: &mut RowBuilder<A>,
-    value: ValueRef<'_>,
-) -> Result<(), OutOfMemory>
-    requires { IsValue {A = A} (value_of value) }
-    ensures { OnOk result (builder.new ≡ builder.old ++ value_of value.entry ∷ []) }
-{
-    match value {
-        ValueRef::Null => builder.push_null(),
-        ValueRef::Int(number) => builder.push_int(number),
-        ValueRef::Text(text) => builder.push_text(text),
-        ValueRef::Blob(blob) => builder.push_blob(blob),
-    }
 }
 
 // The row after an update: the key fields and the defined other fields are set.
@@ -111,8 +107,9 @@ pub(crate) fn updated<A: AllocHandle>(
 ) -> Result<Row<A>, OutOfMemory>
     ensures { IfOk result (λ made. made ≡ set_fields (update_record flags.now key.now new.now) row.now) }
 {
-    let mut builder = RowBuilder::new(alloc);
-    set_fields(&mut builder, flags, key, new, row.fields())?;
+    let fields = row.fields();
+    let mut builder = RowBuilder::with_room(alloc, fields.as_bytes().len())?;
+    set_fields(&mut builder, flags, key, new, fields)?;
     builder.finish()
 }
 
@@ -131,7 +128,7 @@ fn set_fields<A: AllocHandle>(
     let mut new = new.copy();
     let mut rest = row;
     for flag in flags {
-        let (Some(kept), Some(set)) = (key.next_field(), new.next_field()) else {
+        let (Some(kept), Some(set)) = (key.next_bytes(), new.next_bytes()) else {
             break;
         };
         push_field(builder, if *flag { kept } else { set }, &mut rest)?;
@@ -139,24 +136,25 @@ fn set_fields<A: AllocHandle>(
     builder.push_rest(rest)
 }
 
-// Appends the next value of the row after an update, where there is one: the field where it is defined.
+// Appends the next value of the row after an update, where there is one: that of the field, by its bytes,
+// where it is defined.
 fn push_field<A: AllocHandle>(
     builder: &mut RowBuilder<A>,
-    field: Option<ValueRef<'_>>,
+    field: &[u8],
     rest: &mut RowFields<'_, A>,
 ) -> Result<(), OutOfMemory>
-    requires { IfSome (field_of {A = A} field) IsValue }
-    ensures field { OnOk result (builder.new ≡ builder.old
-        ++ map (unwrap_or (field_of field.entry)) (take 1 rest.old)) }
+    requires { (given : Option (Value A)) × (field.now ≡ field_bytes given) × IfSome given IsValue }
+    ensures field { OnOk result ((given : Option (Value A)) → field.now ≡ field_bytes given
+        → IfSome given IsValue → builder.new ≡ builder.old ++ map (unwrap_or given) (take 1 rest.old)) }
     ensures passed { rest.new ≡ drop 1 rest.old }
 {
-    match field {
-        None => builder.push_next(rest),
-        Some(value) => match rest.next_value() {
-            Some(_) => push_value(builder, value),
-            None => Ok(()),
-        },
+    if field == [UNDEFINED].as_slice() {
+        return builder.push_next(rest);
     }
+    let Some(_) = rest.next_field() else {
+        return Ok(());
+    };
+    builder.push_rest(RowFields::of(field))
 }
 
 // Whether the row has each old value of the change outside the key.

@@ -2,6 +2,8 @@
 ghost use Rattle.std.specs.Prelude.{◌≡◌, ◌⊎◌, IfOk, IsSome, None};
 ghost use Rattle.std.specs.Option.{option_map};
 ghost use Rattle.cap_core.specs.declared.command.Command.TheVariants as command;
+ghost use Rattle.cap_core.specs.declared.session_command.SessionCommand.TheVariants as told;
+ghost use Rattle.cap_session.specs.declared.session_change.SessionChange.TheVariants as change;
 ghost use Rattle.cap_connection.specs.Calls.{Captures};
 ghost use Rattle.cap_connection.specs.Replies.{captured_bytes};
 ghost use Rattle.cap_connection.specs.declared.captured.CaptureKind.TheVariants.{Changeset, Patchset};
@@ -35,7 +37,8 @@ pub extern "C" fn changecap_try_session_capture(
 ) -> u32
     requires opened { IsSome client.old.value }
     requires closed { capture.old.value ≡ None }
-    ensures captured { Answers client.old.value client.new.value (Captures (command.Capture session))
+    ensures captured { Answers client.old.value client.new.value
+        (Captures (command.Session session told.Capture))
         (TellsOpened result capture.new.value fault.old fault.new)
         ⊎ (LacksMemory client.old.value client.new.value capture.new.value result
         × (fault.new ≡ fault.old)) }
@@ -57,7 +60,8 @@ pub extern "C" fn changecap_try_session_restart(
 ) -> u32
     requires opened { IsSome client.old.value }
     requires closed { capture.old.value ≡ None }
-    ensures restarted { Answers client.old.value client.new.value (Captures (command.Restart session))
+    ensures restarted { Answers client.old.value client.new.value
+        (Captures (command.Session session (told.Change change.Restart)))
         (TellsOpened result capture.new.value fault.old fault.new)
         ⊎ (LacksMemory client.old.value client.new.value capture.new.value result
         × (fault.new ≡ fault.old)) }

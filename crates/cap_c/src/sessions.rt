@@ -1,6 +1,8 @@
 //! The calls on the sessions of a client's history.
 ghost use Rattle.std.specs.Prelude.{IsSome};
 ghost use Rattle.cap_core.specs.declared.command.Command.TheVariants as command;
+ghost use Rattle.cap_core.specs.declared.session_command.SessionCommand.TheVariants as told;
+ghost use Rattle.cap_session.specs.declared.session_change.SessionChange.TheVariants as change;
 ghost use Rattle.cap_connection.specs.Calls.{Attaches, Diffs, SetsFilter};
 ghost use Rattle.cap_connection.specs.Replies.{flag_in, nothing_in, number_in};
 ghost use Rattle.cap_connection.specs.Runs.{Runs};
@@ -42,7 +44,8 @@ pub extern "C" fn changecap_try_session_drop(
     fault: &mut PlacedFault,
 ) -> u32
     requires opened { IsSome client.old.value }
-    ensures ended { Answers client.old.value client.new.value (Runs nothing_in (command.DropSession session))
+    ensures ended { Answers client.old.value client.new.value
+        (Runs nothing_in (command.Session session told.Delete))
         (Tells result fault.old fault.new) }
 {
     let mut connection = take(alloc, client);
@@ -79,7 +82,8 @@ pub extern "C" fn changecap_try_session_attach_all(
     fault: &mut PlacedFault,
 ) -> u32
     requires opened { IsSome client.old.value }
-    ensures attached { Answers client.old.value client.new.value (Runs nothing_in (command.AttachAll session))
+    ensures attached { Answers client.old.value client.new.value
+        (Runs nothing_in (command.Session session (told.Change change.AttachAll)))
         (Tells result fault.old fault.new) }
 {
     let mut connection = take(alloc, client);
@@ -141,7 +145,8 @@ pub extern "C" fn changecap_try_session_enable(
     requires opened { IsSome client.old.value }
     // A number that asks for nothing is misuse.
     ensures enabled { Answers client.old.value client.new.value
-        (Given (asked_of asked) (λ value. Runs flag_in (command.Enable session value)))
+        (Given (asked_of asked)
+        (λ value. Runs flag_in (command.Session session (told.Change (change.Enable value)))))
         (TellsFlag result flag.old flag.new fault.old fault.new) }
 {
     let mut connection = take(alloc, client);
@@ -155,7 +160,8 @@ fn enable(
     session: u64,
     asked: Option<Option<bool>>,
 ) -> Result<bool, Fault<ConnectionFault>>
-    ensures { Given asked (λ value. Runs flag_in (command.Enable session value))
+    ensures { Given asked
+        (λ value. Runs flag_in (command.Session session (told.Change (change.Enable value))))
         connection.old connection.new result }
 {
     match asked {
@@ -177,7 +183,8 @@ pub extern "C" fn changecap_try_session_indirect(
     requires opened { IsSome client.old.value }
     // A number that asks for nothing is misuse.
     ensures marked { Answers client.old.value client.new.value
-        (Given (asked_of asked) (λ value. Runs flag_in (command.Indirect session value)))
+        (Given (asked_of asked)
+        (λ value. Runs flag_in (command.Session session (told.Change (change.Indirect value)))))
         (TellsFlag result flag.old flag.new fault.old fault.new) }
 {
     let mut connection = take(alloc, client);
@@ -191,7 +198,8 @@ fn indirect(
     session: u64,
     asked: Option<Option<bool>>,
 ) -> Result<bool, Fault<ConnectionFault>>
-    ensures { Given asked (λ value. Runs flag_in (command.Indirect session value))
+    ensures { Given asked
+        (λ value. Runs flag_in (command.Session session (told.Change (change.Indirect value))))
         connection.old connection.new result }
 {
     match asked {
@@ -210,7 +218,8 @@ pub extern "C" fn changecap_try_session_isempty(
     fault: &mut PlacedFault,
 ) -> u32
     requires opened { IsSome client.old.value }
-    ensures asked { Answers client.old.value client.new.value (Runs flag_in (command.IsEmpty session))
+    ensures asked { Answers client.old.value client.new.value
+        (Runs flag_in (command.Session session told.IsEmpty))
         (TellsFlag result flag.old flag.new fault.old fault.new) }
 {
     let mut connection = take(alloc, client);

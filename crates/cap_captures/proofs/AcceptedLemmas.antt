@@ -1,7 +1,8 @@
 -- When all commands of captures in two parts are accepted: where the session is there, the two commits are
 -- accepted one after the other, and seven events have room.
-use Rattle.std.proofs.Common.{◌≡◌, ◌⊎◌, inl, inr, ℕ, ◌+◌, ◌<◌, ◌^◌, Bool, true, false, cond, Option, Some, None, Result, Ok, Err, List, [], ◌∷◌, ◌++◌, refl, sym, ap, subst, ◌∙◌, arith, nat_eq}
-use Rattle.std.specs.Prelude.{is_some, length, map, reverse}
+use Rattle.std.proofs.Common.{◌≡◌, ◌⊎◌, inl, inr, ℕ, ◌+◌, ◌<◌, ◌^◌, Bool, true, false, cond, Option, Some, None, Result, Ok, Err, List, [], ◌∷◌, ◌++◌, ◌&&◌, ◌||◌, refl, sym, ap, subst, ◌∙◌, arith, nat_eq}
+use Rattle.std.specs.Prelude.{filter, is_some, length, map, not, reverse}
+use Rattle.std.specs.List.{range_with_len}
 use Rattle.std.specs.Map.{lookup}
 use Rattle.std.proofs.lemmas.List.{length-reverse, reverse-append}
 use Rattle.cap_value.specs.declared.refusal.Refusal.{Refusal}
@@ -13,31 +14,35 @@ use Rattle.cap_session.specs.Session.{SessionState}
 use Rattle.cap_session.specs.Sessions.{session_numbered}
 use Rattle.cap_txn.specs.Batch.{BatchState}
 use Rattle.cap_txn.specs.Stale.{stale}
+use Rattle.cap_session.specs.declared.session_change.SessionChange.TheVariants.{Enable, Restart}
 use Rattle.cap_core.specs.declared.command.Command.{Command}
-use Rattle.cap_core.specs.declared.command.Command.TheVariants.{Capture, Commit, Enable, Restart}
+use Rattle.cap_core.specs.declared.command.Command.TheVariants.{Commit, Session}
+use Rattle.cap_core.specs.declared.session_command.SessionCommand.{SessionCommand}
+use Rattle.cap_core.specs.declared.session_command.SessionCommand.TheVariants.{Capture, Change}
 use Rattle.cap_core.specs.declared.event.Event.{Event}
 use Rattle.cap_core.specs.declared.reply.Reply.{Reply}
 use Rattle.cap_core.specs.declared.reply.Reply.TheVariants as reply
 use Rattle.cap_core.specs.Answer.{IsLegal, State, answer, event_by, reply_of, session_answer, session_reply, snapshot_of, state, state_after, write_reply}
 use Rattle.cap_core.specs.Capture.{CaptureState, session_changes}
-use Rattle.cap_core.specs.Flags.{live_sessions}
+use Rattle.cap_core.specs.Flags.{deletes, is_dropped, live_sessions, sessions_made}
 use Rattle.cap_core.specs.Outcome.{commit_unless, made}
 use Rattle.cap_core.specs.Past.{HasRoom, Past, is_accepted}
 use Rattle.cap_core.specs.Session.{session_of}
 use Rattle.cap_core.proofs.CommitLemmas.{was-answered, was-legal}
-use Rattle.cap_captures.specs.Parts.{AreAccepted, CanBeInParts, IsCapture, IsCommit}
+use Rattle.cap_core.proofs.SessionLemmas.{and_false}
+use Rattle.cap_captures.specs.Parts.{AreAccepted, CanBeInParts, IsCapture, IsCommit, capturing, enabling, restarting}
 
 module _ {A : Type 0} where
   -- the commands that give the two captures
   abbrev pub in_two_parts : ℕ → Command A → Command A → List (Command A)
   in_two_parts session first second =
-      Enable session (Some true) ∷ Restart session ∷ first ∷ Restart session ∷ second ∷ Restart session ∷ []
+      enabling session ∷ restarting session ∷ first ∷ restarting session ∷ second ∷ restarting session ∷ []
 
   -- the commands that give the one capture
   abbrev pub in_one : ℕ → Command A → Command A → List (Command A)
   in_one session first second =
-      Enable session (Some true) ∷ Restart session ∷ first ∷ Capture session ∷ second ∷ Capture session
-      ∷ Capture session ∷ []
+      enabling session ∷ restarting session ∷ first ∷ capturing session ∷ second ∷ capturing session
+      ∷ capturing session ∷ []
 
   -- ---- commands that are accepted, the oldest event first
 
@@ -116,42 +121,42 @@ module _ {A : Type 0} where
     abbrev pub is_there : Bool
     is_there = is_some (session_numbered now.sessions session)
 
-    pub there-captured : is_accepted (answer now (Capture session)) ≡ true → is_there ≡ true
-    there-captured accepted = was-found (session_numbered now.sessions session) (session_reply now (Capture session)) accepted
+    pub there-captured : is_accepted (answer now (capturing session)) ≡ true → is_there ≡ true
+    there-captured accepted = was-found (session_numbered now.sessions session) (session_reply now Capture) accepted
 
-    pub there-restarted : is_accepted (answer now (Restart session)) ≡ true → is_there ≡ true
-    there-restarted accepted = was-found (session_numbered now.sessions session) (session_reply now (Restart session)) accepted
+    pub there-restarted : is_accepted (answer now (restarting session)) ≡ true → is_there ≡ true
+    there-restarted accepted = was-found (session_numbered now.sessions session) (session_reply now (Change Restart)) accepted
 
-    pub there-enabled : is_accepted (answer now (Enable session (Some true))) ≡ true → is_there ≡ true
-    there-enabled accepted = was-found (session_numbered now.sessions session) (session_reply now (Enable session (Some true))) accepted
+    pub there-enabled : is_accepted (answer now (enabling session)) ≡ true → is_there ≡ true
+    there-enabled accepted = was-found (session_numbered now.sessions session) (session_reply now (Change (Enable (Some true)))) accepted
 
     -- the replies of a session that is there
     module _ (there : is_there ≡ true) where
-      pub captures : (capture : CaptureState A) × (answer now (Capture session) ≡ reply.Capture capture)
-      captures = let found = replied-by (session_numbered now.sessions session) (session_reply now (Capture session)) there in (record { version = now.version; changes = session_changes now.main found.0 }, found.1)
+      pub captures : (capture : CaptureState A) × (answer now (capturing session) ≡ reply.Capture capture)
+      captures = let found = replied-by (session_numbered now.sessions session) (session_reply now Capture) there in (record { version = now.version; changes = session_changes now.main found.0 }, found.1)
 
-      pub restarts : (capture : CaptureState A) × (answer now (Restart session) ≡ reply.Capture capture)
-      restarts = let found = replied-by (session_numbered now.sessions session) (session_reply now (Restart session)) there in (record { version = now.version; changes = session_changes now.main found.0 }, found.1)
+      pub restarts : (capture : CaptureState A) × (answer now (restarting session) ≡ reply.Capture capture)
+      restarts = let found = replied-by (session_numbered now.sessions session) (session_reply now (Change Restart)) there in (record { version = now.version; changes = session_changes now.main found.0 }, found.1)
 
-      pub enables : answer now (Enable session (Some true)) ≡ reply.Flag true
-      enables = (replied-by (session_numbered now.sessions session) (session_reply now (Enable session (Some true))) there).1
+      pub enables : answer now (enabling session) ≡ reply.Flag true
+      enables = (replied-by (session_numbered now.sessions session) (session_reply now (Change (Enable (Some true)))) there).1
 
   -- the same after a history
   module _ (h : List (Event A)) (session : ℕ) where
-    one-capture : is_accepted (reply_of h (Capture session)) ≡ true → (capture : CaptureState A) × (reply_of h (Capture session) ≡ reply.Capture capture)
+    one-capture : is_accepted (reply_of h (capturing session)) ≡ true → (capture : CaptureState A) × (reply_of h (capturing session) ≡ reply.Capture capture)
     unfolding reply_of
     one-capture accepted = captures (state h) session (there-captured (state h) session accepted)
 
-    one-restart : is_accepted (reply_of h (Restart session)) ≡ true → (capture : CaptureState A) × (reply_of h (Restart session) ≡ reply.Capture capture)
+    one-restart : is_accepted (reply_of h (restarting session)) ≡ true → (capture : CaptureState A) × (reply_of h (restarting session) ≡ reply.Capture capture)
     unfolding reply_of
     one-restart accepted = restarts (state h) session (there-restarted (state h) session accepted)
 
-    by-capture : (command : Command A) → (command ≡ Capture session) ⊎ (command ≡ Restart session) → is_accepted (reply_of h command) ≡ true
+    by-capture : (command : Command A) → (command ≡ capturing session) ⊎ (command ≡ restarting session) → is_accepted (reply_of h command) ≡ true
         → (capture : CaptureState A) × (reply_of h command ≡ reply.Capture capture)
     by-capture command (inl is) = subst (λ (c : Command A). is_accepted (reply_of h c) ≡ true → (capture : CaptureState A) × (reply_of h c ≡ reply.Capture capture)) (sym is) one-capture
     by-capture command (inr is) = subst (λ (c : Command A). is_accepted (reply_of h c) ≡ true → (capture : CaptureState A) × (reply_of h c ≡ reply.Capture capture)) (sym is) one-restart
 
-    pub a-flag : is_accepted (reply_of h (Enable session (Some true))) ≡ true → reply_of h (Enable session (Some true)) ≡ reply.Flag true
+    pub a-flag : is_accepted (reply_of h (enabling session)) ≡ true → reply_of h (enabling session) ≡ reply.Flag true
     unfolding reply_of
     a-flag accepted = enables (state h) session (there-enabled (state h) session accepted)
 
@@ -180,6 +185,18 @@ module _ {A : Type 0} where
   still-there : (past later : Past A) (session : ℕ) → live_sessions later ≡ live_sessions past → is_there (state_after past) session ≡ true → is_there (state_after later) session ≡ true
   still-there past later session same there =
       ap (λ numbers. is_some (lookup (nat_eq session) (map (λ k. (k, session_of later k)) numbers))) same ∙ found-alike (session_of later) (session_of past) session (live_sessions past) ∙ there
+
+  told-none : (b : Bool) (command : SessionCommand A) → deletes (Some command) ≡ false → deletes (cond b (Some command) None) ≡ false
+  told-none true command is = is
+  told-none false command is = refl
+
+  no-drop : (number k : ℕ) (command : SessionCommand A) (r : Reply A) → deletes (Some command) ≡ false → (is_accepted r && deletes (cond (nat_eq number k) (Some command) None)) ≡ false
+  no-drop number k command r none = ap (λ d. is_accepted r && d) (told-none (nat_eq number k) command none) ∙ and_false (is_accepted r)
+
+  -- all sessions stay after a command to one that does not delete it
+  all-stay : (past : Past A) (number : ℕ) (command : SessionCommand A) (r : Reply A) → deletes (Some command) ≡ false → live_sessions (event_by 0 (Session number command) r ∷ past) ≡ live_sessions past
+  all-stay past number command r none =
+      λ i. filter (λ k. not (no-drop number k command r none i || is_dropped past k)) (range_with_len 1 (ap (λ b. cond b (sessions_made past + 1) (sessions_made past)) (and_false (is_accepted r)) i))
 
   -- ---- commands after a past, the newest event first
 
@@ -211,13 +228,13 @@ module _ {A : Type 0} where
 
   module _ (past : Past A) (session : ℕ) (first second : BatchState A) (there : is_there (state_after past) session ≡ true) where
     abbrev a : Event A
-    a = event_by 0 (Enable session (Some true)) (reply.Flag true)
+    a = event_by 0 (enabling session) (reply.Flag true)
 
     abbrev restarted : CaptureState A → Event A
-    restarted capture = event_by 0 (Restart session) (reply.Capture capture)
+    restarted capture = event_by 0 (restarting session) (reply.Capture capture)
 
     abbrev captured : CaptureState A → Event A
-    captured capture = event_by 0 (Capture session) (reply.Capture capture)
+    captured capture = event_by 0 (capturing session) (reply.Capture capture)
 
     abbrev c : ℕ → Event A
     c v = event_by 0 (Commit first) (reply.Written v)
@@ -225,59 +242,63 @@ module _ {A : Type 0} where
     abbrev e : ℕ → Event A
     e w = event_by 0 (Commit second) (reply.Written w)
 
-    old : (capture : CaptureState A) × (answer (state_after (a ∷ past)) (Restart session) ≡ reply.Capture capture)
-    old = restarts (state_after (a ∷ past)) session (still-there past (a ∷ past) session refl there)
+    old : (capture : CaptureState A) × (answer (state_after (a ∷ past)) (restarting session) ≡ reply.Capture capture)
+    old = restarts (state_after (a ∷ past)) session (still-there past (a ∷ past) session (all-stay past session (Change (Enable (Some true))) (reply.Flag true) refl) there)
 
     -- the session is enabled and restarted
     abbrev start : Past A
     start = restarted old.0 ∷ a ∷ past
 
-    begun : HasRoom (length (a ∷ past)) → (commands : List (Command A)) → AfterPast start commands → AfterPast past (Enable session (Some true) ∷ Restart session ∷ commands)
-    begun room commands others =
-        one-more past (Enable session (Some true)) (reply.Flag true) (enables (state_after past) session there) (Restart session ∷ commands) (omega arith) refl
-        (one-more (a ∷ past) (Restart session) (reply.Capture old.0) old.1 commands room refl others)
+    at-start : live_sessions start ≡ live_sessions past
+    at-start = all-stay (a ∷ past) session (Change Restart) (reply.Capture old.0) refl ∙ all-stay past session (Change (Enable (Some true))) (reply.Flag true) refl
 
-    from-start : (commands : List (Command A)) → AfterPast past (Enable session (Some true) ∷ Restart session ∷ commands) → AfterPast start commands
+    begun : HasRoom (length (a ∷ past)) → (commands : List (Command A)) → AfterPast start commands → AfterPast past (enabling session ∷ restarting session ∷ commands)
+    begun room commands others =
+        one-more past (enabling session) (reply.Flag true) (enables (state_after past) session there) (restarting session ∷ commands) (omega arith) refl
+        (one-more (a ∷ past) (restarting session) (reply.Capture old.0) old.1 commands room refl others)
+
+    from-start : (commands : List (Command A)) → AfterPast past (enabling session ∷ restarting session ∷ commands) → AfterPast start commands
     from-start commands all =
-        one-less (a ∷ past) (Restart session) (reply.Capture old.0) old.1 commands
-        (one-less past (Enable session (Some true)) (reply.Flag true) (enables (state_after past) session there) (Restart session ∷ commands) all)
+        one-less (a ∷ past) (restarting session) (reply.Capture old.0) old.1 commands
+        (one-less past (enabling session) (reply.Flag true) (enables (state_after past) session there) (restarting session ∷ commands) all)
 
     module _ (v : ℕ) (one : answer (state_after past) (Commit first) ≡ reply.Written v) where
-      part : (capture : CaptureState A) × (answer (state_after (c v ∷ start)) (Restart session) ≡ reply.Capture capture)
-      part = restarts (state_after (c v ∷ start)) session (still-there past (c v ∷ start) session refl there)
+      part : (capture : CaptureState A) × (answer (state_after (c v ∷ start)) (restarting session) ≡ reply.Capture capture)
+      part = restarts (state_after (c v ∷ start)) session (still-there past (c v ∷ start) session at-start there)
 
       module _ (w : ℕ) (two : answer (state_after (c v ∷ past)) (Commit second) ≡ reply.Written w) (room : length past + 7 < 2 ^ 63) where
         parts-accepted : AfterPast past (in_two_parts session (Commit first) (Commit second))
         parts-accepted =
             let middle = restarted part.0 ∷ c v ∷ start in
-            let last = restarts (state_after (e w ∷ middle)) session (still-there past (e w ∷ middle) session refl there) in
-            begun (omega arith) (Commit first ∷ Restart session ∷ Commit second ∷ Restart session ∷ [])
-            (one-more start (Commit first) (reply.Written v) one (Restart session ∷ Commit second ∷ Restart session ∷ []) (omega arith) refl
-            (one-more (c v ∷ start) (Restart session) (reply.Capture part.0) part.1 (Commit second ∷ Restart session ∷ []) (omega arith) refl
-            (one-more middle (Commit second) (reply.Written w) two (Restart session ∷ []) (omega arith) refl
-            (one-more (e w ∷ middle) (Restart session) (reply.Capture last.0) last.1 [] (omega arith) refl tt))))
+            let last = restarts (state_after (e w ∷ middle)) session (still-there past (e w ∷ middle) session (all-stay (c v ∷ start) session (Change Restart) (reply.Capture part.0) refl ∙ at-start) there) in
+            begun (omega arith) (Commit first ∷ restarting session ∷ Commit second ∷ restarting session ∷ [])
+            (one-more start (Commit first) (reply.Written v) one (restarting session ∷ Commit second ∷ restarting session ∷ []) (omega arith) refl
+            (one-more (c v ∷ start) (restarting session) (reply.Capture part.0) part.1 (Commit second ∷ restarting session ∷ []) (omega arith) refl
+            (one-more middle (Commit second) (reply.Written w) two (restarting session ∷ []) (omega arith) refl
+            (one-more (e w ∷ middle) (restarting session) (reply.Capture last.0) last.1 [] (omega arith) refl tt))))
 
         one-accepted : AfterPast past (in_one session (Commit first) (Commit second))
         one-accepted =
-            let half = captures (state_after (c v ∷ start)) session (still-there past (c v ∷ start) session refl there) in
+            let half = captures (state_after (c v ∷ start)) session (still-there past (c v ∷ start) session at-start there) in
             let middle = captured half.0 ∷ c v ∷ start in
-            let more = captures (state_after (e w ∷ middle)) session (still-there past (e w ∷ middle) session refl there) in
-            let last = captures (state_after (captured more.0 ∷ e w ∷ middle)) session (still-there past (captured more.0 ∷ e w ∷ middle) session refl there) in
-            begun (omega arith) (Commit first ∷ Capture session ∷ Commit second ∷ Capture session ∷ Capture session ∷ [])
-            (one-more start (Commit first) (reply.Written v) one (Capture session ∷ Commit second ∷ Capture session ∷ Capture session ∷ []) (omega arith) refl
-            (one-more (c v ∷ start) (Capture session) (reply.Capture half.0) half.1 (Commit second ∷ Capture session ∷ Capture session ∷ []) (omega arith) refl
-            (one-more middle (Commit second) (reply.Written w) two (Capture session ∷ Capture session ∷ []) (omega arith) refl
-            (one-more (e w ∷ middle) (Capture session) (reply.Capture more.0) more.1 (Capture session ∷ []) (omega arith) refl
-            (one-more (captured more.0 ∷ e w ∷ middle) (Capture session) (reply.Capture last.0) last.1 [] (omega arith) refl tt)))))
+            let stays : live_sessions middle ≡ live_sessions past = all-stay (c v ∷ start) session Capture (reply.Capture half.0) refl ∙ at-start in
+            let more = captures (state_after (e w ∷ middle)) session (still-there past (e w ∷ middle) session stays there) in
+            let last = captures (state_after (captured more.0 ∷ e w ∷ middle)) session (still-there past (captured more.0 ∷ e w ∷ middle) session (all-stay (e w ∷ middle) session Capture (reply.Capture more.0) refl ∙ stays) there) in
+            begun (omega arith) (Commit first ∷ capturing session ∷ Commit second ∷ capturing session ∷ capturing session ∷ [])
+            (one-more start (Commit first) (reply.Written v) one (capturing session ∷ Commit second ∷ capturing session ∷ capturing session ∷ []) (omega arith) refl
+            (one-more (c v ∷ start) (capturing session) (reply.Capture half.0) half.1 (Commit second ∷ capturing session ∷ capturing session ∷ []) (omega arith) refl
+            (one-more middle (Commit second) (reply.Written w) two (capturing session ∷ capturing session ∷ []) (omega arith) refl
+            (one-more (e w ∷ middle) (capturing session) (reply.Capture more.0) more.1 (capturing session ∷ []) (omega arith) refl
+            (one-more (captured more.0 ∷ e w ∷ middle) (capturing session) (reply.Capture last.0) last.1 [] (omega arith) refl tt)))))
 
       second-accepted : AfterPast past (in_two_parts session (Commit first) (Commit second)) → is_accepted (answer (state_after (c v ∷ past)) (Commit second)) ≡ true
       second-accepted all =
-          (one-less (c v ∷ start) (Restart session) (reply.Capture part.0) part.1 (Commit second ∷ Restart session ∷ [])
-          (one-less start (Commit first) (reply.Written v) one (Restart session ∷ Commit second ∷ Restart session ∷ [])
-          (from-start (Commit first ∷ Restart session ∷ Commit second ∷ Restart session ∷ []) all))).1
+          (one-less (c v ∷ start) (restarting session) (reply.Capture part.0) part.1 (Commit second ∷ restarting session ∷ [])
+          (one-less start (Commit first) (reply.Written v) one (restarting session ∷ Commit second ∷ restarting session ∷ [])
+          (from-start (Commit first ∷ restarting session ∷ Commit second ∷ restarting session ∷ []) all))).1
 
     first-is-accepted : AfterPast past (in_two_parts session (Commit first) (Commit second)) → is_accepted (answer (state_after past) (Commit first)) ≡ true
-    first-is-accepted all = (from-start (Commit first ∷ Restart session ∷ Commit second ∷ Restart session ∷ []) all).1
+    first-is-accepted all = (from-start (Commit first ∷ restarting session ∷ Commit second ∷ restarting session ∷ []) all).1
 
   -- ---- the same of a history
 

@@ -23,6 +23,7 @@ use Rattle.cap_group.specs.ChangeGroup.{concat_of}
 use Rattle.cap_core.specs.declared.event.Event.{Event}
 use Rattle.cap_core.specs.AppliedCapture.{AppliesWhole, GivesRows, HoldsImages, but_keyed, changes_in}
 use Rattle.cap_core.specs.Capture.{session_changes}
+use Rattle.cap_core.specs.Flags.{command_to}
 use Rattle.cap_core.specs.History.{main}
 use Rattle.cap_core.specs.Past.{Past, is_accepted}
 use Rattle.cap_core.specs.Restarts.{AppliesEach, HoldsFirst, IsSteady, captures, first_touched, touches_over}
@@ -76,11 +77,11 @@ module _ {A : Type 0} where
     over-more : (event : Event A) (later : List (Event A)) (name : List ℕ) (key : Fields A) → Over (event ∷ later) name key ≡ sooner (Over later name key) (Here event later name key)
     over-more = period.over-more runs_keep creates_keep rises session start fresh
 
-    since-more : (event : Event A) (later : List (Event A)) (name : List ℕ) (key : Fields A) → (is_accepted event.reply && restarts session event.command) ≡ false
+    since-more : (event : Event A) (later : List (Event A)) (name : List ℕ) (key : Fields A) → (is_accepted event.reply && restarts (command_to session event.command)) ≡ false
         → Since (event ∷ later) name key ≡ sooner (Since later name key) (Here event later name key)
     since-more = period.since-more runs_keep creates_keep rises session start fresh
 
-    since-restart : (event : Event A) (later : List (Event A)) (name : List ℕ) (key : Fields A) → (is_accepted event.reply && restarts session event.command) ≡ true → Since (event ∷ later) name key ≡ None
+    since-restart : (event : Event A) (later : List (Event A)) (name : List ℕ) (key : Fields A) → (is_accepted event.reply && restarts (command_to session event.command)) ≡ true → Since (event ∷ later) name key ≡ None
     since-restart = period.since-restart runs_keep creates_keep rises session start fresh
 
     not-since : (later : List (Event A)) (name : List ℕ) (key : Fields A) → Over later name key ≡ None → Since later name key ≡ None
@@ -126,7 +127,7 @@ module _ {A : Type 0} where
       here-is name key image is = (period.here-is runs_keep creates_keep rises session start fresh event later steady name key image is).1
 
       -- an event that is no restart of the session
-      other-left : (is_accepted event.reply && restarts session event.command) ≡ false → Left (event ∷ later)
+      other-left : (is_accepted event.reply && restarts (command_to session event.command)) ≡ false → Left (event ∷ later)
       other-left kept_on = record {
         left = before.left;
         applied = subst (λ lists. AppliesEach blob_of policy lists database before.left) (sym (ap (λ b. captures session later start ++ cond b (told ∷ []) []) kept_on ∙ append-nil (captures session later start))) before.applied;
@@ -161,7 +162,7 @@ module _ {A : Type 0} where
           told = session_changes (main (later ++ start)) (session_of (later ++ start) session)
 
       -- a restart, whose capture is applied
-      module _ (restarted : (is_accepted event.reply && restarts session event.command) ≡ true) (main_now : AreRising (main (later ++ start))) (main_then : AreRising (main (event ∷ later ++ start)))
+      module _ (restarted : (is_accepted event.reply && restarts (command_to session event.command)) ≡ true) (main_now : AreRising (main (later ++ start))) (main_then : AreRising (main (event ∷ later ++ start)))
           (leads : (name : List ℕ) (key : Fields A) → period.Leads runs_keep creates_keep rises session start fresh later name key) where
         abbrev list : List (TableChanges A)
         list = session_changes (main (later ++ start)) (session_of (later ++ start) session)
@@ -234,7 +235,7 @@ module _ {A : Type 0} where
     left-after [] steady holds fits = start-left
     left-after (event ∷ later) steady holds fits =
         let before = left-after later steady.2 (holds-before event later steady holds) fits.1 in
-        elim (is_accepted event.reply && restarts session event.command) as (λ b. (is_accepted event.reply && restarts session event.command) ≡ b → Left (event ∷ later)) [
+        elim (is_accepted event.reply && restarts (command_to session event.command)) as (λ b. (is_accepted event.reply && restarts (command_to session event.command)) ≡ b → Left (event ∷ later)) [
           | true ↦ λ restarted.
               restart-left event later steady holds before restarted (rises (later ++ start) fits.1) (rises (event ∷ later ++ start) fits)
               (period.leads-after runs_keep creates_keep rises session start fresh later steady.2 fits.1)
@@ -243,7 +244,7 @@ module _ {A : Type 0} where
 
     -- ---- as the concatenation
 
-    module _ (event : Event A) (later : List (Event A)) (restarted : (is_accepted event.reply && restarts session event.command) ≡ true) (steady : IsSteady session (event ∷ later) start)
+    module _ (event : Event A) (later : List (Event A)) (restarted : (is_accepted event.reply && restarts (command_to session event.command)) ≡ true) (steady : IsSteady session (event ∷ later) start)
         (fits : BlobsFitPast (event ∷ later ++ start)) (holds : HoldsFirst database session (event ∷ later) start) where
       each : Left (event ∷ later)
       each = left-after (event ∷ later) steady holds fits

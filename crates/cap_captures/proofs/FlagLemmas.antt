@@ -25,6 +25,7 @@ use Rattle.cap_group.specs.Record.{differ, new_field as new_of, old_field as old
 use Rattle.cap_group.specs.Rows.{Follow, IsRowUnder, is_indirect, together}
 use Rattle.cap_group.proofs.JoinLemmas.{followed}
 use Rattle.cap_core.specs.declared.event.Event.{Event}
+use Rattle.cap_core.specs.Flags.{command_to}
 use Rattle.cap_core.specs.History.{main}
 use Rattle.cap_core.specs.Past.{Past, is_accepted}
 use Rattle.cap_core.specs.Restarts.{IsSteady, captures, first_touched, touches_over}
@@ -175,7 +176,7 @@ module _ {A : Type 0} where
     -- the touches before the last restart
     abbrev before_restart : List (Event A) → List (Touch A)
     before_restart [] = []
-    before_restart (event ∷ later) = cond (is_accepted event.reply && restarts session event.command) (touches_over session later start) (before_restart later)
+    before_restart (event ∷ later) = cond (is_accepted event.reply && restarts (command_to session event.command)) (touches_over session later start) (before_restart later)
 
     abbrev Closed : List (Event A) → List ℕ → Fields A → Option (Option (Fields A))
     Closed later name key = first_touched (before_restart later) name key
@@ -184,7 +185,7 @@ module _ {A : Type 0} where
       abbrev leads : (name : List ℕ) (key : Fields A) → period.Leads runs_keep creates_keep rises session start fresh later name key
       leads = period.leads-after runs_keep creates_keep rises session start fresh later steady.2 fits.1
 
-      nothing-here : (is_accepted event.reply && restarts session event.command) ≡ true → (name : List ℕ) (key : Fields A) → Here event later name key ≡ None
+      nothing-here : (is_accepted event.reply && restarts (command_to session event.command)) ≡ true → (name : List ℕ) (key : Fields A) → Here event later name key ≡ None
       nothing-here = period.nothing-here runs_keep creates_keep rises session start fresh event later steady (rises (later ++ start) fits.1) (rises (event ∷ later ++ start) fits) leads
 
     -- all touches of a row are those before the last restart and those since
@@ -196,7 +197,7 @@ module _ {A : Type 0} where
         let since = touches session (later ++ start) in
         let here = event_touches session event (later ++ start) in
         rows-append over here name key
-        ∙ elim (is_accepted event.reply && restarts session event.command) as (λ b. (is_accepted event.reply && restarts session event.command) ≡ b
+        ∙ elim (is_accepted event.reply && restarts (command_to session event.command)) as (λ b. (is_accepted event.reply && restarts (command_to session event.command)) ≡ b
         → (rows-in over name key ++ rows-in here name key) ≡ rows-in (cond b over (before_restart later)) name key ++ rows-in (cond b [] (since ++ here)) name key) [
           | true ↦ λ restarted. ap (λ (l : List (Fields A × Touch A)). rows-in over name key ++ l) (none-rows here name key (nothing-here event later steady fits restarted name key))
           | false ↦ λ _.
@@ -212,7 +213,7 @@ module _ {A : Type 0} where
         let since = touches session (later ++ start) in
         let here = event_touches session event (later ++ start) in
         first-append over here name key
-        ∙ elim (is_accepted event.reply && restarts session event.command) as (λ b. (is_accepted event.reply && restarts session event.command) ≡ b
+        ∙ elim (is_accepted event.reply && restarts (command_to session event.command)) as (λ b. (is_accepted event.reply && restarts (command_to session event.command)) ≡ b
         → sooner (Over later name key) (Here event later name key) ≡ sooner (first_touched (cond b over (before_restart later)) name key) (first_touched (cond b [] (since ++ here)) name key)) [
           | true ↦ λ restarted. ap (sooner (Over later name key)) (nothing-here event later steady fits restarted name key)
           | false ↦ λ _.
@@ -244,7 +245,7 @@ module _ {A : Type 0} where
       leads_before : (n : List ℕ) (k : Fields A) → period.Leads runs_keep creates_keep rises session start fresh later n k
       leads_before = period.leads-after runs_keep creates_keep rises session start fresh later steady.2 fits.1
 
-      other-counts : (is_accepted event.reply && restarts session event.command) ≡ false → Counts (event ∷ later) name key
+      other-counts : (is_accepted event.reply && restarts (command_to session event.command)) ≡ false → Counts (event ∷ later) name key
       other-counts kept_on =
           let same = period.led-same runs_keep creates_keep rises session start fresh event later steady rise rise_now leads_before kept_on name key in
           let closed : before_restart (event ∷ later) ≡ before_restart later = ap (λ b. cond b (touches_over session later start) (before_restart later)) kept_on in
@@ -262,7 +263,7 @@ module _ {A : Type 0} where
                 );
           }
 
-      module _ (restarted : (is_accepted event.reply && restarts session event.command) ≡ true)
+      module _ (restarted : (is_accepted event.reply && restarts (command_to session event.command)) ≡ true)
           (changed : IsChangedSince (touches session (later ++ start)) (later ++ start) name key × IsChangedSince (touches_over session later start) (later ++ start) name key) where
         closed-is : before_restart (event ∷ later) ≡ touches_over session later start
         closed-is = ap (λ b. cond b (touches_over session later start) (before_restart later)) restarted
@@ -376,13 +377,13 @@ module _ {A : Type 0} where
     counts-after [] steady fits name key changed = record { none = λ _. refl; some = λ flags image known is. cc }
     counts-after (event ∷ later) steady fits name key changed =
         let before = counts-after later steady.2 fits.1 name key changed.1 in
-        elim (is_accepted event.reply && restarts session event.command) as (λ b. (is_accepted event.reply && restarts session event.command) ≡ b → Counts (event ∷ later) name key) [
+        elim (is_accepted event.reply && restarts (command_to session event.command)) as (λ b. (is_accepted event.reply && restarts (command_to session event.command)) ≡ b → Counts (event ∷ later) name key) [
           | true ↦ λ restarted. restart-counts event later steady fits name key before restarted (changed.0 restarted)
           | false ↦ λ kept_on. other-counts event later steady fits name key before kept_on
         ] refl
 
     -- where the last of the events is a restart, the flag is that of all touches
-    pub counted : (event : Event A) (later : List (Event A)) → (is_accepted event.reply && restarts session event.command) ≡ true → (steady : IsSteady session (event ∷ later) start) → (fits : BlobsFitPast (event ∷ later ++ start))
+    pub counted : (event : Event A) (later : List (Event A)) → (is_accepted event.reply && restarts (command_to session event.command)) ≡ true → (steady : IsSteady session (event ∷ later) start) → (fits : BlobsFitPast (event ∷ later ++ start))
         → (name : List ℕ) (flags : List Bool) (key : Fields A) → IsChangedEachTime session (event ∷ later) start name key → schema_of (main (event ∷ later ++ start)) name ≡ Some flags
         → together combined flags (Led (event ∷ later) name key)
         ≡ change_of flags (period.flag_or runs_keep creates_keep rises session start fresh true (record_from (touches_over session (event ∷ later) start) name key)) (First (event ∷ later) name key) (Now (event ∷ later) name key)

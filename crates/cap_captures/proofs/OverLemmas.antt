@@ -15,6 +15,7 @@ use Rattle.cap_session.specs.declared.record.Record.{Record}
 use Rattle.cap_group.proofs.JoinLemmas.{followed, followed_one_flag}
 use Rattle.cap_group.specs.ChangeGroup.{concat_of}
 use Rattle.cap_core.specs.declared.event.Event.{Event}
+use Rattle.cap_core.specs.Flags.{command_to}
 use Rattle.cap_core.specs.History.{main}
 use Rattle.cap_core.specs.Past.{Past, is_accepted}
 use Rattle.cap_core.specs.Restarts.{IsSteady, captures, touches_over}
@@ -47,7 +48,7 @@ module _ {A : Type 0} where
 
     -- ---- the concatenation
 
-    pub concatenated-captures : (event : Event A) (later : List (Event A)) → (is_accepted event.reply && restarts session event.command) ≡ true → IsSteady session (event ∷ later) start → BlobsFitPast (event ∷ later ++ start)
+    pub concatenated-captures : (event : Event A) (later : List (Event A)) → (is_accepted event.reply && restarts (command_to session event.command)) ≡ true → IsSteady session (event ∷ later) start → BlobsFitPast (event ∷ later ++ start)
         → (groups : List (TableChanges A)) × (concat_of (map Changes (captures session (event ∷ later) start)) ≡ Ok (Changes groups)) × HasCaptureOver session (event ∷ later) start groups
     concatenated-captures event later restarted steady fits =
         let all = event ∷ later in

@@ -16,26 +16,29 @@ use Rattle.cap_apply.specs.Applied.{AppliedState}
 use Rattle.cap_apply.specs.Apply.{apply}
 use Rattle.cap_apply.specs.declared.policy.Policy.{Policy}
 use Rattle.cap_group.specs.ChangeGroup.{concat_of}
+use Rattle.cap_session.specs.declared.session_change.SessionChange.TheVariants.{Enable, Restart}
 use Rattle.cap_core.specs.declared.command.Command.{Command}
-use Rattle.cap_core.specs.declared.command.Command.TheVariants.{Capture, Commit, Enable, Restart}
+use Rattle.cap_core.specs.declared.command.Command.TheVariants.{Commit}
+use Rattle.cap_core.specs.declared.session_command.SessionCommand.TheVariants.{Change}
 use Rattle.cap_core.specs.declared.event.Event.{Event}
 use Rattle.cap_core.specs.declared.reply.Reply.TheVariants as reply
 use Rattle.cap_core.specs.Answer.{IsLegal, IsLegalPast, State, answer, event_by, state_after}
 use Rattle.cap_core.specs.AppliedCapture.{GivesRows}
 use Rattle.cap_core.specs.Capture.{CaptureState, session_changes}
-use Rattle.cap_core.specs.Flags.{is_enabled}
+use Rattle.cap_core.specs.Flags.{asks_enabled, command_to, is_enabled}
 use Rattle.cap_core.specs.History.{main}
 use Rattle.cap_core.specs.Past.{HasRoom, Past, is_accepted}
 use Rattle.cap_core.specs.Restarts.{AppliesAll, HoldsFirst, IsSteady, captures}
 use Rattle.cap_core.specs.Session.{session_of}
 use Rattle.cap_core.specs.Table.{BlobsFit, BlobsFitPast}
-use Rattle.cap_core.specs.Touch.{event_touches, restarts, touches}
+use Rattle.cap_core.specs.Touch.{diff_by, event_touches, restarts, touches}
 use Rattle.cap_core.proofs.AppliedCaptureLemmas.{captured, captured-at}
 use Rattle.cap_core.proofs.NextLemmas.{events-state}
 use Rattle.cap_core.proofs.NumberLemmas.{same_number}
+use Rattle.cap_core.proofs.ToldLemmas.{to_itself}
 use Rattle.cap_captures.specs.Captures.{AreUnrestarted, HasCaptureOver, capture_over, session_over, without_restart}
 use Rattle.cap_captures.specs.declared.parts.Part.{Part}
-use Rattle.cap_captures.specs.Parts.{AreAccepted, CanBeInParts, IsCapture, IsCommit, IsInParts, IsLeftBy, MadeWhere}
+use Rattle.cap_captures.specs.Parts.{AreAccepted, CanBeInParts, IsCapture, IsCommit, IsInParts, IsLeftBy, MadeWhere, capturing, enabling, restarting}
 use Rattle.cap_captures.proofs.AcceptedLemmas.{after-two, all-accepted, can-be, first-accepted, in_one, in_two_parts, later-accepted, two-of, with-two}
 
 -- ---- what is made, where something is
@@ -57,10 +60,10 @@ ok_same e = cc
 -- ---- the laws that are used
 
 abbrev pub ReadsBack : Type 0 → Type 0
-ReadsBack A = (past : Past A) (session : ℕ) (capture : CaptureState A) → answer (state_after past) (Capture session) ≡ reply.Capture capture → IsWritable (Changes capture.changes) → blob_at (list_bytes capture.changes) ≡ Ok (Changes capture.changes)
+ReadsBack A = (past : Past A) (session : ℕ) (capture : CaptureState A) → answer (state_after past) (capturing session) ≡ reply.Capture capture → IsWritable (Changes capture.changes) → blob_at (list_bytes capture.changes) ≡ Ok (Changes capture.changes)
 
 abbrev pub IsOneCapture : Type 0 → Type 0
-IsOneCapture A = (session : ℕ) (start : Past A) (later : List (Event A)) (event : Event A) → touches session start ≡ [] → (is_accepted event.reply && restarts session event.command) ≡ true
+IsOneCapture A = (session : ℕ) (start : Past A) (later : List (Event A)) (event : Event A) → touches session start ≡ [] → (is_accepted event.reply && restarts (command_to session event.command)) ≡ true
     → IsSteady session (event ∷ later) start → BlobsFitPast (event ∷ later ++ start)
     → (groups : List (TableChanges A)) × (concat_of (map Changes (captures session (event ∷ later) start)) ≡ Ok (Changes groups)) × HasCaptureOver session (event ∷ later) start groups
 
@@ -70,7 +73,7 @@ IsWithoutRestarts A = (session : ℕ) (start : Past A) (later others : List (Eve
 
 abbrev pub AppliesAsCaptures : Type 0 → Type 0
 AppliesAsCaptures A = (policy : Policy) (session : ℕ) (start : Past A) (later : List (Event A)) (event : Event A) (database : Tables A) (blob : Contents A)
-    → touches session start ≡ [] → (is_accepted event.reply && restarts session event.command) ≡ true
+    → touches session start ≡ [] → (is_accepted event.reply && restarts (command_to session event.command)) ≡ true
     → IsSteady session (event ∷ later) start → BlobsFitPast (event ∷ later ++ start)
     → AreRising database → HoldsFirst database session (event ∷ later) start
     → concat_of (map Changes (captures session (event ∷ later) start)) ≡ Ok blob
@@ -114,22 +117,22 @@ module _ {A : Type 0} where
 
   module _ (h : List (Event A)) (session : ℕ) (first second : BatchState A) (flag : Bool) (old one two : CaptureState A) (v w : ℕ) where
     abbrev a : Event A
-    a = event_by 0 (Enable session (Some true)) (reply.Flag flag)
+    a = event_by 0 (enabling session) (reply.Flag flag)
 
     abbrev b : Event A
-    b = event_by 0 (Restart session) (reply.Capture old)
+    b = event_by 0 (restarting session) (reply.Capture old)
 
     abbrev c : Event A
     c = event_by 0 (Commit first) (reply.Written v)
 
     abbrev d : Event A
-    d = event_by 0 (Restart session) (reply.Capture one)
+    d = event_by 0 (restarting session) (reply.Capture one)
 
     abbrev e : Event A
     e = event_by 0 (Commit second) (reply.Written w)
 
     abbrev f : Event A
-    f = event_by 0 (Restart session) (reply.Capture two)
+    f = event_by 0 (restarting session) (reply.Capture two)
 
     -- the history after the first two of these events, and after the first four
     abbrev begun : List (Event A)
@@ -161,10 +164,10 @@ module _ {A : Type 0} where
       unfolding BlobsFit
       fits = subst BlobsFitPast backwards stands.fits
 
-      two-answered : answer (state_after (later ++ start)) (Capture session) ≡ reply.Capture two
+      two-answered : answer (state_after (later ++ start)) (capturing session) ≡ reply.Capture two
       two-answered = sym legal.0
 
-      one-answered : answer (state_after (c ∷ start)) (Capture session) ≡ reply.Capture one
+      one-answered : answer (state_after (c ∷ start)) (capturing session) ≡ reply.Capture one
       one-answered = sym legal.1.1.0
 
       two-is : two.changes ≡ session_changes (main (later ++ start)) (session_of (later ++ start) session)
@@ -177,16 +180,25 @@ module _ {A : Type 0} where
       captures-are =
           let x = session_changes (main (c ∷ start)) (session_of (c ∷ start) session) in
           let y = session_changes (main (later ++ start)) (session_of (later ++ start) session) in
-          ap (λ t. ((([] ++ cond t (x ∷ []) []) ++ []) ++ cond t (y ∷ []) [])) (same_number session) ∙ (λ i. sym one-is i ∷ sym two-is i ∷ [])
+          ap (λ t. ((([] ++ cond (restarts t) (x ∷ []) []) ++ []) ++ cond (restarts t) (y ∷ []) [])) (to_itself session (Change Restart)) ∙ (λ i. sym one-is i ∷ sym two-is i ∷ [])
+
+      restarted : restarts (command_to {A = A} session (restarting session)) ≡ true
+      restarted = ap restarts (to_itself session (Change Restart))
 
       fresh : touches session start ≡ []
-      fresh = ap (λ t. cond t [] (touches session (a ∷ reverse h) ++ event_touches session b (a ∷ reverse h))) (same_number session)
+      fresh = ap (λ t. cond t [] (touches session (a ∷ reverse h) ++ event_touches session b (a ∷ reverse h))) restarted
 
       on : is_enabled session start ≡ true
-      on = ap (λ t. unwrap_or (cond t (Some true) None) (is_enabled session (reverse h))) (same_number session)
+      on = λ i. unwrap_or (asks_enabled {A = A} (to_itself session (Change Restart) i)) (unwrap_or (asks_enabled {A = A} (to_itself session (Change (Enable (Some true))) i)) (is_enabled session (reverse h)))
+
+      on-again : is_enabled session (d ∷ c ∷ start) ≡ true
+      on-again = λ i. unwrap_or (asks_enabled {A = A} (to_itself session (Change Restart) i)) (on i)
+
+      no-diff : (past : Past A) → diff_by (command_to session (restarting session)) past ≡ None
+      no-diff past = ap (λ t. diff_by t past) (to_itself session (Change Restart))
 
       steady : IsSteady session (f ∷ later) start
-      steady = ((on, refl), refl, ((on, refl), refl, ((on, refl), refl, ((on, refl), refl, tt))))
+      steady = ((on-again, refl), no-diff (later ++ start), ((on-again, refl), refl, ((on, refl), no-diff (c ∷ start), ((on, refl), refl, tt))))
 
       -- the two captures are read back, and have a concatenation
       module _ (reads : ReadsBack A) (law : IsOneCapture A) (writable : IsWritable (Changes one.changes)) (writable' : IsWritable (Changes two.changes)) where
@@ -198,7 +210,7 @@ module _ {A : Type 0} where
 
         joined : (groups : List (TableChanges A)) × (concat_of (Changes one.changes ∷ Changes two.changes ∷ []) ≡ Ok (Changes groups)) × HasCaptureOver session (f ∷ later) start groups
         joined =
-            let same = law session start later f fresh (same_number session) steady fits in
+            let same = law session start later f fresh restarted steady fits in
             (same.0, ap (λ lists. concat_of (map Changes lists)) (sym captures-are) ∙ same.1, same.2)
 
         -- so that what is made of them is something
@@ -209,22 +221,22 @@ module _ {A : Type 0} where
 
       -- the same commands, with captures in place of the last two restarts, and a capture behind them
       module _ (x y made : CaptureState A) (v' w' : ℕ) (other : State A)
-          (others : IsLeftBy (((((begun ++ event_by 0 (Commit first) (reply.Written v') ∷ []) ++ event_by 0 (Capture session) (reply.Capture x) ∷ []) ++ event_by 0 (Commit second) (reply.Written w') ∷ [])
-          ++ event_by 0 (Capture session) (reply.Capture y) ∷ []) ++ event_by 0 (Capture session) (reply.Capture made) ∷ []) other) where
+          (others : IsLeftBy (((((begun ++ event_by 0 (Commit first) (reply.Written v') ∷ []) ++ event_by 0 (capturing session) (reply.Capture x) ∷ []) ++ event_by 0 (Commit second) (reply.Written w') ∷ [])
+          ++ event_by 0 (capturing session) (reply.Capture y) ∷ []) ++ event_by 0 (capturing session) (reply.Capture made) ∷ []) other) where
         abbrev c' : Event A
         c' = event_by 0 (Commit first) (reply.Written v')
 
         abbrev d' : Event A
-        d' = event_by 0 (Capture session) (reply.Capture x)
+        d' = event_by 0 (capturing session) (reply.Capture x)
 
         abbrev e' : Event A
         e' = event_by 0 (Commit second) (reply.Written w')
 
         abbrev f' : Event A
-        f' = event_by 0 (Capture session) (reply.Capture y)
+        f' = event_by 0 (capturing session) (reply.Capture y)
 
         abbrev g' : Event A
-        g' = event_by 0 (Capture session) (reply.Capture made)
+        g' = event_by 0 (capturing session) (reply.Capture made)
 
         abbrev unrestarted : List (Event A)
         unrestarted = f' ∷ e' ∷ d' ∷ c' ∷ []
@@ -242,7 +254,7 @@ module _ {A : Type 0} where
 
         alike : AreUnrestarted session (f ∷ later) unrestarted
         alike =
-            let one_restart : Capture session ≡ without_restart session (Restart session) = sym (ap (λ t. cond t (Capture session) (Restart session)) (same_number session)) in
+            let one_restart : capturing session ≡ without_restart session (restarting session) = sym (ap (λ t. cond t (capturing session) (restarting session)) (same_number session)) in
             (one_restart, refl, (refl, refl, (one_restart, refl, (refl, refl, tt))))
 
         made-is : IsWithoutRestarts A → made.changes ≡ capture_over session (f ∷ later) start
@@ -269,25 +281,25 @@ module _ {A : Type 0} where
               whole_version = captured-at (unrestarted ++ start) session made (sym legal'.0);
               captured = same.2;
               applies = λ policy database rise holds.
-                  let left = applies policy session start later f database blob fresh (same_number session) steady fits rise holds told in
+                  let left = applies policy session start later f database blob fresh restarted steady fits rise holds told in
                   (left.0, left.1, left.2);
             }
 
   -- ---- the same of commands that are commits
 
   abbrev pub enabled : List (Event A) → ℕ → Bool → CaptureState A → List (Event A)
-  enabled h session flag old = (h ++ event_by 0 (Enable session (Some true)) (reply.Flag flag) ∷ []) ++ event_by 0 (Restart session) (reply.Capture old) ∷ []
+  enabled h session flag old = (h ++ event_by 0 (enabling session) (reply.Flag flag) ∷ []) ++ event_by 0 (restarting session) (reply.Capture old) ∷ []
 
   abbrev pub first-part : List (Event A) → ℕ → Command A → Bool → CaptureState A → ℕ → CaptureState A → List (Event A)
-  first-part h session first flag old v one = (enabled h session flag old ++ event_by 0 first (reply.Written v) ∷ []) ++ event_by 0 (Restart session) (reply.Capture one) ∷ []
+  first-part h session first flag old v one = (enabled h session flag old ++ event_by 0 first (reply.Written v) ∷ []) ++ event_by 0 (restarting session) (reply.Capture one) ∷ []
 
   abbrev second-part : List (Event A) → ℕ → Command A → Command A → Bool → CaptureState A → CaptureState A → CaptureState A → ℕ → ℕ → List (Event A)
-  second-part h session first second flag old one two v w = (first-part h session first flag old v one ++ event_by 0 second (reply.Written w) ∷ []) ++ event_by 0 (Restart session) (reply.Capture two) ∷ []
+  second-part h session first second flag old one two v w = (first-part h session first flag old v one ++ event_by 0 second (reply.Written w) ∷ []) ++ event_by 0 (restarting session) (reply.Capture two) ∷ []
 
   abbrev unrestarted-whole : List (Event A) → ℕ → Command A → Command A → CaptureState A → CaptureState A → CaptureState A → ℕ → ℕ → List (Event A)
   unrestarted-whole start session first second x y made v w =
-      ((((start ++ event_by 0 first (reply.Written v) ∷ []) ++ event_by 0 (Capture session) (reply.Capture x) ∷ []) ++ event_by 0 second (reply.Written w) ∷ [])
-      ++ event_by 0 (Capture session) (reply.Capture y) ∷ []) ++ event_by 0 (Capture session) (reply.Capture made) ∷ []
+      ((((start ++ event_by 0 first (reply.Written v) ∷ []) ++ event_by 0 (capturing session) (reply.Capture x) ∷ []) ++ event_by 0 second (reply.Written w) ∷ [])
+      ++ event_by 0 (capturing session) (reply.Capture y) ∷ []) ++ event_by 0 (capturing session) (reply.Capture made) ∷ []
 
   -- ---- each step is accepted, where the parts can be had
 
@@ -295,34 +307,34 @@ module _ {A : Type 0} where
     all : AreAccepted h (in_two_parts session first second) × AreAccepted h (in_one session first second)
     all = all-accepted h session first second can
 
-    pub start-accepted : AreAccepted h (Enable session (Some true) ∷ Restart session ∷ [])
-    start-accepted = two-of h (Enable session (Some true)) (Restart session) (first ∷ Restart session ∷ second ∷ Restart session ∷ []) all.0
+    pub start-accepted : AreAccepted h (enabling session ∷ restarting session ∷ [])
+    start-accepted = two-of h (enabling session) (restarting session) (first ∷ restarting session ∷ second ∷ restarting session ∷ []) all.0
 
     module _ (flag : Bool) (old : CaptureState A) (legal : IsLegal (enabled h session flag old)) where
-      after-start : AreAccepted (enabled h session flag old) (first ∷ Restart session ∷ second ∷ Restart session ∷ [])
-      after-start = after-two h (Enable session (Some true)) (Restart session) (reply.Flag flag) (reply.Capture old) (first ∷ Restart session ∷ second ∷ Restart session ∷ []) legal all.0
+      after-start : AreAccepted (enabled h session flag old) (first ∷ restarting session ∷ second ∷ restarting session ∷ [])
+      after-start = after-two h (enabling session) (restarting session) (reply.Flag flag) (reply.Capture old) (first ∷ restarting session ∷ second ∷ restarting session ∷ []) legal all.0
 
-      pub first-part-accepted : IsCommit first × AreAccepted (enabled h session flag old) (first ∷ Restart session ∷ [])
-      first-part-accepted = (can.commits.0, two-of (enabled h session flag old) first (Restart session) (second ∷ Restart session ∷ []) after-start)
+      pub first-part-accepted : IsCommit first × AreAccepted (enabled h session flag old) (first ∷ restarting session ∷ [])
+      first-part-accepted = (can.commits.0, two-of (enabled h session flag old) first (restarting session) (second ∷ restarting session ∷ []) after-start)
 
-      pub second-part-accepted : (v : ℕ) (one : CaptureState A) → IsLegal (first-part h session first flag old v one) → IsCommit second × AreAccepted (first-part h session first flag old v one) (second ∷ Restart session ∷ [])
+      pub second-part-accepted : (v : ℕ) (one : CaptureState A) → IsLegal (first-part h session first flag old v one) → IsCommit second × AreAccepted (first-part h session first flag old v one) (second ∷ restarting session ∷ [])
       second-part-accepted v one legal =
-          (can.commits.1, after-two (enabled h session flag old) first (Restart session) (reply.Written v) (reply.Capture one) (second ∷ Restart session ∷ []) legal after-start)
+          (can.commits.1, after-two (enabled h session flag old) first (restarting session) (reply.Written v) (reply.Capture one) (second ∷ restarting session ∷ []) legal after-start)
 
-      pub whole-accepted : (IsCommit first × IsCommit second) × AreAccepted (enabled h session flag old) (first ∷ Capture session ∷ second ∷ Capture session ∷ Capture session ∷ [])
+      pub whole-accepted : (IsCommit first × IsCommit second) × AreAccepted (enabled h session flag old) (first ∷ capturing session ∷ second ∷ capturing session ∷ capturing session ∷ [])
       whole-accepted =
-          (can.commits, after-two h (Enable session (Some true)) (Restart session) (reply.Flag flag) (reply.Capture old) (first ∷ Capture session ∷ second ∷ Capture session ∷ Capture session ∷ []) legal all.1)
+          (can.commits, after-two h (enabling session) (restarting session) (reply.Flag flag) (reply.Capture old) (first ∷ capturing session ∷ second ∷ capturing session ∷ capturing session ∷ []) legal all.1)
 
   -- and the parts can be had, where each step is accepted
   pub each-accepted : (h : List (Event A)) (session : ℕ) (first second : Command A) (flag : Bool) (old one : CaptureState A) (v : ℕ) → IsLegal (enabled h session flag old) → IsLegal (first-part h session first flag old v one)
-      → AreAccepted h (Enable session (Some true) ∷ Restart session ∷ []) → IsCommit first × AreAccepted (enabled h session flag old) (first ∷ Restart session ∷ [])
-      → IsCommit second × AreAccepted (first-part h session first flag old v one) (second ∷ Restart session ∷ [])
-      → (IsCommit first × IsCommit second) × AreAccepted (enabled h session flag old) (first ∷ Capture session ∷ second ∷ Capture session ∷ Capture session ∷ []) → CanBeInParts h session first second
+      → AreAccepted h (enabling session ∷ restarting session ∷ []) → IsCommit first × AreAccepted (enabled h session flag old) (first ∷ restarting session ∷ [])
+      → IsCommit second × AreAccepted (first-part h session first flag old v one) (second ∷ restarting session ∷ [])
+      → (IsCommit first × IsCommit second) × AreAccepted (enabled h session flag old) (first ∷ capturing session ∷ second ∷ capturing session ∷ capturing session ∷ []) → CanBeInParts h session first second
   each-accepted h session first second flag old one v legal legal' on first_is second_is whole =
       can-be h session first second first_is.0 second_is.0 (
-        with-two h (Enable session (Some true)) (Restart session) (reply.Flag flag) (reply.Capture old) (first ∷ Restart session ∷ second ∷ Restart session ∷ []) legal on
-            (with-two (enabled h session flag old) first (Restart session) (reply.Written v) (reply.Capture one) (second ∷ Restart session ∷ []) legal' first_is.1 second_is.1),
-        with-two h (Enable session (Some true)) (Restart session) (reply.Flag flag) (reply.Capture old) (first ∷ Capture session ∷ second ∷ Capture session ∷ Capture session ∷ []) legal on whole.1,
+        with-two h (enabling session) (restarting session) (reply.Flag flag) (reply.Capture old) (first ∷ restarting session ∷ second ∷ restarting session ∷ []) legal on
+            (with-two (enabled h session flag old) first (restarting session) (reply.Written v) (reply.Capture one) (second ∷ restarting session ∷ []) legal' first_is.1 second_is.1),
+        with-two h (enabling session) (restarting session) (reply.Flag flag) (reply.Capture old) (first ∷ capturing session ∷ second ∷ capturing session ∷ capturing session ∷ []) legal on whole.1,
       )
 
   -- ---- what comes out
@@ -357,18 +369,18 @@ module _ {A : Type 0} where
     -- what enabling and restarting the session gives
     abbrev pub Starts : State A → Option (State A) → Type 0
     Starts core made =
-        (h : List (Event A)) → IsLeftBy h core → MadeWhere (AreAccepted h (Enable session (Some true) ∷ Restart session ∷ [])) made (λ left. (flag : Bool) × (old : CaptureState A) × IsLeftBy (enabled h session flag old) left)
+        (h : List (Event A)) → IsLeftBy h core → MadeWhere (AreAccepted h (enabling session ∷ restarting session ∷ [])) made (λ left. (flag : Bool) × (old : CaptureState A) × IsLeftBy (enabled h session flag old) left)
 
     -- what a commit and a restart give
     abbrev pub GivesPart : State A → Command A → Option (Part A) → Type 0
     GivesPart core commit made =
-        (h : List (Event A)) → IsLeftBy h core → MadeWhere (IsCommit commit × AreAccepted h (commit ∷ Restart session ∷ [])) made
-        (λ p. (version : ℕ) × IsLeftBy ((h ++ event_by 0 commit (reply.Written version) ∷ []) ++ event_by 0 (Restart session) (reply.Capture p.capture) ∷ []) p.core)
+        (h : List (Event A)) → IsLeftBy h core → MadeWhere (IsCommit commit × AreAccepted h (commit ∷ restarting session ∷ [])) made
+        (λ p. (version : ℕ) × IsLeftBy ((h ++ event_by 0 commit (reply.Written version) ∷ []) ++ event_by 0 (restarting session) (reply.Capture p.capture) ∷ []) p.core)
 
     -- what both commits give without restarts
     abbrev pub GivesWhole : State A → Command A → Command A → Option (CaptureState A) → Type 0
     GivesWhole core first second made =
-        (h : List (Event A)) → IsLeftBy h core → MadeWhere ((IsCommit first × IsCommit second) × AreAccepted h (first ∷ Capture session ∷ second ∷ Capture session ∷ Capture session ∷ [])) made
+        (h : List (Event A)) → IsLeftBy h core → MadeWhere ((IsCommit first × IsCommit second) × AreAccepted h (first ∷ capturing session ∷ second ∷ capturing session ∷ capturing session ∷ [])) made
         (λ whole. (x y : CaptureState A) × ((v w : ℕ) × (left : State A) × IsLeftBy (unrestarted-whole h session first second x y whole v w) left))
 
   module _ (h : List (Event A)) (core : State A) (session : ℕ) (first second : Command A) (stands : IsLeftBy h core) where

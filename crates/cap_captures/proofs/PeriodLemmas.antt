@@ -23,6 +23,7 @@ use Rattle.cap_group.specs.ChangeGroup.{concat_of}
 use Rattle.cap_group.specs.Rows.{Follow, IsRowUnder, together}
 use Rattle.cap_core.specs.declared.event.Event.{Event}
 use Rattle.cap_core.specs.Capture.{session_changes}
+use Rattle.cap_core.specs.Flags.{command_to}
 use Rattle.cap_core.specs.History.{event_effect, main, snapshot}
 use Rattle.cap_core.specs.Outcome.{Effect, no_effect}
 use Rattle.cap_database.specs.Carried.{is_of_row}
@@ -81,13 +82,13 @@ module _ {A : Type 0} where
     pub over-more : (event : Event A) (later : List (Event A)) (name : List ℕ) (key : Fields A) → Over (event ∷ later) name key ≡ sooner (Over later name key) (Here event later name key)
     over-more event later name key = first-append (touches_over session later start) (event_touches session event (later ++ start)) name key
 
-    pub since-more : (event : Event A) (later : List (Event A)) (name : List ℕ) (key : Fields A) → (is_accepted event.reply && restarts session event.command) ≡ false
+    pub since-more : (event : Event A) (later : List (Event A)) (name : List ℕ) (key : Fields A) → (is_accepted event.reply && restarts (command_to session event.command)) ≡ false
         → Since (event ∷ later) name key ≡ sooner (Since later name key) (Here event later name key)
     since-more event later name key kept_on =
         ap (λ b. first_touched (cond b [] (touches session (later ++ start) ++ event_touches session event (later ++ start))) name key) kept_on
         ∙ first-append (touches session (later ++ start)) (event_touches session event (later ++ start)) name key
 
-    pub since-restart : (event : Event A) (later : List (Event A)) (name : List ℕ) (key : Fields A) → (is_accepted event.reply && restarts session event.command) ≡ true → Since (event ∷ later) name key ≡ None
+    pub since-restart : (event : Event A) (later : List (Event A)) (name : List ℕ) (key : Fields A) → (is_accepted event.reply && restarts (command_to session event.command)) ≡ true → Since (event ∷ later) name key ≡ None
     since-restart event later name key restarted = ap (λ b. first_touched (cond b [] (touches session (later ++ start) ++ event_touches session event (later ++ start))) name key) restarted
 
     -- what was not touched over all was not touched since the last restart
@@ -95,7 +96,7 @@ module _ {A : Type 0} where
     not-since [] name key none = ap (λ ts. first_touched ts name key) fresh
     not-since (event ∷ later) name key none =
         let parts = sooner-none (Over later name key) (Here event later name key) (sym (over-more event later name key) ∙ none) in
-        elim (is_accepted event.reply && restarts session event.command) as (λ b. (is_accepted event.reply && restarts session event.command) ≡ b → Since (event ∷ later) name key ≡ None) [
+        elim (is_accepted event.reply && restarts (command_to session event.command)) as (λ b. (is_accepted event.reply && restarts (command_to session event.command)) ≡ b → Since (event ∷ later) name key ≡ None) [
           | true ↦ λ restarted. since-restart event later name key restarted
           | false ↦ λ kept_on. since-more event later name key kept_on ∙ (λ i. sooner (not-since later name key parts.0 i) (parts.1 i))
         ] refl
@@ -170,7 +171,7 @@ module _ {A : Type 0} where
     module _ (event : Event A) (later : List (Event A)) (steady : IsSteady session (event ∷ later) start) (rise : AreRising (main (later ++ start))) (rise_now : AreRising (main (event ∷ later ++ start)))
         (before : (name : List ℕ) (key : Fields A) → Leads later name key) where
       -- an event that is no restart of the session
-      module _ (kept_on : (is_accepted event.reply && restarts session event.command) ≡ false) where
+      module _ (kept_on : (is_accepted event.reply && restarts (command_to session event.command)) ≡ false) where
         captures-same : captures session (event ∷ later) start ≡ captures session later start
         captures-same =
             ap (λ b. captures session later start ++ cond b (session_changes (main (later ++ start)) (session_of (later ++ start) session) ∷ []) []) kept_on ∙ append-nil (captures session later start)
@@ -248,7 +249,7 @@ module _ {A : Type 0} where
         ] refl
 
       -- a restart
-      module _ (restarted : (is_accepted event.reply && restarts session event.command) ≡ true) where
+      module _ (restarted : (is_accepted event.reply && restarts (command_to session event.command)) ≡ true) where
         abbrev list : List (TableChanges A)
         list = session_changes (main (later ++ start)) (session_of (later ++ start) session)
 
@@ -375,7 +376,7 @@ module _ {A : Type 0} where
     }
     leads-after (event ∷ later) steady fits name key =
         let before = leads-after later steady.2 fits.1 in
-        elim (is_accepted event.reply && restarts session event.command) as (λ b. (is_accepted event.reply && restarts session event.command) ≡ b → Leads (event ∷ later) name key) [
+        elim (is_accepted event.reply && restarts (command_to session event.command)) as (λ b. (is_accepted event.reply && restarts (command_to session event.command)) ≡ b → Leads (event ∷ later) name key) [
           | true ↦ λ restarted. restart-leads event later steady (rises (later ++ start) fits.1) (rises (event ∷ later ++ start) fits) before restarted name key
           | false ↦ λ kept_on. other-leads event later steady (rises (later ++ start) fits.1) (rises (event ∷ later ++ start) fits) before kept_on name key
         ] refl
@@ -388,7 +389,7 @@ module _ {A : Type 0} where
     since-flag (event ∷ later) name key indirect all =
         let here = event_touches session event (later ++ start) in
         let parts = subst (TouchesHaveFlag indirect) (rows-append (touches_over session later start) here name key) all in
-        elim (is_accepted event.reply && restarts session event.command) as (λ b. TouchesHaveFlag indirect (rows-in (cond b [] (touches session (later ++ start) ++ here)) name key)) [
+        elim (is_accepted event.reply && restarts (command_to session event.command)) as (λ b. TouchesHaveFlag indirect (rows-in (cond b [] (touches session (later ++ start) ++ here)) name key)) [
           | true ↦ tt
           | false ↦
               subst (TouchesHaveFlag indirect) (sym (rows-append (touches session (later ++ start)) here name key))
@@ -407,7 +408,7 @@ module _ {A : Type 0} where
         let rise = rises (later ++ start) fits.1 in
         let rise_now = rises (event ∷ later ++ start) fits in
         let more = led-flag later steady.2 fits.1 name key indirect first in
-        elim (is_accepted event.reply && restarts session event.command) as (λ b. (is_accepted event.reply && restarts session event.command) ≡ b → ChangesHaveFlag indirect (Led (event ∷ later) name key)) [
+        elim (is_accepted event.reply && restarts (command_to session event.command)) as (λ b. (is_accepted event.reply && restarts (command_to session event.command)) ≡ b → ChangesHaveFlag indirect (Led (event ∷ later) name key)) [
           | true ↦ λ restarted.
               subst (ChangesHaveFlag indirect) (sym (led-more event later steady rise rise_now before restarted name key))
               (all-append _ (Led later name key) (row_changes name key (list event later steady rise rise_now before restarted)) more
@@ -425,12 +426,12 @@ module _ {A : Type 0} where
         λ groups known. all-turn (λ (group : TableChanges A). schema_of (main (later ++ start)) group.table ≡ Some group.schema) (λ (group : TableChanges A). schema_of (main (event ∷ later ++ start)) group.table ≡ Some group.schema)
         (λ group is. columns-keep event later group.table group.schema is) groups known in
         let mine : AreKnown (main (event ∷ later ++ start)) told = keep told (groups-known (main (later ++ start)) (session_of (later ++ start) session).tables) in
-        all-append _ (captures session later start) (cond (is_accepted event.reply && restarts session event.command) (told ∷ []) [])
+        all-append _ (captures session later start) (cond (is_accepted event.reply && restarts (command_to session event.command)) (told ∷ []) [])
         (all-turn (AreKnown (main (later ++ start))) (AreKnown (main (event ∷ later ++ start))) keep (captures session later start) (known-after later))
-        (elim (is_accepted event.reply && restarts session event.command) as (λ b. AllByRecursion (AreKnown (main (event ∷ later ++ start))) (cond b (told ∷ []) [])) [ true ↦ (mine, tt) | false ↦ tt ])
+        (elim (is_accepted event.reply && restarts (command_to session event.command)) as (λ b. AllByRecursion (AreKnown (main (event ∷ later ++ start))) (cond b (told ∷ []) [])) [ true ↦ (mine, tt) | false ↦ tt ])
 
     -- where the last of the events is a restart, the captures lead to the rows now
-    pub captures-follow : (event : Event A) (later : List (Event A)) → (is_accepted event.reply && restarts session event.command) ≡ true → IsSteady session (event ∷ later) start → BlobsFitPast (event ∷ later ++ start)
+    pub captures-follow : (event : Event A) (later : List (Event A)) → (is_accepted event.reply && restarts (command_to session event.command)) ≡ true → IsSteady session (event ∷ later) start → BlobsFitPast (event ∷ later ++ start)
         → AreInARow (schema_of (main (event ∷ later ++ start))) (First (event ∷ later)) (Now (event ∷ later)) (captures session (event ∷ later) start)
     captures-follow event later restarted steady fits =
         let leads = leads-after (event ∷ later) steady fits in
@@ -506,7 +507,7 @@ module _ {A : Type 0} where
 
     -- ---- the concatenation, applied to a database with the first images
 
-    module _ (event : Event A) (later : List (Event A)) (restarted : (is_accepted event.reply && restarts session event.command) ≡ true) (steady : IsSteady session (event ∷ later) start)
+    module _ (event : Event A) (later : List (Event A)) (restarted : (is_accepted event.reply && restarts (command_to session event.command)) ≡ true) (steady : IsSteady session (event ∷ later) start)
         (fits : BlobsFitPast (event ∷ later ++ start)) (database : Tables A) (rise : AreRising database) (holds : HoldsFirst database session (event ∷ later) start) where
       abbrev all : List (Event A)
       all = event ∷ later

@@ -19,6 +19,7 @@ use Rattle.cap_group.specs.Rows.{Follow, IsRowUnder, is_indirect}
 use Rattle.cap_core.specs.declared.command.Command.{Command}
 use Rattle.cap_core.specs.declared.command.Command.TheVariants as command
 use Rattle.cap_core.specs.declared.event.Event.{Event}
+use Rattle.cap_core.specs.Flags.{command_to}
 use Rattle.cap_core.specs.History.{is_write}
 use Rattle.cap_core.specs.Past.{Past, is_accepted}
 use Rattle.cap_core.specs.Restarts.{first_touched}
@@ -58,12 +59,11 @@ flat-append f [] ys = refl
 flat-append f (x ∷ xs) ys = ap (λ l. f x ++ l) (flat-append f xs ys) ∙ sym (append_assoc (f x) (flat_map f xs) (flat_map f ys))
 
 module _ {A : Type 0} where
-  pub restarts-write : (session : ℕ) (event : Event A) → (is_accepted event.reply && restarts session event.command) ≡ true → (is_accepted event.reply && is_write event.command) ≡ false
+  pub restarts-write : (session : ℕ) (event : Event A) → (is_accepted event.reply && restarts (command_to session event.command)) ≡ true → (is_accepted event.reply && is_write event.command) ≡ false
   restarts-write session event is =
-      ap (λ b. is_accepted event.reply && b) (no_write event.command (second (is_accepted event.reply) (restarts session event.command) is)) ∙ and_false (is_accepted event.reply)
+      ap (λ b. is_accepted event.reply && b) (no_write event.command (second (is_accepted event.reply) (restarts (command_to session event.command)) is)) ∙ and_false (is_accepted event.reply)
     where
-      no_write : (c : Command A) → restarts session c ≡ true → is_write c ≡ false
-      no_write (command.Restart number) is = refl
+      no_write : (c : Command A) → restarts (command_to session c) ≡ true → is_write c ≡ false
       no_write (command.CreateTable name schema) is = cc
       no_write (command.Commit batch) is = cc
       no_write (command.Apply blob policy quiet) is = cc

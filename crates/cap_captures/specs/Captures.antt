@@ -11,10 +11,13 @@ use Rattle.cap_changes.specs.declared.row_change.RowChange.{RowChange}
 use Rattle.cap_changes.specs.declared.row_change.RowChange.TheVariants.{Insert, Update, Delete}
 use Rattle.cap_database.specs.Read.{row_at}
 use Rattle.cap_session.specs.Session.{SessionState}
+use Rattle.cap_session.specs.declared.session_change.SessionChange.TheVariants.{Restart}
 use Rattle.cap_core.specs.declared.command.Command.{Command}
-use Rattle.cap_core.specs.declared.command.Command.TheVariants.{Capture, Restart}
+use Rattle.cap_core.specs.declared.command.Command.TheVariants.{Session}
+use Rattle.cap_core.specs.declared.session_command.SessionCommand.TheVariants.{Capture, Change}
 use Rattle.cap_core.specs.declared.event.Event.{Event}
 use Rattle.cap_core.specs.Capture.{session_changes}
+use Rattle.cap_core.specs.Flags.{command_to}
 use Rattle.cap_core.specs.History.{main}
 use Rattle.cap_core.specs.Past.{Past, is_accepted}
 use Rattle.cap_core.specs.Restarts.{first_touched, touches_over}
@@ -44,7 +47,8 @@ module _ {A : Type 0} where
 
   -- the command, but a capture of the session in place of its restart
   abbrev pub without_restart : ℕ → Command A → Command A
-  without_restart session (Restart number) = if nat_eq number session then Capture number else Restart number
+  without_restart session (Session number (Change Restart)) =
+      if nat_eq number session then Session number Capture else Session number (Change Restart)
   without_restart session command = command
 
   -- The same commands, but for captures of the session in place of its restarts, in one history and in
@@ -80,7 +84,7 @@ module _ {A : Type 0} where
   abbrev pub IsChangedEachTime : ℕ → List (Event A) → Past A → List ℕ → Fields A → Type 0
   IsChangedEachTime session [] start name key = Unit {0}
   IsChangedEachTime session (event ∷ later) start name key =
-      ((is_accepted event.reply && restarts session event.command) ≡ true
+      ((is_accepted event.reply && restarts (command_to session event.command)) ≡ true
       → IsChangedSince (touches session (later ++ start)) (later ++ start) name key
       × IsChangedSince (touches_over session later start) (later ++ start) name key)
       × IsChangedEachTime session later start name key

@@ -10,8 +10,10 @@ use Rattle.cap_txn.specs.Batch.{BatchState}
 use Rattle.cap_apply.specs.Applied.{AppliedState}
 use Rattle.cap_apply.specs.Apply.{apply}
 use Rattle.cap_apply.specs.declared.policy.Policy.{Policy}
+use Rattle.cap_session.specs.declared.session_change.SessionChange.TheVariants.{Enable, Restart}
 use Rattle.cap_core.specs.declared.command.Command.{Command}
-use Rattle.cap_core.specs.declared.command.Command.TheVariants.{Capture, Commit, Enable, Restart}
+use Rattle.cap_core.specs.declared.command.Command.TheVariants.{Commit, Session}
+use Rattle.cap_core.specs.declared.session_command.SessionCommand.TheVariants.{Capture, Change}
 use Rattle.cap_core.specs.declared.event.Event.{Event}
 use Rattle.cap_core.specs.Answer.{IsLegal, IsLegalPast, State, event_by, reply_of, state}
 use Rattle.cap_core.specs.History.{version}
@@ -36,12 +38,22 @@ module _ {A : Type 0} where
   abbrev pub commands_of : List (Event A) → List (Command A)
   commands_of events = map (λ event. event.command) events
 
+  -- the commands that enable a session, restart it and capture it
+  abbrev pub enabling : ℕ → Command A
+  enabling session = Session session (Change (Enable (Some true)))
+
+  abbrev pub restarting : ℕ → Command A
+  restarting session = Session session (Change Restart)
+
+  abbrev pub capturing : ℕ → Command A
+  capturing session = Session session Capture
+
   abbrev pub IsCommit : Command A → Type 0
   IsCommit command = (batch : BatchState A) × (command ≡ Commit batch)
 
   -- a capture of a session, or a restart, which captures it too
   abbrev pub IsCapture : Command A → Type 0
-  IsCapture command = (session : ℕ) × ((command ≡ Capture session) ⊎ (command ≡ Restart session))
+  IsCapture command = (session : ℕ) × ((command ≡ capturing session) ⊎ (command ≡ restarting session))
 
   -- Each of the commands, one after the other after the history, has room in it and is not refused.
   unfoldable pub AreAccepted : List (Event A) → List (Command A) → Type 0
@@ -68,8 +80,8 @@ module _ {A : Type 0} where
     pub start : Past A
     pub later : List (Event A)
     pub event : Event A
-    pub begun : commands_of start ≡ Restart session ∷ Enable session (Some true) ∷ commands_of (reverse h)
-    pub then : commands_of (event ∷ later) ≡ Restart session ∷ second ∷ Restart session ∷ first ∷ []
+    pub begun : commands_of start ≡ restarting session ∷ enabling session ∷ commands_of (reverse h)
+    pub then : commands_of (event ∷ later) ≡ restarting session ∷ second ∷ restarting session ∷ first ∷ []
     pub legal : IsLegalPast (event ∷ later ++ start)
     pub can : CanBeInParts h session first second
     pub groups : List (TableChanges A)

@@ -13,6 +13,7 @@ ghost use Rattle.cap_apply.specs.declared.policy.Policy.{Policy};
 ghost use Rattle.cap_core.specs.declared.event.Event.{Event};
 ghost use Rattle.cap_core.specs.AppliedCapture.{GivesRows};
 ghost use Rattle.cap_core.specs.Capture.{session_changes};
+ghost use Rattle.cap_core.specs.Flags.{command_to};
 ghost use Rattle.cap_core.specs.History.{main};
 ghost use Rattle.cap_core.specs.Past.{Past, is_accepted};
 ghost use Rattle.cap_core.specs.Restarts.{AppliesAll, AppliesAllPatches, HoldsFirst, IsSteady, captures};
@@ -71,12 +72,12 @@ pub fn the_one_capture_is_without_restarts<A: AllocHandle>()
 /// then on it is enabled and not diffed.
 pub fn captures_in_a_row_are_the_one_capture<A: AllocHandle>()
     ensures follow { (session : ℕ) (start : Past A) (later : List (Event A)) (event : Event A)
-        → touches session start ≡ [] → (is_accepted event.reply && restarts session event.command) ≡ true
+        → touches session start ≡ [] → (is_accepted event.reply && restarts (command_to session event.command)) ≡ true
         → IsSteady session (event ∷ later) start → BlobsFitPast (event ∷ later ++ start)
         → AreInARow (schema_of (main (event ∷ later ++ start))) (first_row session (event ∷ later) start)
         (row_at (main (event ∷ later ++ start))) (captures session (event ∷ later) start) }
     ensures concatenation { (session : ℕ) (start : Past A) (later : List (Event A)) (event : Event A)
-        → touches session start ≡ [] → (is_accepted event.reply && restarts session event.command) ≡ true
+        → touches session start ≡ [] → (is_accepted event.reply && restarts (command_to session event.command)) ≡ true
         → IsSteady session (event ∷ later) start → BlobsFitPast (event ∷ later ++ start)
         → (groups : List (TableChanges A))
         × (concat_of (map Changes (captures session (event ∷ later) start)) ≡ Ok (Changes groups))
@@ -94,7 +95,7 @@ pub fn captures_in_a_row_are_the_one_capture<A: AllocHandle>()
 pub fn the_concatenation_applies_as_its_captures<A: AllocHandle>()
     ensures changesets { (policy : Policy) (session : ℕ) (start : Past A) (later : List (Event A))
         (event : Event A) (database : Tables A) (blob : Contents A)
-        → touches session start ≡ [] → (is_accepted event.reply && restarts session event.command) ≡ true
+        → touches session start ≡ [] → (is_accepted event.reply && restarts (command_to session event.command)) ≡ true
         → IsSteady session (event ∷ later) start → BlobsFitPast (event ∷ later ++ start)
         → AreRising database → HoldsFirst database session (event ∷ later) start
         → concat_of (map Changes (captures session (event ∷ later) start)) ≡ Ok blob
@@ -104,7 +105,7 @@ pub fn the_concatenation_applies_as_its_captures<A: AllocHandle>()
         (session_over session (event ∷ later) start).tables }
     ensures patchsets { (policy : Policy) (session : ℕ) (start : Past A) (later : List (Event A))
         (event : Event A) (database : Tables A) (blob : Contents A)
-        → touches session start ≡ [] → (is_accepted event.reply && restarts session event.command) ≡ true
+        → touches session start ≡ [] → (is_accepted event.reply && restarts (command_to session event.command)) ≡ true
         → IsSteady session (event ∷ later) start → BlobsFitPast (event ∷ later ++ start)
         → AreRising database → HoldsFirst database session (event ∷ later) start
         → concat_of (map Changes (captures session (event ∷ later) start)) ≡ Ok blob

@@ -1,27 +1,29 @@
 //! A session that is captured in two parts, and as a whole.
-ghost use Rattle.std.specs.Prelude.{◌≡◌, ℕ, Bool, true, List, Ok, Some, [], ◌∷◌, ◌++◌, IfOk, IfSome};
+ghost use Rattle.std.specs.Prelude.{◌≡◌, ℕ, Bool, List, Ok, [], ◌∷◌, ◌++◌, IfOk, IfSome};
 ghost use Rattle.std.specs.Prelude.{length};
 ghost use Rattle.std.specs.Option.{IfNone};
 ghost use Rattle.std.specs.Result.{result_ok};
 ghost use Rattle.cap_codec.specs.BlobReading.{blob_at};
 ghost use Rattle.cap_codec.specs.Changeset.{list_bytes};
 ghost use Rattle.cap_group.specs.ChangeGroup.{concat_of};
-ghost use Rattle.cap_core.specs.declared.command.Command.TheVariants as command;
 ghost use Rattle.cap_core.specs.declared.event.Event.{Event};
 ghost use Rattle.cap_core.specs.declared.reply.Reply.TheVariants as reply;
 ghost use Rattle.cap_core.specs.Answer.{State, event_by};
 ghost use Rattle.cap_core.specs.Capture.{CaptureState};
 ghost use Rattle.cap_core.specs.Past.{HasRoom};
 ghost use Rattle.cap_captures.specs.Parts.{AreAccepted, CanBeInParts, IsCapture, IsCommit, IsInParts};
-ghost use Rattle.cap_captures.specs.Parts.{IsLeftBy, MadeWhere};
+ghost use Rattle.cap_captures.specs.Parts.{IsLeftBy, MadeWhere, capturing, enabling, restarting};
 
 use crate::laws::{
     captures_in_a_row_are_the_one_capture, the_concatenation_applies_as_its_captures,
     the_one_capture_is_without_restarts,
 };
 use cap_codec::{Contents, read_blob};
-use cap_core::{Capture, Command, Core, EVENTS_MAX, Reply, bytes_of_a_capture_give_the_rows_now};
+use cap_core::{
+    Capture, Command, Core, EVENTS_MAX, Reply, SessionCommand, bytes_of_a_capture_give_the_rows_now,
+};
 use cap_group::concat;
+use cap_session::SessionChange;
 use cap_value::{AllocHandle, Fault, OutOfMemory};
 
 // A server after a command, and the reply to it.
@@ -137,13 +139,11 @@ fn captured_by<A: AllocHandle>(
 // Enables a session.
 fn switched_on<A: AllocHandle>(core: &Core<A>, session: u64) -> Result<Option<Core<A>>, OutOfMemory>
     ensures { IfOk result (λ made. (h : List (Event A)) → IsLeftBy h core.now →
-        MadeWhere (AreAccepted h (command.Enable session (Some true) ∷ [])) made (λ left. (flag : Bool)
-        × IsLeftBy (h ++ event_by 0 (command.Enable session (Some true)) (reply.Flag flag) ∷ []) left)) }
+        MadeWhere (AreAccepted h (enabling session ∷ [])) made (λ left. (flag : Bool)
+        × IsLeftBy (h ++ event_by 0 (enabling session) (reply.Flag flag) ∷ []) left)) }
 {
-    let command = Command::Enable {
-        session,
-        enabled: Some(true),
-    };
+    let command = SessionCommand::Change(SessionChange::Enable(Some(true)));
+    let command = Command::Session { session, command };
     let Some(Answered { core, reply }) = carried_out(core, command)? else {
         return Ok(None);
     };
@@ -178,15 +178,16 @@ fn committed<A: AllocHandle>(
 // Enables a session and restarts it.
 fn enabled<A: AllocHandle>(core: &Core<A>, session: u64) -> Result<Option<Core<A>>, OutOfMemory>
     ensures { IfOk result (λ made. (h : List (Event A)) → IsLeftBy h core.now → MadeWhere
-        (AreAccepted h (command.Enable session (Some true) ∷ command.Restart session ∷ [])) made
+        (AreAccepted h (enabling session ∷ restarting session ∷ [])) made
         (λ left. (flag : Bool) × (old : CaptureState A)
-        × IsLeftBy ((h ++ event_by 0 (command.Enable session (Some true)) (reply.Flag flag) ∷ [])
-        ++ event_by 0 (command.Restart session) (reply.Capture old) ∷ []) left)) }
+        × IsLeftBy ((h ++ event_by 0 (enabling session) (reply.Flag flag) ∷ [])
+        ++ event_by 0 (restarting session) (reply.Capture old) ∷ []) left)) }
 {
     let Some(core) = switched_on(core, session)? else {
         return Ok(None);
     };
-    match captured_by(&core, Command::Restart { session })? {
+    let command = SessionCommand::Change(SessionChange::Restart);
+    match captured_by(&core, Command::Session { session, command })? {
         Some(Part { core, capture: _ }) => Ok(Some(core)),
         None => Ok(None),
     }
@@ -199,12 +200,16 @@ fn restarted_part<A: AllocHandle>(
     commit: &Command<A>,
 ) -> Result<Option<Part<A>>, OutOfMemory>
     ensures { IfOk result (λ made. (h : List (Event A)) → IsLeftBy h core.now → MadeWhere
-        (IsCommit commit.now × AreAccepted h (commit.now ∷ command.Restart session ∷ [])) made
+        (IsCommit commit.now × AreAccepted h (commit.now ∷ restarting session ∷ [])) made
         (λ p. (version : ℕ) × IsLeftBy ((h ++ event_by 0 commit.now (reply.Written version) ∷ [])
-        ++ event_by 0 (command.Restart session) (reply.Capture p.capture) ∷ []) p.core)) }
+        ++ event_by 0 (restarting session) (reply.Capture p.capture) ∷ []) p.core)) }
 {
     match committed(core, commit)? {
-        Some(core) => captured_by(&core, Command::Restart { session }),
+        Some(core) => {
+            let restart = SessionChange::Restart;
+            let command = SessionCommand::Change(restart);
+            captured_by(&core, Command::Session { session, command })
+        }
         None => Ok(None),
     }
 }
@@ -216,12 +221,15 @@ fn captured_part<A: AllocHandle>(
     commit: &Command<A>,
 ) -> Result<Option<Part<A>>, OutOfMemory>
     ensures { IfOk result (λ made. (h : List (Event A)) → IsLeftBy h core.now → MadeWhere
-        (IsCommit commit.now × AreAccepted h (commit.now ∷ command.Capture session ∷ [])) made
+        (IsCommit commit.now × AreAccepted h (commit.now ∷ capturing session ∷ [])) made
         (λ p. (version : ℕ) × IsLeftBy ((h ++ event_by 0 commit.now (reply.Written version) ∷ [])
-        ++ event_by 0 (command.Capture session) (reply.Capture p.capture) ∷ []) p.core)) }
+        ++ event_by 0 (capturing session) (reply.Capture p.capture) ∷ []) p.core)) }
 {
     match committed(core, commit)? {
-        Some(core) => captured_by(&core, Command::Capture { session }),
+        Some(core) => {
+            let command = SessionCommand::Capture;
+            captured_by(&core, Command::Session { session, command })
+        }
         None => Ok(None),
     }
 }
@@ -234,14 +242,14 @@ fn captured_whole<A: AllocHandle>(
     second: &Command<A>,
 ) -> Result<Option<Capture<A>>, OutOfMemory>
     ensures { IfOk result (λ made. (h : List (Event A)) → IsLeftBy h core.now → MadeWhere
-        ((IsCommit first.now × IsCommit second.now) × AreAccepted h (first.now ∷ command.Capture session
-        ∷ second.now ∷ command.Capture session ∷ command.Capture session ∷ [])) made
+        ((IsCommit first.now × IsCommit second.now) × AreAccepted h (first.now ∷ capturing session
+        ∷ second.now ∷ capturing session ∷ capturing session ∷ [])) made
         (λ whole. (one two : CaptureState A) × ((v w : ℕ) × (left : State A) × IsLeftBy (((((h
         ++ event_by 0 first.now (reply.Written v) ∷ [])
-        ++ event_by 0 (command.Capture session) (reply.Capture one) ∷ [])
+        ++ event_by 0 (capturing session) (reply.Capture one) ∷ [])
         ++ event_by 0 second.now (reply.Written w) ∷ [])
-        ++ event_by 0 (command.Capture session) (reply.Capture two) ∷ [])
-        ++ event_by 0 (command.Capture session) (reply.Capture whole) ∷ []) left))) }
+        ++ event_by 0 (capturing session) (reply.Capture two) ∷ [])
+        ++ event_by 0 (capturing session) (reply.Capture whole) ∷ []) left))) }
 {
     let Some(one) = captured_part(core, session, first)? else {
         return Ok(None);
@@ -249,7 +257,8 @@ fn captured_whole<A: AllocHandle>(
     let Some(two) = captured_part(&one.core, session, second)? else {
         return Ok(None);
     };
-    match captured_by(&two.core, Command::Capture { session })? {
+    let command = SessionCommand::Capture;
+    match captured_by(&two.core, Command::Session { session, command })? {
         Some(Part { core: _, capture }) => Ok(Some(capture)),
         None => Ok(None),
     }

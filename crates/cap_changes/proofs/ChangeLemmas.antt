@@ -22,7 +22,7 @@ kept_if true false x e = refl
 kept_if false true x e = cc
 kept_if false false x e = refl
 
-other_order : (order : Ordering) → (order ≡ Equal → ⊥) → is_eq order ≡ false
+pub other_order : (order : Ordering) → (order ≡ Equal → ⊥) → is_eq order ≡ false
 other_order Less other = refl
 other_order Equal other = absurd (other refl)
 other_order Greater other = refl
@@ -101,7 +101,7 @@ module _ {A : Type 0} where
       change_of flags indirect (Some image) (Some now) ≡ Some (Update indirect (by_column old_field flags image now) (by_column new_field flags image now))
   change_of-other flags indirect image now other = rw (other_order (fields_cmp image now) (λ e. other ((fields_cmp-Equal image now).0 e)))
 
-  same_first : {a b : Value A} {xs ys : Fields A} → (a ∷ xs) ≡ (b ∷ ys) → (a ≡ b) × (xs ≡ ys)
+  pub same_first : {a b : Value A} {xs ys : Fields A} → (a ∷ xs) ≡ (b ∷ ys) → (a ≡ b) × (xs ≡ ys)
   same_first e = (cc, cc)
 
   other_column : (same : Bool) (value : Value A) (rest : Bool) → (is_some (cond (not same) (Some value) None) || rest) ≡ false → (same ≡ true) × (rest ≡ false)

@@ -56,7 +56,7 @@ module _ {A : Type 0} where
 
 -- ---- changes
 
-third : (a b c : Bool) → (a || b || c) ≡ true → a ≡ false → b ≡ false → c ≡ true
+pub third : (a b c : Bool) → (a || b || c) ≡ true → a ≡ false → b ≡ false → c ≡ true
 third true b c e p q = absurd cc
 third false true c e p q = absurd cc
 third false false c e p q = e

@@ -1,5 +1,5 @@
 -- A record that was read has exactly the required fields.
-use Rattle.std.proofs.Common.{◌≡◌, ℕ, true, false, not, ◌==◌, nat_lt, List, [], ◌∷◌, Option, Some, None, Ok, refl, ap, inl, inr, arith}
+use Rattle.std.proofs.Common.{◌≡◌, ℕ, Bool, true, false, not, ◌==◌, nat_lt, List, [], ◌∷◌, Option, Some, None, Ok, refl, ap, inl, inr, arith}
 use Rattle.std.proofs.lemmas.Bool.{and_parts, and_from, not-false, eqb-false, ltb-false, eq-eqb}
 use Rattle.cap_value.specs.declared.value.Value.{Value}
 use Rattle.cap_value.specs.declared.value.Value.TheVariants.{Null, Int, Text, Blob}
@@ -7,6 +7,7 @@ use Rattle.cap_value.specs.Value.{is_null}
 use Rattle.cap_changes.specs.FieldRecord.{RecordFields}
 use Rattle.cap_changes.specs.declared.field_requirement.FieldRequirement.{FieldRequirement}
 use Rattle.cap_changes.specs.declared.field_requirement.FieldRequirement.TheVariants as required
+use Rattle.cap_changes.specs.declared.record_kind.RecordKind.TheVariants.{Full, Keyed}
 use Rattle.cap_field.specs.Reading.{◌>>=◌, place, byte_at}
 use Rattle.cap_field.specs.FieldReading.{number_at, text_at, sized_at}
 use Rattle.cap_changes.specs.FieldReading.{allows, content_at, typed_at, field_at}
@@ -88,3 +89,14 @@ module _ {A : Type 0} where
       let b = bind_ok (field_at total requirement bytes) (λ field. record_at total requirements field.1 >>= (λ others. Ok (field.0 ∷ others.0, others.1))) x e in
       let c = bind_ok (record_at total requirements b.0.1) (λ others. Ok (b.0.0 ∷ others.0, others.1)) x b.2 in
       rw (← ok_is (b.0.0 ∷ c.0.0, c.0.1) x c.2) (and_from (satisfies requirement b.0.0) (satisfy requirements c.0.0) (field_meets total requirement bytes b.0 b.1) (record_meets total requirements b.0.1 c.0 c.1))
+
+module _ {A : Type 0} where
+  -- a record in which every field is defined has the key fields
+  pub full_keyed : (flags : List Bool) (fields : RecordFields A) → satisfy (requirements Full flags) fields ≡ true → satisfy (requirements Keyed flags) fields ≡ true
+  full_keyed [] [] met = refl
+  full_keyed [] (field ∷ fields) met = cc
+  full_keyed (flag ∷ flags) [] met = cc
+  full_keyed (true ∷ flags) (field ∷ fields) met =
+      let parts = and_parts (satisfies required.Key field) (satisfy (requirements Full flags) fields) met in
+      and_from (satisfies required.Key field) _ parts.0 (full_keyed flags fields parts.1)
+  full_keyed (false ∷ flags) (field ∷ fields) met = full_keyed flags fields (and_parts (satisfies required.Defined field) (satisfy (requirements Full flags) fields) met).1

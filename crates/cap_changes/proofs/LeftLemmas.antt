@@ -1,5 +1,5 @@
 -- What is left of a list that is gone over.
-use Rattle.std.proofs.Common.{◌≡◌, ℕ, zero, suc, ◌+◌, ◌≤◌, Bool, List, [], ◌∷◌, ◌++◌, length, map, drop, slice_get, Option, Some, None, IsTrue, refl, sym, ap, subst, ◌∙◌, append_assoc, arith}
+use Rattle.std.proofs.Common.{◌≡◌, ℕ, zero, suc, ◌+◌, ◌<◌, ◌≤◌, Bool, List, [], ◌∷◌, ◌++◌, length, map, drop, drop-cons, get_or, slice_get, Option, Some, None, IsTrue, refl, sym, ap, subst, ◌∙◌, append_assoc, arith}
 use Rattle.std.proofs.lemmas.List.{map-append}
 use Rattle.std.proofs.lemmas.List.Elements.{All-from_recursion, recursion_from_All}
 use Rattle.cap_changes.specs.Entries.{AllFit}
@@ -31,6 +31,11 @@ next_at [] zero x others is = cc
 next_at [] (suc passed) x others is = cc
 next_at (y ∷ xs) zero x others is = cc
 next_at (y ∷ xs) (suc passed) x others is = next_at xs passed x others is
+
+pub drop_here : {X : Type 0} (xs : List X) (i : ℕ) (x : X) → i < length xs → x ≡ get_or xs i x → drop i xs ≡ x ∷ drop (i + 1) xs
+drop_here xs i x within is =
+    let n : suc i ≡ i + 1 = omega arith in
+    drop-cons xs i x within ∙ (λ k. sym is k ∷ drop (n k) xs)
 
 pub none_left : {X : Type 0} (xs : List X) (passed : ℕ) → drop passed xs ≡ [] → length xs ≤ passed
 none_left [] passed is = omega arith

@@ -1,10 +1,8 @@
 pub mod EachLemmas
 pub mod ChangeLemmas
-pub mod ColumnLemmas
 pub mod InvertLemmas
 pub mod LeftLemmas
 pub mod PatchLemmas
-pub mod RecordLemmas
 pub mod FieldAgain
 pub mod FitLemmas
 pub mod Spelled
@@ -21,6 +19,7 @@ pub mod StoredChange
 pub mod PassLemmas
 pub mod ReadLemmas
 pub mod ValueLemmas
+pub mod WholeLemmas
 pub mod PutLemmas
 pub mod PassChange
 pub mod GroupLemmas

@@ -1,6 +1,5 @@
 -- The bytes of records, and the fields of bytes.
-use Rattle.std.proofs.Common.{◌≡◌, ◌==◌, true, false, Bool, ℕ, zero, suc, ◌≤◌, ◌<◌, List, [], ◌∷◌, ◌++◌, length, take, Option, Some, None, IfSome, IsTrue, eqb-true, Result, Ok, Err, IsOk, refl, sym, ap, subst, ◌∙◌, append_assoc, append-nil, length-append, arith}
-use Rattle.std.specs.Prelude.{OnOk, OnErr}
+use Rattle.std.proofs.Common.{◌≡◌, ◌==◌, true, false, Bool, ℕ, zero, suc, ◌≤◌, ◌<◌, List, [], ◌∷◌, ◌++◌, length, Option, Some, None, IfSome, IsTrue, eqb-true, Ok, IsOk, refl, sym, ap, subst, ◌∙◌, append-nil, length-append, arith}
 use Rattle.std.proofs.lemmas.Bool.{and_parts}
 use Rattle.cap_value.specs.declared.value.Value.{Value}
 use Rattle.cap_value.specs.declared.value.Value.TheVariants.{Null, Int, Text, Blob}
@@ -8,7 +7,7 @@ use Rattle.cap_value.specs.Value.{IsValue}
 use Rattle.cap_changes.specs.Field.{field_bytes, record_bytes, key_bytes}
 use Rattle.cap_changes.specs.FieldReading.{field_at}
 use Rattle.cap_changes.specs.FieldRecord.{RecordFields}
-use Rattle.cap_changes.specs.Record.{fields_from, fields_of, keys_of, AreFields, IsRecord, IsKeyRecord, BeginsWithField}
+use Rattle.cap_changes.specs.Record.{fields_from, fields_of, keys_of, AreFields, IsRecord, IsKeyRecord}
 use Rattle.cap_changes.specs.RecordReading.{record_at}
 use Rattle.cap_changes.specs.Requirements.{requirements, satisfies, satisfy}
 use Rattle.cap_changes.specs.declared.field_requirement.FieldRequirement.TheVariants.{Any, Key, Omitted}
@@ -43,55 +42,10 @@ module _ {A : Type 0} where
       let same : fields_of bytes ≡ fields = ap fields_of spelled ∙ record_again fields each in
       (same, subst (IsRecord bytes) (sym same) (record { each = each; spelled = spelled }))
 
-  -- ---- no fields, and one more
+  -- ---- no fields
 
   pub of_none : (fields_of {A = A} [] ≡ []) × IsRecord {A = A} [] (fields_of [])
   of_none = stored [] [] tt refl
-
-  record_bytes-append : (xs ys : RecordFields A) → record_bytes (xs ++ ys) ≡ record_bytes xs ++ record_bytes ys
-  record_bytes-append [] ys = refl
-  record_bytes-append (x ∷ xs) ys = ap (λ (r : List ℕ). field_bytes x ++ r) (record_bytes-append xs ys) ∙ sym (append_assoc (field_bytes x) (record_bytes xs) (record_bytes ys))
-
-  each-append : (xs ys : RecordFields A) → AreFields xs → AreFields ys → AreFields (xs ++ ys)
-  each-append [] ys a b = b
-  each-append (x ∷ xs) ys a b = (a.0, each-append xs ys a.1 b)
-
-  -- what a call leaves that appends fields, or answers an error
-  pub record Grown {E : Type 0} (result : Result (Unit {0}) E) (new : List ℕ) (seen fields : RecordFields A) : Type 0 where
-    pub stored : IsRecord {A = A} new (fields_of new)
-    pub pushed : OnOk result (fields_of new ≡ seen ++ fields)
-    pub kept : OnErr result (fields_of new ≡ seen)
-
-  grows : {E : Type 0} (result : Result (Unit {0}) E) (old new : List ℕ) (fields seen : RecordFields A) → IsRecord {A = A} old (fields_of old) → fields_of old ≡ seen → AreFields fields
-      → OnOk result (new ≡ old ++ record_bytes fields) → OnErr result (new ≡ old) → Grown result new seen fields
-  grows (Ok x) old new fields seen is view fits pushed kept =
-      let p = stored new (fields_of old ++ fields) (each-append (fields_of old) fields is.each fits)
-      (pushed ∙ ap (λ (r : List ℕ). r ++ record_bytes fields) is.spelled ∙ sym (record_bytes-append (fields_of old) fields)) in
-      record { stored = p.1; pushed = p.0 ∙ ap (λ (l : RecordFields A). l ++ fields) view; kept = tt }
-  grows (Err e) old new fields seen is view fits pushed kept = record {
-    stored = subst (λ (b : List ℕ). IsRecord {A = A} b (fields_of b)) (sym kept) is;
-    pushed = tt;
-    kept = ap fields_of kept ∙ view;
-  }
-
-  bytes_of_one : (field : Option (Value A)) → field_bytes field ≡ record_bytes (field ∷ [])
-  bytes_of_one field = sym (append-nil (field_bytes field))
-
-  on_ok : {E : Type 0} (result : Result (Unit {0}) E) (old new given : List ℕ) (field : Option (Value A)) → given ≡ field_bytes field → OnOk result (new ≡ old ++ given) → OnOk result (new ≡ old ++ record_bytes (field ∷ []))
-  on_ok (Ok x) old new given field spelled is = is ∙ ap (λ (r : List ℕ). old ++ r) (spelled ∙ bytes_of_one field)
-  on_ok (Err e) old new given field spelled is = tt
-
-  -- the same of one field
-  pub grows_by_one : {E : Type 0} (result : Result (Unit {0}) E) (old new given : List ℕ) (field : Option (Value A)) (seen : RecordFields A) → IsRecord {A = A} old (fields_of old) → fields_of old ≡ seen → IfSome field IsValue
-      → given ≡ field_bytes field → OnOk result (new ≡ old ++ given) → OnErr result (new ≡ old) → Grown result new seen (field ∷ [])
-  grows_by_one result old new given field seen is view fits spelled pushed kept =
-      grows result old new (field ∷ []) seen is view (fits, tt) (on_ok result old new given field spelled pushed) kept
-
-  -- the same of the first field of a record
-  pub grows_by_first : {E : Type 0} (result : Result (Unit {0}) E) (old new given : List ℕ) (fields others seen : RecordFields A) → IsRecord {A = A} old (fields_of old) → fields_of old ≡ seen → BeginsWithField fields given others
-      → OnOk result (new ≡ old ++ given) → OnErr result (new ≡ old) → Grown result new seen (take 1 fields)
-  grows_by_first result old new given fields others seen is view (field, parts, spelled, fits) pushed kept =
-      subst (λ (l : RecordFields A). Grown result new seen l) (sym (ap (take 1) parts)) (grows_by_one result old new given field seen is view fits spelled pushed kept)
 
   -- each field has a byte or more
   few : (fields : RecordFields A) → length fields ≤ length (record_bytes fields)
@@ -204,7 +158,3 @@ module _ {A : Type 0} where
   pub other_first : (flags : List Bool) (bytes : List ℕ) → IsKeyRecord {A = A} (false ∷ flags) bytes (keys_of (false ∷ flags) bytes)
       → (keys_of {A = A} (false ∷ flags) bytes ≡ None ∷ keys_of flags bytes) × IsKeyRecord {A = A} flags bytes (keys_of flags bytes)
   other_first flags bytes is = other_of flags bytes (keys_of (false ∷ flags) bytes) refl is.each is.fits is.spelled
-
-  pub no_keys : (bytes : List ℕ) → keys_of {A = A} [] bytes ≡ []
-  unfolding keys_of record_at
-  no_keys bytes = refl

@@ -1,7 +1,6 @@
 -- The records of a touched key, field by field.
-use Rattle.std.proofs.Common.{◌≡◌, ℕ, ◌+◌, ◌<◌, List, [], ◌∷◌, ◌++◌, Bool, true, false, not, ◌&&◌, ◌||◌, cond, length, drop, get_or, Option, Some, None, refl, sym, ap, ◌∙◌, append_assoc, append-nil}
+use Rattle.std.proofs.Common.{◌≡◌, ℕ, ◌+◌, ◌<◌, List, [], ◌∷◌, ◌++◌, Bool, true, false, not, ◌&&◌, ◌||◌, cond, length, drop, get_or, Option, Some, None, refl, sym, ap, ◌∙◌}
 use Rattle.std.proofs.lemmas.Bool.Decides.{same_from_decides}
-use Rattle.std.proofs.lemmas.List.{drop_more}
 use Rattle.std.proofs.lemmas.Slice.Eq.{bytes_eq-Decides}
 use Rattle.cap_value.specs.Bytes.{bytes_eq}
 use Rattle.cap_value.specs.declared.value.Value.{Value}
@@ -14,6 +13,7 @@ use Rattle.cap_row.specs.Fields.{Fields}
 use Rattle.cap_changes.specs.Change.{full_record, is_modified, old_field, new_field}
 use Rattle.cap_changes.specs.Column.{by_column}
 use Rattle.cap_changes.specs.Field.{record_bytes, field_bytes}
+use Rattle.cap_changes.proofs.PutLemmas.{goes_on}
 
 module _ {A : Type 0} where
   -- the bytes of a row are those of the record in which every field is defined
@@ -38,42 +38,21 @@ module _ {A : Type 0} where
   pub modified_by_bytes : (key : Bool) (a b : Value A) → IsValue a → IsValue b → (not key && not (bytes_eq (value_bytes a) (value_bytes b))) ≡ is_modified key a b
   modified_by_bytes key a b p q = ap (λ (t : Bool). not key && not t) (sym (eq_by_bytes a b p q))
 
-  one_of : (t : Bool) (a : Value A) → cond t (value_bytes a) (0 ∷ []) ≡ field_bytes (cond t (Some a) None)
-  one_of true a = refl
-  one_of false a = refl
+  -- a field, or an undefined one
+  pub choose : (t : Bool) (field : Option (Value A)) → cond t (field_bytes field) (0 ∷ []) ≡ field_bytes (cond t field None)
+  choose true field = refl
+  choose false field = refl
 
   -- the old and the new field of a column, by the bytes of its fields
   pub old_by_bytes : (key kept : Bool) (a b : Value A) → IsValue a → IsValue b → kept ≡ (key || (not key && not (bytes_eq (value_bytes a) (value_bytes b)))) → cond kept (value_bytes a) (0 ∷ []) ≡ field_bytes (old_field key a b)
   old_by_bytes key kept a b p q is =
-      ap (λ (t : Bool). cond t (value_bytes a) (0 ∷ [])) (is ∙ ap (λ (t : Bool). key || t) (modified_by_bytes key a b p q)) ∙ one_of (key || is_modified key a b) a
+      ap (λ (t : Bool). cond t (value_bytes a) (0 ∷ [])) (is ∙ ap (λ (t : Bool). key || t) (modified_by_bytes key a b p q)) ∙ choose (key || is_modified key a b) (Some a)
 
   pub new_by_bytes : (key modified : Bool) (a b : Value A) → IsValue a → IsValue b → modified ≡ (not key && not (bytes_eq (value_bytes a) (value_bytes b))) → cond modified (value_bytes b) (0 ∷ []) ≡ field_bytes (new_field key a b)
   new_by_bytes key modified a b p q is =
-      ap (λ (t : Bool). cond t (value_bytes b) (0 ∷ [])) (is ∙ modified_by_bytes key a b p q) ∙ one_of (is_modified key a b) b
+      ap (λ (t : Bool). cond t (value_bytes b) (0 ∷ [])) (is ∙ modified_by_bytes key a b p q) ∙ choose (is_modified key a b) (Some b)
 
   -- ---- the loop
-
-  module _ (pick : Bool → Value A → Value A → Option (Value A)) where
-    no_image : (flags : List Bool) (now : List (Value A)) → by_column pick flags [] now ≡ []
-    no_image [] now = refl
-    no_image (flag ∷ flags) now = refl
-
-    no_now : (flags : List Bool) (image : List (Value A)) → by_column pick flags image [] ≡ []
-    no_now [] image = refl
-    no_now (flag ∷ flags) [] = refl
-    no_now (flag ∷ flags) (a ∷ image) = refl
-
-    pub image_ends : (flags : List Bool) (image now : List (Value A)) (out all : List ℕ) → out ++ record_bytes (by_column pick flags image now) ≡ all → image ≡ [] → out ≡ all
-    image_ends flags image now out all so none = sym (append-nil out) ∙ ap (λ (l : List (Option (Value A))). out ++ record_bytes l) (sym (ap (λ (l : List (Value A)). by_column pick flags l now) none ∙ no_image flags now)) ∙ so
-
-    pub now_ends : (flags : List Bool) (image now : List (Value A)) (out all : List ℕ) → out ++ record_bytes (by_column pick flags image now) ≡ all → now ≡ [] → out ≡ all
-    now_ends flags image now out all so none = sym (append-nil out) ∙ ap (λ (l : List (Option (Value A))). out ++ record_bytes l) (sym (ap (λ (l : List (Value A)). by_column pick flags image l) none ∙ no_now flags image)) ∙ so
-
-    pub goes_on : (flags : List Bool) (i : ℕ) (image now image' now' : List (Value A)) (a b : Value A) (out new all : List ℕ) → i < length flags
-        → out ++ record_bytes (by_column pick (drop i flags) image now) ≡ all → image ≡ a ∷ image' → now ≡ b ∷ now'
-        → new ≡ out ++ field_bytes (pick (get_or flags i false) a b) → new ++ record_bytes (by_column pick (drop (i + 1) flags) image' now') ≡ all
-    goes_on flags i image now image' now' a b out new all lt so ia ib is =
-        rw (is, append_assoc out (field_bytes (pick (get_or flags i false) a b)) (record_bytes (by_column pick (drop (i + 1) flags) image' now'))) (rw (ia, ib, drop_more flags i false lt) at so)
 
   -- one column more, by the bytes of its fields
   pub old_goes_on : (flags : List Bool) (i : ℕ) (image now image' now' : List (Value A)) (was is : List ℕ) (kept : Bool) (out new all : List ℕ) → i < length flags

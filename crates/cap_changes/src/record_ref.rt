@@ -1,10 +1,12 @@
 //! The fields of a record, one after another.
-ghost use Rattle.std.specs.Prelude.{◌≡◌, ◌-◌, [], List, Ok, length, slice_get, take, IfErr, IfOk, IfSome, IsOk, MatchOption};
+ghost use Rattle.std.specs.Prelude.{◌≡◌, ◌-◌, [], List, Ok, length, slice_get, take, is_some, IfErr, IfOk, IfSome, IsOk, IsTrue, MatchOption};
+ghost use Rattle.std.specs.List.{list_all};
 ghost use Rattle.std.specs.Option.{option_flatten, option_map};
 ghost use Rattle.std.specs.Map.Iter.{TakesFirst};
 ghost use Rattle.std.specs.Iterator.{at_most};
 ghost use Rattle.cap_value.specs.Value.{IsValue};
 ghost use Rattle.cap_field.specs.FieldReading.{value_of};
+ghost use Rattle.cap_changes.specs.Change.{full_record};
 ghost use Rattle.cap_changes.specs.FieldReading.{field_at, field_of};
 ghost use Rattle.cap_changes.specs.declared.field_requirement.FieldRequirement.TheVariants.{Any};
 ghost use Rattle.cap_changes.specs.Field.{record_bytes};
@@ -13,6 +15,7 @@ ghost use Rattle.cap_changes.specs.Record.{BeginsWithField, IsFirstField};
 
 use crate::field::stored_field;
 use cap_field::{UNDEFINED, ValueRef};
+use cap_row::RowFields;
 use cap_value::AllocHandle;
 use std::marker::{Model, PhantomData};
 
@@ -154,6 +157,15 @@ impl<'a, A: AllocHandle> RecordRef<'a, A> {
             fields.next_field()?;
         }
         fields.next_field()?
+    }
+
+    /// The values of a record in which every field is defined, by the bytes that are there.
+    #[inline(always)]
+    pub fn as_values(&self) -> RowFields<'a, A>
+        requires { IsTrue (list_all is_some self.now) }
+        ensures { self.now ≡ full_record result }
+    {
+        RowFields::of(self.bytes)
     }
 
     /// How many fields are left, undefined ones among them.

@@ -30,10 +30,8 @@ pub fn is_changed<A: AllocHandle>(image: Option<&Row<A>>, now: Option<&Row<A>>) 
     }
 }
 
-/// Appends the change of a touched key as in a changeset: the bytes of the change that `change_between`
-/// answers, which is not built.
-///
-/// On an error the bytes are as before.
+/// Appends the bytes of the change of a touched key, as in a changeset: `image` is its first image, `now` its
+/// row now. On an error the bytes are as before.
 pub fn push_change_between<A: AllocHandle>(
     out: &mut Vec<u8, A>,
     schema: &Schema<A>,

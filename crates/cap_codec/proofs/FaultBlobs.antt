@@ -1,10 +1,7 @@
 -- Where the reading of changes, groups and a blob stops at a fault.
-use Rattle.std.proofs.Common.{◌≡◌, ℕ, zero, suc, ◌≤◌, inl, inr, Bool, true, false, ◌==◌, ◌||◌, List, [], ◌∷◌, ◌++◌, length, IfSome, Result, Ok, Err, refl, sym, ap, subst, ◌∙◌, append_assoc, append-nil, arith, length-append, eq-eqb}
-use Rattle.std.specs.List.{AllByRecursion}
+use Rattle.std.proofs.Common.{◌≡◌, ℕ, zero, suc, ◌≤◌, inl, inr, Bool, true, false, ◌==◌, List, [], ◌∷◌, ◌++◌, length, Result, Ok, Err, refl, sym, ap, subst, ◌∙◌, append_assoc, append-nil, arith, length-append, eq-eqb}
 use Rattle.std.proofs.lemmas.Bool.{and_from, cases_Bool, eqb-true}
-use Rattle.std.proofs.lemmas.List.Elements.{All-from_recursion}
 use Rattle.cap_value.specs.Bytes.{AreBytes}
-use Rattle.cap_value.specs.Value.{IsValue}
 use Rattle.cap_changes.specs.Entries.{TableEntries}
 use Rattle.cap_changes.specs.FieldRecord.{RecordFields}
 use Rattle.cap_changes.specs.Group.{TableChanges}
@@ -43,7 +40,8 @@ use Rattle.cap_codec.proofs.BlobAgain.{header_again, group_again, patch_group_ag
 use Rattle.cap_codec.proofs.BlobAgain as blob_read
 use Rattle.cap_codec.proofs.Looking.{fault_of_lasting}
 use Rattle.cap_field.proofs.Spelled.{AreLow, low_behind}
-use Rattle.cap_changes.proofs.ChangeSpelled.{Begins, keyed_spelled, change_spelled, patch_spelled}
+use Rattle.cap_changes.proofs.ChangeSpelled.{Begins, keyed_spelled, change_spelled, patch_spelled, third}
+use Rattle.cap_changes.proofs.ValueLemmas.{values_of}
 use Rattle.cap_codec.proofs.SpelledBlob.{BeginsGroup, header_spelled, group_spelled, patch_group_spelled, low_bytes}
 use Rattle.cap_codec.proofs.FaultFields.{Fails, fails_then, fails_on, bind_err, not_cut, Stops, later, IsRecordOf, usual_record, record_stops}
 use Rattle.cap_codec.proofs.FaultHeaders.{at_first, IsHeaderOf, header_stops}
@@ -60,15 +58,7 @@ IsPatch A flags op bytes = (patch : Patch A) × SpellsPatch flags patch (op ∷ 
 spelled_as : (op code flag_byte : ℕ) (bytes written : List ℕ) → op ≡ code → bytes ≡ written → op ∷ flag_byte ∷ bytes ≡ code ∷ flag_byte ∷ written
 spelled_as op code flag_byte bytes written is same = ap (λ (k : ℕ). k ∷ flag_byte ∷ bytes) is ∙ ap (λ (b : List ℕ). code ∷ flag_byte ∷ b) same
 
-third : (a b c : Bool) → (a || b || c) ≡ true → a ≡ false → b ≡ false → c ≡ true
-third true b c e p q = absurd cc
-third false true c e p q = absurd cc
-third false false c e p q = e
-
 module _ {A : Type 0} where
-  values_all : (fields : RecordFields A) → AllByRecursion (λ field. IfSome field IsValue) fields → AreValues fields
-  values_all fields each = All-from_recursion (λ field. IfSome field IsValue) fields each
-
   -- a change that has one record of this kind
   one_record : (stuck : ℕ → List ℕ → Type 0) (completes : List ℕ → Type 0) (record_kind : RecordKind) (flags : List Bool) (total flag_byte : ℕ) (bytes : List ℕ) (f : BlobFault)
       → AreLow bytes → is_cut f.kind ≡ false → record_at {A = A} total (requirements record_kind flags) bytes ≡ Err f
@@ -78,7 +68,7 @@ module _ {A : Type 0} where
   one_record stuck completes record_kind flags total flag_byte bytes f low lasts e make go =
       later stuck (λ t b. Fails (record_at {A = A} t (requirements record_kind flags) b)) completes (IsRecordOf A (requirements record_kind flags)) total (flag_byte ∷ bytes) (flag_byte ∷ []) bytes f refl
       (record_stops A total (requirements record_kind flags) bytes f low lasts e)
-      (λ more (fields, met, values, is). ([], subst completes (ap (λ (b : List ℕ). flag_byte ∷ b) (sym is ∙ sym (append-nil more))) (make fields met (values_all fields values))))
+      (λ more (fields, met, values, is). ([], subst completes (ap (λ (b : List ℕ). flag_byte ∷ b) (sym is ∙ sym (append-nil more))) (make fields met (values_of fields values))))
       go
 
   change_stops : (flags : List Bool) (total op : ℕ) (bytes : List ℕ) (f : BlobFault) → AreLow bytes → is_operation op ≡ true → is_cut f.kind ≡ false → change_at {A = A} total flags op bytes ≡ Err f
@@ -107,7 +97,7 @@ module _ {A : Type 0} where
                     changed.Update (is_set flag_byte) old new,
                     (
                       and_from (satisfy (requirements record_kinds.Keyed flags) old) (satisfy (new_requirements flags old) new) met met',
-                      (values_all old values, values_all new values'),
+                      (values_of old values, values_of new values'),
                       (
                         flag_byte,
                         refl,
@@ -131,7 +121,7 @@ module _ {A : Type 0} where
                       changed.Update (is_set flag_byte) old.0 new,
                       (
                         and_from (satisfy (requirements record_kinds.Keyed flags) old.0) (satisfy (new_requirements flags old.0) new) met met',
-                        (first.0, values_all new values'),
+                        (first.0, values_of new values'),
                         (
                           flag_byte,
                           refl,

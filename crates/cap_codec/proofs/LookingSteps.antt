@@ -15,9 +15,6 @@ use Rattle.cap_codec.specs.declared.change_cursor.ChangeCursor.{ChangeCursor}
 use Rattle.cap_codec.specs.ChangeLeft.{next_requirement, IsPast, IsEntered}
 use Rattle.cap_codec.specs.Pieces.{is_cut, may_mend, lasting, outcome, columns_at, kind_byte, Leads, IsPlace, Steps, Begins, IsLookedAt}
 use Rattle.cap_value.specs.Memory.{RefusesUnlessMemory}
-use Rattle.cap_changes.specs.Operation.{operation_byte}
-use Rattle.cap_changes.specs.declared.operation.Operation.{Operation}
-use Rattle.cap_changes.specs.declared.operation.Operation.TheVariants.{Insert, Update, Delete}
 use Rattle.cap_field.specs.Reading.{fault, place}
 use Rattle.cap_changes.specs.FieldReading.{field_at}
 use Rattle.cap_changes.specs.Operation.{is_operation}
@@ -126,11 +123,6 @@ module _ (A : Type 0) where
       → may_mend e ≡ false → RefusesUnlessMemory e (columns_at (length bytes) behind) → Steps {A = A} (Err e) bytes from.at
   fault_header bytes behind from (Refused f) is none parts whole read = lasts_fault (blob_at {A = A} bytes) f (header_faults bytes from.kind from.schema behind f read (between bytes (kind_byte from.kind ∷ behind) from is none parts)) whole
   fault_header bytes behind from OutOfMemory is none parts whole read = tt
-
-  pub begins_change : (operation : Operation) → is_operation (operation_byte operation) ≡ true
-  begins_change Insert = refl
-  begins_change Update = refl
-  begins_change Delete = refl
 
   pub into_change : (bytes behind : List ℕ) (from : ScanPosition A) (within : ChangeCursor A) (op : ℕ) → IsPlace bytes from → from.within ≡ None → is_operation op ≡ true → drop from.at bytes ≡ op ∷ behind → 1 ≤ length behind
       → IsEntered A from.kind op within → IsPlace {A = A} bytes (record { kind = from.kind; schema = from.schema; within = Some within; at = place (length bytes) (behind_of behind) }) × (from.at < place (length bytes) (behind_of behind))

@@ -6,11 +6,13 @@ use Rattle.std.specs.Global.{Global}
 use Rattle.cap_database.specs.Snapshot.{SnapshotState}
 use Rattle.cap_session.specs.Session.{SessionState}
 use Rattle.cap_session.specs.Sessions.{session_numbered}
+use Rattle.cap_session.specs.declared.session_change.SessionChange.TheVariants.{Restart}
 use Rattle.cap_core.specs.Capture.{CaptureState, session_changes}
 use Rattle.cap_core.specs.Answer.{IsLegal, State, answer, capture_reply, event_by, session_answer, session_reply, snapshot_of, state}
 use Rattle.cap_core.specs.RefusedFirst.{refusal_in}
 use Rattle.cap_core.specs.declared.command.Command.{Command}
-use Rattle.cap_core.specs.declared.command.Command.TheVariants.{Capture, Read, Restart}
+use Rattle.cap_core.specs.declared.command.Command.TheVariants.{Read, Session}
+use Rattle.cap_core.specs.declared.session_command.SessionCommand.TheVariants.{Capture, Change}
 use Rattle.cap_core.specs.declared.event.Event.{Event}
 use Rattle.cap_core.specs.declared.reply.Reply.{Reply}
 use Rattle.cap_core.specs.declared.reply.Reply.TheVariants as reply
@@ -48,13 +50,13 @@ captures : (old new : SeatState Global) (asked : Command Global) (told : Reply G
     → refusal_in told ≡ None → (capture : CaptureState Global) × (told ≡ reply.Capture capture)
 captures old new asked told (session, inl is) called accepted =
     let found = answered_in old new asked told called in
-    let same : told ≡ answer found.0 (Capture session) = found.1 ∙ ap (answer found.0) is in
-    let made = captured_of (session_numbered found.0.sessions session) found.0 (session_reply found.0 (Capture session)) (λ s. refl) (subst (λ (r : Reply Global). refusal_in r ≡ None) same accepted) in
+    let same : told ≡ answer found.0 (Session session Capture) = found.1 ∙ ap (answer found.0) is in
+    let made = captured_of (session_numbered found.0.sessions session) found.0 (session_reply found.0 Capture) (λ s. refl) (subst (λ (r : Reply Global). refusal_in r ≡ None) same accepted) in
     (made.0, same ∙ made.1)
 captures old new asked told (session, inr is) called accepted =
     let found = answered_in old new asked told called in
-    let same : told ≡ answer found.0 (Restart session) = found.1 ∙ ap (answer found.0) is in
-    let made = captured_of (session_numbered found.0.sessions session) found.0 (session_reply found.0 (Restart session)) (λ s. refl) (subst (λ (r : Reply Global). refusal_in r ≡ None) same accepted) in
+    let same : told ≡ answer found.0 (Session session (Change Restart)) = found.1 ∙ ap (answer found.0) is in
+    let made = captured_of (session_numbered found.0.sessions session) found.0 (session_reply found.0 (Change Restart)) (λ s. refl) (subst (λ (r : Reply Global). refusal_in r ≡ None) same accepted) in
     (made.0, same ∙ made.1)
 
 -- ---- the same of what a call has taken

@@ -6,10 +6,12 @@ use Rattle.cap_value.specs.declared.memory.Fault.{Fault}
 use Rattle.cap_database.specs.Snapshot.{SnapshotState}
 use Rattle.cap_txn.specs.Batch.{BatchState}
 use Rattle.cap_filter.specs.Reading.{filter_of}
+use Rattle.cap_session.specs.declared.session_change.SessionChange.TheVariants as change
 use Rattle.cap_apply.specs.declared.policy.Policy.{Policy}
 use Rattle.cap_core.specs.Capture.{CaptureState}
 use Rattle.cap_core.specs.declared.command.Command.{Command}
 use Rattle.cap_core.specs.declared.command.Command.TheVariants as command
+use Rattle.cap_core.specs.declared.session_command.SessionCommand.TheVariants as told
 use Rattle.cap_records.specs.Names.{IsName}
 use Rattle.cap_connection.specs.Connection.{ConnectionState}
 use Rattle.cap_connection.specs.Iter.{IterState}
@@ -39,16 +41,17 @@ Saves database old new =
 
 abbrev pub Attaches : ℕ → List ℕ → ConnectionState → ConnectionState → Done → Type 0
 Attaches session table old new =
-    Means (IsName table) (RunsMade nothing_in (command.Attach session table) old new) old new
+    Means (IsName table) (RunsMade nothing_in (command.Session session (told.Attach table)) old new) old new
 
 abbrev pub Diffs : ℕ → List ℕ → List ℕ → ConnectionState → ConnectionState → Done → Type 0
 Diffs session from table old new = Means (IsName from × IsName table)
-    (RunsMade nothing_in (command.Diff session from table) old new) old new
+    (RunsMade nothing_in (command.Session session (told.Diff from table)) old new) old new
 
 -- The filter is the one that the text spells. A text that is not UTF-8 is misuse.
 abbrev pub SetsFilter : ℕ → List ℕ → ConnectionState → ConnectionState → Done → Type 0
-SetsFilter session text old new = Means (IsUtf8 text) (Reads (filter_of text) fault.NoFilter
-    (λ filter. RunsMade nothing_in (command.SetFilter session filter) old new) old new) old new
+SetsFilter session text old new = Means (IsUtf8 text) (Reads (filter_of text) fault.NoFilter (λ filter.
+    RunsMade nothing_in (command.Session session (told.Change (change.SetFilter filter))) old new)
+    old new) old new
 
 -- The contents of the iterator are applied, and these sessions stay as they are. It has the conflicts that its
 -- changes met. Where nothing was applied it is as it was.

@@ -3,8 +3,10 @@ use Rattle.std.specs.Prelude.{◌≡◌, ◌⊎◌, ℕ, List, Option, Some, Non
 use Rattle.std.specs.Global.{Global}
 use Rattle.cap_codec.specs.declared.read.Contents.{Contents}
 use Rattle.cap_apply.specs.declared.policy.Policy.{Policy}
+use Rattle.cap_session.specs.declared.session_change.SessionChange.TheVariants.{Restart}
 use Rattle.cap_core.specs.declared.command.Command.{Command}
-use Rattle.cap_core.specs.declared.command.Command.TheVariants.{Apply, Capture, Restart}
+use Rattle.cap_core.specs.declared.command.Command.TheVariants.{Apply, Session}
+use Rattle.cap_core.specs.declared.session_command.SessionCommand.TheVariants.{Capture, Change}
 
 -- a blob is applied
 abbrev pub IsApply : Command Global → Type 0
@@ -18,4 +20,6 @@ blob_in _ = None
 
 -- a session is captured
 abbrev pub IsCapture : Command Global → Type 0
-IsCapture command = (session : ℕ) × ((command ≡ Capture session) ⊎ (command ≡ Restart session))
+IsCapture command =
+    (session : ℕ)
+    × ((command ≡ Session session Capture) ⊎ (command ≡ Session session (Change Restart)))

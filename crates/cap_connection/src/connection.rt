@@ -5,6 +5,8 @@ ghost use Rattle.std.specs.Result.{result_map_both};
 ghost use mathlib.Core.List.{IsPrefix};
 ghost use Rattle.cap_txn.specs.Batch.{BatchState};
 ghost use Rattle.cap_core.specs.declared.command.Command.TheVariants as command;
+ghost use Rattle.cap_core.specs.declared.session_command.SessionCommand.TheVariants as told;
+ghost use Rattle.cap_session.specs.declared.session_change.SessionChange.TheVariants as change;
 ghost use Rattle.cap_history.specs.History.{IsHistory};
 ghost use Rattle.cap_history.specs.Seat.{IsAnswered, calls};
 ghost use Rattle.cap_connection.specs.Calls.{Applies, Attaches, Captures, Commits, CreatesTable, Diffs};
@@ -239,16 +241,17 @@ impl Connection {
 
     /// Ends a session (sqlite3session_delete).
     pub fn drop_session(&mut self, session: u64) -> Result<(), Fault<ConnectionFault>>
-        ensures { Runs nothing_in (command.DropSession session) self.old self.new result }
+        ensures { Runs nothing_in (command.Session session told.Delete) self.old self.new result }
     {
-        self.run_nothing(&Command::DropSession { session })
+        self.run_nothing(&Command::drop_session(session))
     }
 
     /// Attaches every table of which a row changes from now on.
     pub fn attach_all(&mut self, session: u64) -> Result<(), Fault<ConnectionFault>>
-        ensures { Runs nothing_in (command.AttachAll session) self.old self.new result }
+        ensures { Runs nothing_in (command.Session session (told.Change change.AttachAll))
+            self.old self.new result }
     {
-        self.run_nothing(&Command::AttachAll { session })
+        self.run_nothing(&Command::attach_all(session))
     }
 
     /// Attaches a table (sqlite3session_attach).
@@ -266,7 +269,7 @@ impl Connection {
         let Ok(table) = Name::new(alloc, table) else {
             return Err(Fault::OutOfMemory);
         };
-        self.run_nothing(&Command::Attach { session, table })
+        self.run_nothing(&Command::attach(session, table))
     }
 
     /// Attaches from now on each table of which a row changes and whose name the filter accepts
@@ -283,7 +286,7 @@ impl Connection {
             return Err(Fault::Refused(ConnectionFault::Misuse));
         };
         match TableFilter::parse(alloc, text) {
-            Ok(filter) => self.run_nothing(&Command::SetFilter { session, filter }),
+            Ok(filter) => self.run_nothing(&Command::set_filter(session, filter)),
             Err(Fault::Refused(why)) => Err(Fault::Refused(ConnectionFault::NoFilter(why))),
             Err(Fault::OutOfMemory) => Err(Fault::OutOfMemory),
         }
@@ -295,9 +298,10 @@ impl Connection {
         session: u64,
         enabled: Option<bool>,
     ) -> Result<bool, Fault<ConnectionFault>>
-        ensures { Runs flag_in (command.Enable session enabled) self.old self.new result }
+        ensures { Runs flag_in (command.Session session (told.Change (change.Enable enabled)))
+            self.old self.new result }
     {
-        self.run_flag(&Command::Enable { session, enabled })
+        self.run_flag(&Command::enable(session, enabled))
     }
 
     /// Sets the indirect flag of a session, or asks for it (sqlite3session_indirect).
@@ -306,16 +310,17 @@ impl Connection {
         session: u64,
         indirect: Option<bool>,
     ) -> Result<bool, Fault<ConnectionFault>>
-        ensures { Runs flag_in (command.Indirect session indirect) self.old self.new result }
+        ensures { Runs flag_in (command.Session session (told.Change (change.Indirect indirect)))
+            self.old self.new result }
     {
-        self.run_flag(&Command::Indirect { session, indirect })
+        self.run_flag(&Command::indirect(session, indirect))
     }
 
     /// Whether a session has no records (sqlite3session_isempty).
     pub fn is_empty(&mut self, session: u64) -> Result<bool, Fault<ConnectionFault>>
-        ensures { Runs flag_in (command.IsEmpty session) self.old self.new result }
+        ensures { Runs flag_in (command.Session session told.IsEmpty) self.old self.new result }
     {
-        self.run_flag(&Command::IsEmpty { session })
+        self.run_flag(&Command::is_empty(session))
     }
 
     /// Records how a table differs from the one of the same name in a saved database (sqlite3session_diff).
@@ -340,11 +345,7 @@ impl Connection {
         let Ok(table) = Name::new(alloc, table) else {
             return Err(Fault::OutOfMemory);
         };
-        self.run_nothing(&Command::Diff {
-            session,
-            from,
-            table,
-        })
+        self.run_nothing(&Command::diff(session, from, table))
     }
 
     // ---- Snapshots, captures and batches
@@ -361,16 +362,16 @@ impl Connection {
 
     /// What a session has captured.
     pub fn capture(&mut self, session: u64) -> Result<Captured, Fault<ConnectionFault>>
-        ensures { Captures (command.Capture session) self.old self.new result }
+        ensures { Captures (command.Session session told.Capture) self.old self.new result }
     {
-        self.run_captured(&Command::Capture { session })
+        self.run_captured(&Command::capture(session))
     }
 
     /// What a session has captured, whose records are then deleted.
     pub fn restart(&mut self, session: u64) -> Result<Captured, Fault<ConnectionFault>>
-        ensures { Captures (command.Restart session) self.old self.new result }
+        ensures { Captures (command.Session session (told.Change change.Restart)) self.old self.new result }
     {
-        self.run_captured(&Command::Restart { session })
+        self.run_captured(&Command::restart(session))
     }
 
     /// Commits a batch. The answer is the new version, and then the batch is empty, and may be made on any

@@ -18,6 +18,7 @@ use Rattle.cap_database.specs.Tables.{Tables, table_of}
 use Rattle.cap_changes.specs.Fits.{change_fits}
 use Rattle.cap_changes.specs.Patch.{patch_of}
 use Rattle.cap_changes.specs.declared.row_change.RowChange.{RowChange}
+use Rattle.cap_changes.proofs.ChangeLemmas.{other_order}
 use Rattle.cap_apply.specs.Applied.{AppliedState}
 use Rattle.cap_apply.specs.Apply.{change_applied, change_at, concluded, counted, left_out, noted, with_row, with_row_in}
 use Rattle.cap_apply.specs.Policy.{answer_to, is_made}
@@ -29,7 +30,7 @@ use Rattle.cap_apply.specs.declared.conflict.ConflictKind.{ConflictKind}
 use Rattle.cap_apply.specs.declared.policy.Policy.{Policy}
 use Rattle.cap_apply.proofs.CaptureLemmas.{fit_self}
 use Rattle.cap_apply.proofs.ChangeLemmas.{HasTarget, applied_at}
-use Rattle.cap_apply.proofs.EntryLemmas.{get_put, get_put_other, unequal}
+use Rattle.cap_apply.proofs.EntryLemmas.{get_put, get_put_other}
 use Rattle.cap_group.specs.ChangeKey.{change_key}
 use Rattle.cap_rebase.specs.OneRow.{client_after, conflict_at}
 use Rattle.cap_convergence.proofs.KeyLemmas.{append_none, applied_key}
@@ -45,7 +46,7 @@ names_same : (a b : List ℕ) → bytes_cmp a b ≡ Equal → a ≡ b
 names_same a b is = (bytes_cmp-Equal a b).0 is
 
 unequal_names : (a b : List ℕ) → bytes_eq a b ≡ false → is_eq (bytes_cmp b a) ≡ false
-unequal_names a b apart = unequal (bytes_cmp b a) (λ is. let clash : true ≡ false = sym ((bytes_decides a b).1 (sym (names_same b a is))) ∙ apart in cc)
+unequal_names a b apart = other_order (bytes_cmp b a) (λ is. let clash : true ≡ false = sym ((bytes_decides a b).1 (sym (names_same b a is))) ∙ apart in cc)
 
 module _ {A : Type 0} where
   same_table : (database : Tables A) (name : List ℕ) (table : TableState A) → table_of (put_entry bytes_cmp database name table) name ≡ Some table

@@ -3,18 +3,16 @@ use Rattle.std.proofs.Common.{◌≡◌, ℕ, suc, zero, ◌+◌, Bool, true, fa
 use Rattle.std.proofs.lemmas.Bool.Decides.{nat_tests}
 use Rattle.std.specs.Map.{lookup}
 use Rattle.cap_session.specs.Sessions.{session_numbered}
-use Rattle.cap_core.specs.declared.command.Command.{Command}
-use Rattle.cap_core.specs.declared.command.Command.TheVariants as command
 use Rattle.cap_core.specs.declared.event.Event.{Event}
-use Rattle.cap_core.specs.Answer.{answer, capture_reply, session_answer, state_after}
-use Rattle.cap_core.specs.Flags.{drops, is_dropped, makes_session, session_named, sessions_made}
-use Rattle.cap_core.specs.History.{effect_of, event_effect, is_write, main, saved, saved_after, snapshot, version}
-use Rattle.cap_core.specs.Outcome.{no_effect}
+use Rattle.cap_core.specs.Answer.{capture_after, capture_reply, session_answer}
+use Rattle.cap_core.specs.Flags.{command_to, deletes, is_dropped, makes_session, session_named, sessions_made}
+use Rattle.cap_core.specs.History.{event_effect, is_write, main, saved, saved_after, snapshot, version}
 use Rattle.cap_core.specs.Past.{Past, is_accepted}
 use Rattle.cap_core.specs.Session.{session_of, sessions}
-use Rattle.cap_core.proofs.NumberLemmas.{apart_numbers, equal_numbers, is_number, numbered, passing, same_some, unequal_numbers}
-use Rattle.cap_core.proofs.SessionLemmas.{and_false, cond-same, flags-elsewhere, session-quiet, session-refused, silent-elsewhere, speaks_to, to_session}
+use Rattle.cap_core.proofs.NumberLemmas.{equal_numbers, numbered, passing, unequal_numbers}
+use Rattle.cap_core.proofs.SessionLemmas.{and_false, cond-same, effect-told, session-apart, session-refused}
 use Rattle.cap_core.proofs.FlagLemmas.{session-of-command, session_after}
+use Rattle.cap_core.proofs.ToldLemmas.{is_named, to_others}
 
 inside_first : (a number : ℕ) → (nat_le a number && nat_lt number (a + 0)) ≡ false
 inside_first a number = grind (arith, nat_tests)
@@ -90,7 +88,7 @@ module _ {A : Type 0} where
           | false ↦ λ is. session-refused number event past is ∙ agree.session ∙ sym (session-refused number event other is)
         ] refl;
         made = λ i. cond (accepted && makes_session event.command) (agree.made i + 1) (agree.made i);
-        dropped = λ i. (accepted && drops number event.command) || agree.dropped i;
+        dropped = λ i. (accepted && deletes (command_to number event.command)) || agree.dropped i;
       }
 
   pub agree-later : (number : ℕ) (past other : Past A) (later : List (Event A)) → Agree number past other → Agree number (later ++ past) (later ++ other)
@@ -99,24 +97,19 @@ module _ {A : Type 0} where
 
   -- ---- a command to another session
 
-  drops-apart : (number one : ℕ) → (number ≡ one → ⊥) → (c : Command A) → session_named c ≡ Some one → drops number c ≡ false
-  drops-apart number one apart (command.DropSession other) is = apart_numbers other number (λ e. apart (e ∙ same_some other one is))
-  drops-apart number one apart _ is = refl
-
   pub agree-apart : (number one : ℕ) (past : Past A) (event : Event A) → session_named event.command ≡ Some one → (number ≡ one → ⊥) → Agree number past (event ∷ past)
   agree-apart number one past event named apart =
       let accepted = is_accepted event.reply in
-      let other = to_session event.command one named in
-      let speaks : speaks_to number event.command ≡ false = ap (is_number number) named ∙ apart_numbers one number apart in
-      let quiet : event_effect (snapshot past) event ≡ no_effect (main past) =
-      ap (λ r. cond accepted (effect_of (main past) r) (no_effect (main past))) (other.leaves (snapshot past)) ∙ cond-same accepted (no_effect (main past)) in
+      let told = is_named event.command one named in
+      let none : command_to number event.command ≡ None = ap (command_to number) told.1 ∙ to_others number one told.0 apart in
+      let quiet = effect-told past event one told.0 told.1 in
       record {
         mains = sym (ap (λ e. e.database) quiet);
-        versions = sym (ap (λ b. cond (accepted && b) (version past + 1) (version past)) other.writes ∙ ap (λ b. cond b (version past + 1) (version past)) (and_false accepted));
-        saves = sym (ap (λ databases. cond accepted databases (saved past)) (other.saves (main past) (saved past)) ∙ cond-same accepted (saved past));
-        session = sym (session-quiet number event past (silent-elsewhere number event past speaks) (flags-elsewhere number event past speaks) (ap (λ e. e.changes) quiet));
-        made = sym (ap (λ b. cond (accepted && b) (sessions_made past + 1) (sessions_made past)) other.makes ∙ ap (λ b. cond b (sessions_made past + 1) (sessions_made past)) (and_false accepted));
-        dropped = sym (ap (λ b. (accepted && b) || is_dropped past number) (drops-apart number one apart event.command named) ∙ ap (λ b. b || is_dropped past number) (and_false accepted));
+        versions = sym (ap (λ c. cond (accepted && is_write c) (version past + 1) (version past)) told.1 ∙ ap (λ b. cond b (version past + 1) (version past)) (and_false accepted));
+        saves = sym (ap (λ c. cond accepted (saved_after c (main past) (saved past)) (saved past)) told.1 ∙ cond-same accepted (saved past));
+        session = sym (session-apart number event past none (ap (λ e. e.changes) quiet));
+        made = sym (ap (λ c. cond (accepted && makes_session c) (sessions_made past + 1) (sessions_made past)) told.1 ∙ ap (λ b. cond b (sessions_made past + 1) (sessions_made past)) (and_false accepted));
+        dropped = sym (ap (λ t. (accepted && deletes t) || is_dropped past number) none ∙ ap (λ b. b || is_dropped past number) (and_false accepted));
       }
 
   -- ---- captures
@@ -125,7 +118,7 @@ module _ {A : Type 0} where
       → session_numbered (sessions past) number ≡ cond (not (is_dropped past number) && (nat_le 1 number && nat_lt number (1 + sessions_made past))) (Some (session_of past number)) None
   numbered-is past number = lookup-is (λ k. not (is_dropped past k)) (session_of past) 1 (sessions_made past) number
 
-  captures-agree : (number : ℕ) (past other : Past A) → Agree number past other → answer (state_after past) (command.Capture number) ≡ answer (state_after other) (command.Capture number)
+  captures-agree : (number : ℕ) (past other : Past A) → Agree number past other → capture_after past number ≡ capture_after other number
   captures-agree number past other agree =
       let found : session_numbered (sessions past) number ≡ session_numbered (sessions other) number =
       numbered-is past number
@@ -135,7 +128,7 @@ module _ {A : Type 0} where
 
   -- a command to one session changes no other's captures
   pub others_capture : (past : Past A) (event : Event A) (one other : ℕ) → session_named event.command ≡ Some one → (other ≡ one → ⊥) → (later : List (Event A))
-      → answer (state_after (later ++ event ∷ past)) (command.Capture other) ≡ answer (state_after (later ++ past)) (command.Capture other)
+      → capture_after (later ++ event ∷ past) other ≡ capture_after (later ++ past) other
   others_capture past event one other named apart later =
       sym (captures-agree other (later ++ past) (later ++ event ∷ past) (agree-later other past (event ∷ past) later (agree-apart other one past event named apart)))
 
@@ -157,7 +150,7 @@ module _ {A : Type 0} where
       ] refl
 
   pub either_order : (past : Past A) (first second : Event A) (one other : ℕ) → session_named first.command ≡ Some one → session_named second.command ≡ Some other → (one ≡ other → ⊥)
-      → (later : List (Event A)) (number : ℕ) → answer (state_after (later ++ second ∷ first ∷ past)) (command.Capture number) ≡ answer (state_after (later ++ first ∷ second ∷ past)) (command.Capture number)
+      → (later : List (Event A)) (number : ℕ) → capture_after (later ++ second ∷ first ∷ past) number ≡ capture_after (later ++ first ∷ second ∷ past) number
   either_order past first second one other a b apart later number =
       captures-agree number (later ++ second ∷ first ∷ past) (later ++ first ∷ second ∷ past)
       (agree-later number (second ∷ first ∷ past) (first ∷ second ∷ past) later (orders-agree number past first second one other a b apart))

@@ -35,10 +35,9 @@ use Rattle.cap_session.specs.declared.record.Record.{Record}
 use Rattle.cap_session.specs.Records.{Records}
 use Rattle.cap_session.specs.Sessions.{session_numbered}
 use Rattle.cap_session.specs.Session.{AttachedTables, SessionState, record_of, records_of as attached_records}
-use Rattle.cap_core.specs.declared.command.Command.TheVariants as command
 use Rattle.cap_core.specs.declared.reply.Reply.TheVariants.{Capture as Captured}
 use Rattle.cap_core.specs.Capture.{CaptureState, change_now, changes_of, group_of, session_changes, table_changes}
-use Rattle.cap_core.specs.Answer.{answer, capture_reply, session_answer, state_after}
+use Rattle.cap_core.specs.Answer.{capture_after, capture_reply, session_answer}
 use Rattle.cap_core.specs.AppliedCapture.{AppliesWhole, GivesRows, HoldsImages, but_keyed, changes_in}
 use Rattle.cap_core.specs.Flags.{is_dropped, sessions_made}
 use Rattle.cap_core.specs.History.{main, version}
@@ -523,7 +522,7 @@ module _ {A : Type 0} where
   capture_of past session = record { version = version past; changes = session_changes (main past) session }
 
   -- a capture is that of the session
-  taken : (past : Past A) (number : ℕ) (capture : CaptureState A) → answer (state_after past) (command.Capture number) ≡ Captured capture → capture ≡ capture_of past (session_of past number)
+  taken : (past : Past A) (number : ℕ) (capture : CaptureState A) → capture_after past number ≡ Captured capture → capture ≡ capture_of past (session_of past number)
   taken past number capture is =
       elim (session_numbered (sessions past) number) as (λ o. session_numbered (sessions past) number ≡ o → session_answer o (capture_reply (version past) (main past)) ≡ Captured capture → capture ≡ capture_of past (session_of past number)) [
         | None ↦ λ _ e. cc
@@ -533,12 +532,12 @@ module _ {A : Type 0} where
       ] refl is
 
   -- it has the session's changes
-  pub captured : (past : Past A) (number : ℕ) (capture : CaptureState A) → answer (state_after past) (command.Capture number) ≡ Captured capture
+  pub captured : (past : Past A) (number : ℕ) (capture : CaptureState A) → capture_after past number ≡ Captured capture
       → capture.changes ≡ session_changes (main past) (session_of past number)
   captured past number capture is = ap (λ (c : CaptureState A). c.changes) (taken past number capture is)
 
   -- and the version of the tables
-  pub captured-at : (past : Past A) (number : ℕ) (capture : CaptureState A) → answer (state_after past) (command.Capture number) ≡ Captured capture → capture.version ≡ version past
+  pub captured-at : (past : Past A) (number : ℕ) (capture : CaptureState A) → capture_after past number ≡ Captured capture → capture.version ≡ version past
   captured-at past number capture is = ap (λ (c : CaptureState A). c.version) (taken past number capture is)
 
   -- what is applied as differences of tables
@@ -575,11 +574,11 @@ module _ {A : Type 0} where
         subst (λ l. FitsItsColumns (blob_of l)) planned_capture.is (law planned_capture.plan database planned_capture.before planned_capture.differ)
 
     pub changeset_applies : ((policy : Policy) (ts : List (TableRows A)) (tables : Tables A) → AllBefore ts tables → GivesAllRowsNow policy ts (Changes (map group_of_rows ts)) tables)
-        → (policy : Policy) (capture : CaptureState A) → answer (state_after past) (command.Capture number) ≡ Captured capture
+        → (policy : Policy) (capture : CaptureState A) → capture_after past number ≡ Captured capture
         → AppliesWhole policy (Changes capture.changes) (changes_in capture.changes) database (main past) (session_of past number).tables
     changeset_applies law policy capture is = changes_apply Changes law policy capture.changes (captured past number capture is)
 
     pub patchset_applies : ((policy : Policy) (ts : List (TableRows A)) (tables : Tables A) → AllBefore ts tables → GivesAllRowsNow policy ts (Patches (patch_list_of (map group_of_rows ts))) tables)
-        → (policy : Policy) (capture : CaptureState A) → answer (state_after past) (command.Capture number) ≡ Captured capture
+        → (policy : Policy) (capture : CaptureState A) → capture_after past number ≡ Captured capture
         → AppliesWhole policy (Patches (patch_list_of capture.changes)) (changes_in capture.changes) database (main past) (session_of past number).tables
     patchset_applies law policy capture is = changes_apply (λ l. Patches (patch_list_of l)) law policy capture.changes (captured past number capture is)

@@ -27,10 +27,9 @@ use Rattle.cap_apply.specs.Apply.{apply}
 use Rattle.cap_apply.specs.declared.policy.Policy.{Policy}
 use Rattle.cap_table.specs.Table.{TableState}
 use Rattle.cap_database.specs.Tables.{Tables, table_of}
-use Rattle.cap_core.specs.declared.command.Command.TheVariants as command
 use Rattle.cap_core.specs.declared.reply.Reply.TheVariants.{Capture as Captured}
 use Rattle.cap_core.specs.AppliedCapture.{AppliesWhole}
-use Rattle.cap_core.specs.Answer.{answer, state_after}
+use Rattle.cap_core.specs.Answer.{capture_after}
 use Rattle.cap_core.specs.Capture.{CaptureState, change_now, changes_of, group_of, table_changes}
 use Rattle.cap_core.specs.History.{main}
 use Rattle.cap_core.specs.Past.{Past}
@@ -66,12 +65,12 @@ module _ {A : Type 0} where
   each-some tables [] = tt
   each-some tables (a ∷ attached) = table-some a (table_of tables a.0) (changes_of tables attached) (each-some tables attached)
 
-  some-captured : (past : Past A) (session : ℕ) (capture : CaptureState A) → answer (state_after past) (command.Capture session) ≡ Captured capture
+  some-captured : (past : Past A) (session : ℕ) (capture : CaptureState A) → capture_after past session ≡ Captured capture
       → AllByRecursion (λ (group : TableChanges A). has_some group.changes ≡ true) capture.changes
   some-captured past session capture is =
       subst (AllByRecursion (λ (group : TableChanges A). has_some group.changes ≡ true)) (sym (captured past session capture is)) (each-some (main past) (session_of past session).tables)
 
-  pub no-empty-group : (past : Past A) (session : ℕ) (capture : CaptureState A) → answer (state_after past) (command.Capture session) ≡ Captured capture → HasNoEmptyGroup (Changes capture.changes)
+  pub no-empty-group : (past : Past A) (session : ℕ) (capture : CaptureState A) → capture_after past session ≡ Captured capture → HasNoEmptyGroup (Changes capture.changes)
   no-empty-group past session capture is = All-from_recursion (λ (group : TableChanges A). has_some group.changes ≡ true) capture.changes (some-captured past session capture is)
 
   some-patches : (flags : List Bool) (changes : List (RowChange A)) → has_some changes ≡ true → has_some (map (patch_of flags) changes) ≡ true

@@ -15,6 +15,7 @@ use Rattle.cap_database.proofs.Crossing.{database_send, database_sync, snapshot_
 use Rattle.cap_txn.proofs.Crossing.{batch_send, batch_sync}
 use Rattle.cap_filter.proofs.Crossing.{filter_send, filter_sync}
 use Rattle.cap_session.proofs.Crossing.{session_send, session_sync, sessions_send, sessions_sync}
+use Rattle.cap_session.specs.contracts.session_change.SessionChange as SessionChange
 use Rattle.cap_codec.proofs.read.Contents.TheSendSync as contents
 use Rattle.cap_apply.proofs.policy.Policy.TheSendSync as policy
 use Rattle.cap_apply.proofs.report.Report.TheSendSync as report
@@ -22,6 +23,7 @@ use Rattle.cap_core.proofs.quiet.QuietSessions.TheSendSync as quiet
 use Rattle.cap_core.specs.contracts.capture.Capture as Capture
 use Rattle.cap_core.specs.contracts.server.Core as Core
 use Rattle.cap_core.specs.contracts.command.Command as Command
+use Rattle.cap_core.specs.contracts.session_command.SessionCommand as SessionCommand
 use Rattle.cap_core.specs.contracts.dump.Dump as Dump
 use Rattle.cap_core.specs.contracts.listed_session.ListedSession as ListedSession
 use Rattle.cap_core.specs.contracts.listed_table.ListedTable as ListedTable
@@ -30,9 +32,9 @@ use Rattle.cap_core.specs.contracts.reply.Reply as Reply
 use Rattle.cap_core.specs.contracts.session_list.SessionList as SessionList
 use Rattle.cap_core.specs.contracts.table_list.TableList as TableList
 
-ruleset sends = (name.the_send, schema.the_send, batch_send, contents.the_field_send, policy.the_field_send, quiet.the_send, filter_send, sendable)
+ruleset sends = (name.the_send, schema.the_send, batch_send, contents.the_field_send, policy.the_field_send, quiet.the_send, sendable)
 
-ruleset syncs = (name.the_sync, schema.the_sync, batch_sync, contents.the_field_sync, policy.the_field_sync, quiet.the_sync, filter_sync, sendable)
+ruleset syncs = (name.the_sync, schema.the_sync, batch_sync, contents.the_field_sync, policy.the_field_sync, quiet.the_sync, sendable)
 
 module _ (A : RattleType) (h : handle.Ghosts A.Denot) (a : allocator.Ghosts A.Denot) (c : clone.Ghosts A.Denot)
     (al : IsSend A) (ay : IsSync A) (frees : Frees a a.dealloc_token) where
@@ -48,134 +50,38 @@ module _ (A : RattleType) (h : handle.Ghosts A.Denot) (a : allocator.Ghosts A.De
   capture_sync : IsSync (Capture.the_row A h a c)
   capture_sync = search (database_sync, session_sync, sendable) depth 40 fits 100000
 
+  changes_send : EachSend (variants (SessionChange.the_type A a))
+  changes_send = search (filter_send, sendable) depth 40 fits 100000
+
+  change_field_send : IsSend (SessionChange.the_field A a).row
+  change_field_send = enum_send (shape (SessionChange.the_type A a)) changes_send
+
+  changes_sync : EachSync (variants (SessionChange.the_type A a))
+  changes_sync = search (filter_sync, sendable) depth 40 fits 100000
+
+  change_field_sync : IsSync (SessionChange.the_field A a).row
+  change_field_sync = enum_sync (shape (SessionChange.the_type A a)) changes_sync
+
+  told_send : EachSend (variants (SessionCommand.the_type A a))
+  told_send = search (name.the_send, change_field_send, sendable) depth 40 fits 100000
+
+  told_field_send : IsSend (SessionCommand.the_field A a).row
+  told_field_send = enum_send (shape (SessionCommand.the_type A a)) told_send
+
+  told_sync : EachSync (variants (SessionCommand.the_type A a))
+  told_sync = search (name.the_sync, change_field_sync, sendable) depth 40 fits 100000
+
+  told_field_sync : IsSync (SessionCommand.the_field A a).row
+  told_field_sync = enum_sync (shape (SessionCommand.the_type A a)) told_sync
+
   variants_send : EachSend (variants (Command.the_type A h a c))
-  variants_send = (
-    search sends depth 20,
-    (
-      search sends depth 20,
-      (
-        search sends depth 20,
-        (
-          search sends depth 20,
-          (
-            search sends depth 20,
-            (
-              search sends depth 20,
-              (
-                search sends depth 20,
-                (
-                  search sends depth 20,
-                  (
-                    search sends depth 20,
-                    (
-                      search sends depth 20,
-                      (
-                        search sends depth 20,
-                        (
-                          search sends depth 20,
-                          (
-                            search sends depth 20,
-                            (
-                              search sends depth 20,
-                              (
-                                search sends depth 20,
-                                (
-                                  search sends depth 20,
-                                  (
-                                    search sends depth 20,
-                                    (
-                                      search sends depth 20,
-                                      (
-                                        search sends depth 20,
-                                        (
-                                          search sends depth 20,
-                                          (search sends depth 20, tt),
-                                        ),
-                                      ),
-                                    ),
-                                  ),
-                                ),
-                              ),
-                            ),
-                          ),
-                        ),
-                      ),
-                    ),
-                  ),
-                ),
-              ),
-            ),
-          ),
-        ),
-      ),
-    ),
-  )
+  variants_send = search (told_field_send, sends) depth 60 fits 100000
 
   pub command_send : IsSend (Command.the_row A h a c)
   command_send = let O = Command.the_type A h a c in recorded_send (Enum (shape O)) O.D O.to O.to_one (enum_send (shape O) variants_send)
 
   variants_sync : EachSync (variants (Command.the_type A h a c))
-  variants_sync = (
-    search syncs depth 20,
-    (
-      search syncs depth 20,
-      (
-        search syncs depth 20,
-        (
-          search syncs depth 20,
-          (
-            search syncs depth 20,
-            (
-              search syncs depth 20,
-              (
-                search syncs depth 20,
-                (
-                  search syncs depth 20,
-                  (
-                    search syncs depth 20,
-                    (
-                      search syncs depth 20,
-                      (
-                        search syncs depth 20,
-                        (
-                          search syncs depth 20,
-                          (
-                            search syncs depth 20,
-                            (
-                              search syncs depth 20,
-                              (
-                                search syncs depth 20,
-                                (
-                                  search syncs depth 20,
-                                  (
-                                    search syncs depth 20,
-                                    (
-                                      search syncs depth 20,
-                                      (
-                                        search syncs depth 20,
-                                        (
-                                          search syncs depth 20,
-                                          (search syncs depth 20, tt),
-                                        ),
-                                      ),
-                                    ),
-                                  ),
-                                ),
-                              ),
-                            ),
-                          ),
-                        ),
-                      ),
-                    ),
-                  ),
-                ),
-              ),
-            ),
-          ),
-        ),
-      ),
-    ),
-  )
+  variants_sync = search (told_field_sync, syncs) depth 60 fits 100000
 
   pub command_sync : IsSync (Command.the_row A h a c)
   command_sync = let O = Command.the_type A h a c in recorded_sync (Enum (shape O)) O.D O.to O.to_one (enum_sync (shape O) variants_sync)
@@ -224,79 +130,13 @@ module _ (A : RattleType) (h : handle.Ghosts A.Denot) (a : allocator.Ghosts A.De
   dump_sync = search (snapshot_sync, sendable) depth 40 fits 100000
 
   reply_variants_send : EachSend (variants (Reply.the_type A h a c))
-  reply_variants_send = (
-    search (report.the_send, snapshot_send, capture_send, names_send, sessions_listed_send, tables_listed_send, dump_send, refusal.the_field_send, sendable) depth 40 fits 100000,
-    (
-      search (report.the_send, snapshot_send, capture_send, names_send, sessions_listed_send, tables_listed_send, dump_send, refusal.the_field_send, sendable) depth 40 fits 100000,
-      (
-        search (report.the_send, snapshot_send, capture_send, names_send, sessions_listed_send, tables_listed_send, dump_send, refusal.the_field_send, sendable) depth 40 fits 100000,
-        (
-          search (report.the_send, snapshot_send, capture_send, names_send, sessions_listed_send, tables_listed_send, dump_send, refusal.the_field_send, sendable) depth 40 fits 100000,
-          (
-            search (report.the_send, snapshot_send, capture_send, names_send, sessions_listed_send, tables_listed_send, dump_send, refusal.the_field_send, sendable) depth 40 fits 100000,
-            (
-              search (report.the_send, snapshot_send, capture_send, names_send, sessions_listed_send, tables_listed_send, dump_send, refusal.the_field_send, sendable) depth 40 fits 100000,
-              (
-                search (report.the_send, snapshot_send, capture_send, names_send, sessions_listed_send, tables_listed_send, dump_send, refusal.the_field_send, sendable) depth 40 fits 100000,
-                (
-                  search (report.the_send, snapshot_send, capture_send, names_send, sessions_listed_send, tables_listed_send, dump_send, refusal.the_field_send, sendable) depth 40 fits 100000,
-                  (
-                    search (report.the_send, snapshot_send, capture_send, names_send, sessions_listed_send, tables_listed_send, dump_send, refusal.the_field_send, sendable) depth 40 fits 100000,
-                    (
-                      search (report.the_send, snapshot_send, capture_send, names_send, sessions_listed_send, tables_listed_send, dump_send, refusal.the_field_send, sendable) depth 40 fits 100000,
-                      (
-                        search (report.the_send, snapshot_send, capture_send, names_send, sessions_listed_send, tables_listed_send, dump_send, refusal.the_field_send, sendable) depth 40 fits 100000,
-                        (search (report.the_send, snapshot_send, capture_send, names_send, sessions_listed_send, tables_listed_send, dump_send, refusal.the_field_send, sendable) depth 40 fits 100000, tt),
-                      ),
-                    ),
-                  ),
-                ),
-              ),
-            ),
-          ),
-        ),
-      ),
-    ),
-  )
+  reply_variants_send = search (report.the_send, snapshot_send, capture_send, names_send, sessions_listed_send, tables_listed_send, dump_send, refusal.the_field_send, sendable) depth 60 fits 100000
 
   pub reply_send : IsSend (Reply.the_row A h a c)
   reply_send = let O = Reply.the_type A h a c in recorded_send (Enum (shape O)) O.D O.to O.to_one (enum_send (shape O) reply_variants_send)
 
   reply_variants_sync : EachSync (variants (Reply.the_type A h a c))
-  reply_variants_sync = (
-    search (report.the_sync, snapshot_sync, capture_sync, names_sync, sessions_listed_sync, tables_listed_sync, dump_sync, refusal.the_field_sync, sendable) depth 40 fits 100000,
-    (
-      search (report.the_sync, snapshot_sync, capture_sync, names_sync, sessions_listed_sync, tables_listed_sync, dump_sync, refusal.the_field_sync, sendable) depth 40 fits 100000,
-      (
-        search (report.the_sync, snapshot_sync, capture_sync, names_sync, sessions_listed_sync, tables_listed_sync, dump_sync, refusal.the_field_sync, sendable) depth 40 fits 100000,
-        (
-          search (report.the_sync, snapshot_sync, capture_sync, names_sync, sessions_listed_sync, tables_listed_sync, dump_sync, refusal.the_field_sync, sendable) depth 40 fits 100000,
-          (
-            search (report.the_sync, snapshot_sync, capture_sync, names_sync, sessions_listed_sync, tables_listed_sync, dump_sync, refusal.the_field_sync, sendable) depth 40 fits 100000,
-            (
-              search (report.the_sync, snapshot_sync, capture_sync, names_sync, sessions_listed_sync, tables_listed_sync, dump_sync, refusal.the_field_sync, sendable) depth 40 fits 100000,
-              (
-                search (report.the_sync, snapshot_sync, capture_sync, names_sync, sessions_listed_sync, tables_listed_sync, dump_sync, refusal.the_field_sync, sendable) depth 40 fits 100000,
-                (
-                  search (report.the_sync, snapshot_sync, capture_sync, names_sync, sessions_listed_sync, tables_listed_sync, dump_sync, refusal.the_field_sync, sendable) depth 40 fits 100000,
-                  (
-                    search (report.the_sync, snapshot_sync, capture_sync, names_sync, sessions_listed_sync, tables_listed_sync, dump_sync, refusal.the_field_sync, sendable) depth 40 fits 100000,
-                    (
-                      search (report.the_sync, snapshot_sync, capture_sync, names_sync, sessions_listed_sync, tables_listed_sync, dump_sync, refusal.the_field_sync, sendable) depth 40 fits 100000,
-                      (
-                        search (report.the_sync, snapshot_sync, capture_sync, names_sync, sessions_listed_sync, tables_listed_sync, dump_sync, refusal.the_field_sync, sendable) depth 40 fits 100000,
-                        (search (report.the_sync, snapshot_sync, capture_sync, names_sync, sessions_listed_sync, tables_listed_sync, dump_sync, refusal.the_field_sync, sendable) depth 40 fits 100000, tt),
-                      ),
-                    ),
-                  ),
-                ),
-              ),
-            ),
-          ),
-        ),
-      ),
-    ),
-  )
+  reply_variants_sync = search (report.the_sync, snapshot_sync, capture_sync, names_sync, sessions_listed_sync, tables_listed_sync, dump_sync, refusal.the_field_sync, sendable) depth 60 fits 100000
 
   pub reply_sync : IsSync (Reply.the_row A h a c)
   reply_sync = let O = Reply.the_type A h a c in recorded_sync (Enum (shape O)) O.D O.to O.to_one (enum_sync (shape O) reply_variants_sync)

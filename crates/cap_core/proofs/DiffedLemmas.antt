@@ -22,15 +22,17 @@ use Rattle.cap_compare.specs.declared.difference.Difference.{Difference}
 use Rattle.cap_session.specs.declared.record.Record.{Record}
 use Rattle.cap_session.specs.Recording.{record_commit, touch_table, touches_found}
 use Rattle.cap_session.specs.Records.{Records, Touch as RowTouch, record_after, touch, with_touches}
-use Rattle.cap_session.specs.Session.{AttachedTables, SessionState, attach, is_listed, record_of, records_of as attached_records}
+use Rattle.cap_session.specs.Session.{AttachedTables, SessionState, attach, forget, is_listed, record_of, records_of as attached_records}
 use Rattle.cap_session.specs.Sessions.{session_numbered}
 use Rattle.cap_core.specs.declared.command.Command.{Command}
 use Rattle.cap_core.specs.declared.command.Command.TheVariants as command
+use Rattle.cap_core.specs.declared.session_command.SessionCommand.{SessionCommand}
+use Rattle.cap_core.specs.declared.session_command.SessionCommand.TheVariants.{Attach, Change, Diff}
 use Rattle.cap_core.specs.declared.event.Event.{Event}
 use Rattle.cap_core.specs.Answer.{answer, diffed, session_answer, state_after}
 use Rattle.cap_core.specs.Diff.{compared as all_found, diff, diff_from, diff_to}
 use Rattle.cap_core.specs.AppliedCapture.{AreQuiet, GivesRows, HoldsImages, IsDiffed, renews}
-use Rattle.cap_core.specs.Flags.{changes_shown, is_indirect}
+use Rattle.cap_core.specs.Flags.{changes_shown, command_to, is_indirect}
 use Rattle.cap_core.specs.History.{Databases, effect_of, event_effect, is_write, main, saved, snapshot}
 use Rattle.cap_core.specs.Outcome.{Effect, Refused, no_effect, outcome}
 use Rattle.cap_core.specs.Past.{Past, is_accepted}
@@ -38,10 +40,11 @@ use Rattle.cap_core.specs.Session.{session_of, sessions}
 use Rattle.cap_core.specs.Transition.{compared, session_left}
 use Rattle.cap_core.proofs.AppliedCaptureLemmas.{found-rising}
 use Rattle.cap_core.proofs.KeyedLemmas.{ordered}
-use Rattle.cap_core.proofs.NumberLemmas.{same_number}
-use Rattle.cap_core.proofs.SessionLemmas.{and_false, record_commit-nothing, session-refused, shown-none, speaks_to}
+use Rattle.cap_core.proofs.ChangeLemmas.{is_changed}
+use Rattle.cap_core.proofs.SessionLemmas.{and_false, record_commit-nothing, session-refused, shown-none}
 use Rattle.cap_core.proofs.SmallLemmas.{either_false, other_false}
-use Rattle.cap_core.proofs.FlagLemmas.{session-of-command, session_after}
+use Rattle.cap_core.proofs.FlagLemmas.{left_by, session-of-command, session_after}
+use Rattle.cap_core.proofs.ToldLemmas.{to_itself}
 use Rattle.cap_core.proofs.TouchedLemmas.{fields_same, get-find, put_entry-put, tied}
 
 no-write : (accepted writes renewed : Bool) → (accepted && (writes || renewed)) ≡ false → (accepted && writes) ≡ false
@@ -170,27 +173,28 @@ module _ {A : Type 0} where
       ] quiet
 
   -- what a session has of a key stays, where a command to it does not renew it
-  left-records : (session : ℕ) (c : Command A) (tables : Tables A) (databases : Databases A) (s : SessionState A) (name : List ℕ) (key : Fields A) → speaks_to session c ≡ true → renews session c ≡ false
-      → record_of (unwrap_or (session_left tables databases c s) s).tables name key ≡ record_of s.tables name key
-  left-records session (command.Attach other table) tables databases s name key speaks renewed = record-attach table s.tables name key
-  left-records session (command.Diff other from table) tables databases s name key speaks renewed = cc
-  left-records session (command.Restart other) tables databases s name key speaks renewed = cc
-  left-records session _ tables databases s name key speaks renewed = refl
+  left-records : (told : SessionCommand A) (tables : Tables A) (databases : Databases A) (s : SessionState A) (name : List ℕ) (key : Fields A) → renews (Some told) ≡ false
+      → record_of (unwrap_or (session_left tables databases told s) s).tables name key ≡ record_of s.tables name key
+  left-records (Attach table) tables databases s name key renewed = record-attach table s.tables name key
+  left-records (Change change) tables databases s name key renewed =
+      ap (λ tables. record_of tables name key) ((is_changed change s).tables ∙ ap (λ b. cond b (forget s.tables) s.tables) renewed)
+  left-records (Diff from table) tables databases s name key renewed = cc
+  left-records _ tables databases s name key renewed = refl
 
   -- the same of any command that does not write
-  record-after-command : (session : ℕ) (c : Command A) (now : SnapshotState A) (databases : Databases A) (s : SessionState A) (name : List ℕ) (key : Fields A) → is_write c ≡ false → renews session c ≡ false
+  record-after-command : (session : ℕ) (c : Command A) (now : SnapshotState A) (databases : Databases A) (s : SessionState A) (name : List ℕ) (key : Fields A) → is_write c ≡ false → renews (command_to session c) ≡ false
       → record_of (session_after session c now databases s).tables name key ≡ record_of s.tables name key
   record-after-command session c now databases s name key writes renewed =
       let commit : Result (Effect A) Refused → SessionState A = λ r. record_commit (changes_shown session c (effect_of now.database r).changes) s in
-      elim (speaks_to session c) as (λ b. speaks_to session c ≡ b → record_of (cond b (unwrap_or (session_left now.database databases c s) s) (commit (outcome now c))).tables name key ≡ record_of s.tables name key) [
-        | true ↦ λ speaks. left-records session c now.database databases s name key speaks renewed
-        | false ↦ λ _. ap (λ r. record_of (commit r).tables name key) (leaves-tables now c writes) ∙ ap (λ changes. record_of (record_commit changes s).tables name key) (shown-none session c [] refl) ∙ ap (λ t. record_of t.tables name key) (record_commit-nothing s)
-      ] refl
+      elim (command_to session c) as (λ o. renews o ≡ false → record_of (left_by o now.database databases s (commit (outcome now c))).tables name key ≡ record_of s.tables name key) [
+        | Some told ↦ left-records told now.database databases s name key
+        | None ↦ λ _. ap (λ r. record_of (commit r).tables name key) (leaves-tables now c writes) ∙ ap (λ changes. record_of (record_commit changes s).tables name key) (shown-none session c [] refl) ∙ ap (λ t. record_of t.tables name key) (record_commit-nothing s)
+      ] renewed
 
-  quiet-record : (session : ℕ) (past : Past A) (event : Event A) (name : List ℕ) (key : Fields A) → (is_accepted event.reply && (is_write event.command || renews session event.command)) ≡ false
+  quiet-record : (session : ℕ) (past : Past A) (event : Event A) (name : List ℕ) (key : Fields A) → (is_accepted event.reply && (is_write event.command || renews (command_to session event.command))) ≡ false
       → record_of (session_of (event ∷ past) session).tables name key ≡ record_of (session_of past session).tables name key
   quiet-record session past event name key quiet =
-      elim (is_accepted event.reply) as (λ b. is_accepted event.reply ≡ b → (b && (is_write event.command || renews session event.command)) ≡ false
+      elim (is_accepted event.reply) as (λ b. is_accepted event.reply ≡ b → (b && (is_write event.command || renews (command_to session event.command))) ≡ false
       → record_of (session_of (event ∷ past) session).tables name key ≡ record_of (session_of past session).tables name key) [
         | true ↦ λ accepted is.
             ap (λ s. record_of s.tables name key) (session-of-command past event session accepted)
@@ -201,7 +205,7 @@ module _ {A : Type 0} where
   later-main : (session : ℕ) (past : Past A) (later : List (Event A)) → AreQuiet session later → main (later ++ past) ≡ main past
   later-main session past [] quiet = refl
   later-main session past (event ∷ later) quiet =
-      ap (λ e. e.database) (quiet-effect (later ++ past) event (no-write (is_accepted event.reply) (is_write event.command) (renews session event.command) quiet.0)) ∙ later-main session past later quiet.1
+      ap (λ e. e.database) (quiet-effect (later ++ past) event (no-write (is_accepted event.reply) (is_write event.command) (renews (command_to session event.command)) quiet.0)) ∙ later-main session past later quiet.1
 
   later-record : (session : ℕ) (past : Past A) (later : List (Event A)) → AreQuiet session later → (name : List ℕ) (key : Fields A)
       → record_of (session_of (later ++ past) session).tables name key ≡ record_of (session_of past session).tables name key
@@ -296,7 +300,7 @@ module _ {A : Type 0} where
     after-is =
         ap (λ s. s.tables) (session-of-command past event session d.accepted
         ∙ ap (λ c. session_after session c (snapshot past) (saved past) (session_of past session)) d.diffs
-        ∙ ap (λ b. cond b (compared name (diff (main past) (saved past) d.from name) (session_of past session)) (record_commit [] (session_of past session))) (same_number session)
+        ∙ ap (λ told. left_by told (main past) (saved past) (session_of past session) (record_commit [] (session_of past session))) (to_itself session (Diff d.from name))
         ∙ ap (λ r. compared name r (session_of past session)) made.is)
 
     none-before : (other : List ℕ) (key : Fields A) → record_of (attach name before) other key ≡ None

@@ -16,7 +16,8 @@ use Rattle.cap_tree.specs.Tree.{get}
 use Rattle.cap_session.specs.declared.record.Record.{Record}
 use Rattle.cap_session.specs.Records.{Records}
 use Rattle.cap_session.specs.Session.{AttachedTables, stored}
-use Rattle.cap_core.specs.declared.command.Command.TheVariants as command
+use Rattle.cap_core.specs.declared.command.Command.TheVariants.{Session}
+use Rattle.cap_core.specs.declared.session_command.SessionCommand.TheVariants.{IsEmpty}
 use Rattle.cap_core.specs.declared.reply.Reply.TheVariants.{Flag}
 use Rattle.cap_core.specs.Answer.{answer, refusal, session_answer, session_reply, state_after}
 use Rattle.cap_core.specs.Flags.{live_sessions}
@@ -113,10 +114,10 @@ module _ {A : Type 0} where
     found-live : lookup (nat_eq session) (map (λ number. (number, session_of past number)) (live_sessions past)) ≡ cond (list_any (nat_eq session) (live_sessions past)) (Some (session_of past session)) None
     found-live = lookup-listed (session_of past) session (live_sessions past)
 
-    pub empty-live : list_any (nat_eq session) (live_sessions past) ≡ true → answer (state_after past) (command.IsEmpty session) ≡ Flag (nat_eq (length (touches session past)) 0)
+    pub empty-live : list_any (nat_eq session) (live_sessions past) ≡ true → answer (state_after past) (Session session IsEmpty) ≡ Flag (nat_eq (length (touches session past)) 0)
     empty-live is =
-        ap (λ found. session_answer found (session_reply (state_after past) (command.IsEmpty session))) (found-live ∙ ap (λ b. cond b (Some (session_of past session)) None) is)
+        ap (λ found. session_answer found (session_reply (state_after past) IsEmpty)) (found-live ∙ ap (λ b. cond b (Some (session_of past session)) None) is)
         ∙ ap (λ b. Flag b) (stored-touches (touches session past) refl)
 
-    pub empty-none : list_any (nat_eq session) (live_sessions past) ≡ false → answer (state_after past) (command.IsEmpty session) ≡ refusal NoSession
-    empty-none is = ap (λ found. session_answer found (session_reply (state_after past) (command.IsEmpty session))) (found-live ∙ ap (λ b. cond b (Some (session_of past session)) None) is)
+    pub empty-none : list_any (nat_eq session) (live_sessions past) ≡ false → answer (state_after past) (Session session IsEmpty) ≡ refusal NoSession
+    empty-none is = ap (λ found. session_answer found (session_reply (state_after past) IsEmpty)) (found-live ∙ ap (λ b. cond b (Some (session_of past session)) None) is)

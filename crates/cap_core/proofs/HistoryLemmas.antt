@@ -19,7 +19,7 @@ use Rattle.cap_session.specs.Recording.{attach_by, is_cascade}
 use Rattle.cap_core.proofs.CarriedLemmas.{told_by}
 use Rattle.cap_session.specs.Records.{Records}
 use Rattle.cap_session.specs.Session.{AttachedTables, accepts_by, attach}
-use Rattle.cap_core.specs.Flags.{changes_shown, is_enabled, is_indirect, rule as rule_of}
+use Rattle.cap_core.specs.Flags.{changes_shown, command_to, is_enabled, is_indirect, rule as rule_of}
 use Rattle.cap_core.specs.History.{event_effect, main, snapshot}
 use Rattle.cap_core.specs.Past.{Past, is_accepted}
 use Rattle.cap_core.specs.Touch.{Attaching, Touch, attach_list, attaching_at, attaching_by, attachings, changes_touch, diff_touches, event_changes, event_diff, event_touches, first_of_each, is_in_time, is_recorded, names_attached, names_compared, restarts, touch_found, touch_of, touches, touches_of}
@@ -257,12 +257,12 @@ module _ {A : Type 0} where
   attachings-earlier session k (event ∷ past) le =
       let lt : nat_lt (length past) k ≡ true = grind (arith, nat_tests) in
       let test : Attaching → Bool = λ moment. nat_lt moment.event k in
-      let by_command = cond (is_accepted event.reply) (map (attaching_at (length past) 0) (names_attached session event.command)) [] in
+      let by_command = cond (is_accepted event.reply) (map (attaching_at (length past) 0) (names_attached (command_to session event.command))) [] in
       let by_diff = map (attaching_at (length past) 0) (names_compared (event_diff session event past)) in
       let by_changes = filter_map (attaching_by session past) (event_changes session event past) in
       let commanded : list_all test by_command ≡ true =
-      elim (is_accepted event.reply) as (λ b. list_all test (cond b (map (attaching_at (length past) 0) (names_attached session event.command)) []) ≡ true) [
-        | true ↦ all_attached (length past) k lt (names_attached session event.command)
+      elim (is_accepted event.reply) as (λ b. list_all test (cond b (map (attaching_at (length past) 0) (names_attached (command_to session event.command))) []) ≡ true) [
+        | true ↦ all_attached (length past) k lt (names_attached (command_to session event.command))
         | false ↦ refl
       ] in
       let compared : list_all test by_diff ≡ true = all_attached (length past) k lt (names_compared (event_diff session event past)) in
@@ -290,7 +290,7 @@ module _ {A : Type 0} where
   touches-none session name [] absent = refl
   touches-none session name (event ∷ past) absent =
       let before = attachings session past in
-      let by_command = cond (is_accepted event.reply) (map (attaching_at (length past) 0) (names_attached session event.command)) [] in
+      let by_command = cond (is_accepted event.reply) (map (attaching_at (length past) 0) (names_attached (command_to session event.command))) [] in
       let by_diff = map (attaching_at (length past) 0) (names_compared (event_diff session event past)) in
       let by_changes = filter_map (attaching_by session past) (event_changes session event past) in
       let now : is_among name (table_names (before ++ (by_command ++ by_diff ++ by_changes))) ≡ false = sym (is_among-first_of_each name (table_names (before ++ (by_command ++ by_diff ++ by_changes)))) ∙ absent in
@@ -305,7 +305,7 @@ module _ {A : Type 0} where
         | true ↦ none_of (attachings session (event ∷ past)) name now _
         | false ↦ refl
       ] in
-      elim (is_accepted event.reply && restarts session event.command) as (λ b. touches_of name (cond b [] (touches session past ++ event_touches session event past)) ≡ []) [
+      elim (is_accepted event.reply && restarts (command_to session event.command)) as (λ b. touches_of name (cond b [] (touches session past ++ event_touches session event past)) ≡ []) [
         | true ↦ refl
         | false ↦
             touches_of-append name (touches session past) (event_touches session event past)

@@ -32,7 +32,7 @@ use Rattle.cap_core.specs.declared.command.Command.{Command}
 use Rattle.cap_core.specs.declared.event.Event.{Event}
 use Rattle.cap_core.specs.Answer.{State, answer, state_after, write_reply}
 use Rattle.cap_core.specs.Capture.{change_now, group_of, session_changes, table_changes}
-use Rattle.cap_core.specs.Flags.{changes_shown, is_indirect}
+use Rattle.cap_core.specs.Flags.{changes_shown, command_to, is_indirect}
 use Rattle.cap_core.specs.History.{effect_of, event_effect, main, snapshot}
 use Rattle.cap_core.specs.Insert.{HasChange, IsInsertOfAbsent, changes_by_key, insert_of}
 use Rattle.cap_core.specs.Outcome.{Effect, Refused as Why, commit_unless, made, no_effect, outcome}
@@ -42,7 +42,7 @@ use Rattle.cap_core.specs.Session.{all_indirect, records_of, session_of}
 use Rattle.cap_core.specs.Touch.{Touch, attach_list, touches, touches_of}
 use Rattle.cap_core.proofs.HistoryLemmas.{is_among}
 use Rattle.cap_core.proofs.LawLemmas.{first_image}
-use Rattle.cap_core.proofs.SessionLemmas.{IsSilent, kept-on, silent-elsewhere, speaks_to}
+use Rattle.cap_core.proofs.SessionLemmas.{IsSilent, kept-on, silent-elsewhere}
 use Rattle.cap_core.proofs.TouchedLemmas.{fields_same, get-find, put_entry-put}
 
 -- ---- one item among those that a function makes
@@ -213,7 +213,7 @@ module _ {A : Type 0} where
     effect-is = (λ i. cond (is.accepted i) (effect_of (main past) (outcome (snapshot past) (is.inserts i))) (no_effect (main past))) ∙ ap (effect_of (main past)) inserted.is
 
     silent : IsSilent session event past
-    silent = silent-elsewhere session event past (ap (speaks_to session) is.inserts)
+    silent = silent-elsewhere session event past (ap (command_to session) is.inserts)
 
     abbrev touched : List (Fields A × Touch A)
     touched = touches_of name (touches session past)

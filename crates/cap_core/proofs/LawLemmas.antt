@@ -20,18 +20,19 @@ use Rattle.cap_session.specs.Session.{SessionState, new_session}
 use Rattle.cap_session.specs.Sessions.{session_numbered}
 use Rattle.cap_core.specs.declared.command.Command.{Command}
 use Rattle.cap_core.specs.declared.command.Command.TheVariants as command
+use Rattle.cap_core.specs.declared.session_command.SessionCommand.{SessionCommand}
+use Rattle.cap_core.specs.declared.session_command.SessionCommand.TheVariants.{Change}
 use Rattle.cap_core.specs.declared.event.Event.{Event}
 use Rattle.cap_core.specs.declared.reply.Reply.{Reply}
-use Rattle.cap_core.specs.Answer.{IsLegal, IsLegalPast, State, answer, application, event_by, has_room_for, reply_of, snapshot_of, state, state_after, write_reply}
+use Rattle.cap_core.specs.Answer.{IsLegal, IsLegalPast, State, answer, application, event_by, has_room_for, reply_of, session_answer, session_reply, snapshot_of, state, state_after, write_reply}
 use Rattle.cap_core.specs.Capture.{change_now, changes_of, session_changes, table_changes}
-use Rattle.cap_core.specs.Flags.{session_named}
 use Rattle.cap_core.specs.History.{main}
 use Rattle.cap_core.specs.Outcome.{Effect, Refused as Why, outcome}
 use Rattle.cap_core.specs.Past.{Past, is_accepted}
 use Rattle.cap_core.specs.Replies.{replies_after}
 use Rattle.cap_core.specs.Session.{all_indirect, records_of, session_of}
 use Rattle.cap_core.specs.Touch.{Touch, attach_list, touches, touches_of}
-use Rattle.cap_core.specs.Transition.{after_session, after_write, next, next_by, one_more, own_next, session_left}
+use Rattle.cap_core.specs.Transition.{after_session, after_write, next, one_more, session_left}
 use Rattle.cap_core.proofs.NextLemmas.{IsLegal-push, after_refusal, next-is, state-push}
 use Rattle.cap_core.proofs.TouchedLemmas.{find-records_of, get-find, records_of-none, touched_at}
 
@@ -94,10 +95,15 @@ module _ {A : Type 0} where
   write_reply-one_more s (Ok effect) = refl
   write_reply-one_more s (Err why) = refl
 
+  reply-one_more : (s : State A) (told : SessionCommand A) (session : SessionState A) → session_reply (one_more s) told session ≡ session_reply s told session
+  reply-one_more s (Change change) session = refl
+  reply-one_more s _ session = refl
+
   answer-one_more : (s : State A) (c : Command A) → answer (one_more s) c ≡ answer s c
   answer-one_more s (command.CreateTable name schema) = write_reply-one_more s (outcome (snapshot_of s) (command.CreateTable name schema))
   answer-one_more s (command.Commit batch) = write_reply-one_more s (outcome (snapshot_of s) (command.Commit batch))
   answer-one_more s (command.Apply blob policy quiet) = write_reply-one_more s (application s blob policy quiet)
+  answer-one_more s (command.Session number told) = λ i. session_answer (session_numbered s.sessions number) (λ session. reply-one_more s told session i)
   answer-one_more s _ = refl
 
   after_write-one_more : (s : State A) (quiet : List ℕ) (r : Result (Effect A) Why) → after_write (one_more s) quiet r ≡ one_more (after_write s quiet r)
@@ -112,23 +118,17 @@ module _ {A : Type 0} where
   after_session-one_more s number None left = refl
   after_session-one_more s number (Some session) left = refl
 
-  own_next-one_more : (s : State A) (c : Command A) → own_next (one_more s) c ≡ one_more (own_next s c)
-  own_next-one_more s (command.CreateTable name schema) = after_write-one_more s [] (outcome (snapshot_of s) (command.CreateTable name schema))
-  own_next-one_more s (command.Commit batch) = after_write-one_more s [] (outcome (snapshot_of s) (command.Commit batch))
-  own_next-one_more s (command.Apply blob policy quiet) = after_write-one_more s quiet (application s blob policy quiet)
-  own_next-one_more s (command.SaveAs name) = one_more-either (has_room_for s.saved name) (record (one_more s) { saved = put_entry bytes_cmp s.saved name s.main }) (one_more s)
-  own_next-one_more s (command.DropDatabase name) = one_more-either (is_some (get bytes_cmp s.saved name)) (record (one_more s) { saved = take_entry bytes_cmp s.saved name }) (one_more s)
-  own_next-one_more s command.NewSession =
+  next-one_more : (s : State A) (c : Command A) → next (one_more s) c ≡ one_more (next s c)
+  next-one_more s (command.CreateTable name schema) = after_write-one_more s [] (outcome (snapshot_of s) (command.CreateTable name schema))
+  next-one_more s (command.Commit batch) = after_write-one_more s [] (outcome (snapshot_of s) (command.Commit batch))
+  next-one_more s (command.Apply blob policy quiet) = after_write-one_more s quiet (application s blob policy quiet)
+  next-one_more s (command.SaveAs name) = one_more-either (has_room_for s.saved name) (record (one_more s) { saved = put_entry bytes_cmp s.saved name s.main }) (one_more s)
+  next-one_more s (command.DropDatabase name) = one_more-either (is_some (get bytes_cmp s.saved name)) (record (one_more s) { saved = take_entry bytes_cmp s.saved name }) (one_more s)
+  next-one_more s command.NewSession =
       one_more-either (nat_le 64 (length s.sessions)) (one_more s)
       (record (one_more s) { sessions_made = s.sessions_made + 1; sessions = s.sessions ++ (s.sessions_made + 1, new_session) ∷ [] })
-  own_next-one_more s _ = refl
-
-  next-one_more : (s : State A) (c : Command A) → next (one_more s) c ≡ one_more (next s c)
-  next-one_more s c =
-      elim (session_named c) as (λ named. next_by named (one_more s) c ≡ one_more (next_by named s c)) [
-        | None ↦ own_next-one_more s c
-        | Some number ↦ after_session-one_more s number (session_numbered s.sessions number) (session_left s.main s.saved c)
-      ]
+  next-one_more s (command.Session number told) = after_session-one_more s number (session_numbered s.sessions number) (session_left s.main s.saved told)
+  next-one_more s _ = refl
 
   one_more-same : (s : State A) (commands : List (Command A)) → replies_from (one_more s) commands ≡ replies_from s commands
   one_more-same s [] = refl

@@ -4,6 +4,7 @@ pub mod BytesLemmas
 pub mod CanCaptureLemmas
 pub mod ChangesetBytesLemmas
 pub mod CarriedLemmas
+pub mod ChangeLemmas
 pub mod CommitLemmas
 pub mod Crossing
 pub mod DiffLemmas
@@ -30,4 +31,5 @@ pub mod SessionStandLemmas
 pub mod SmallLemmas
 pub mod SoundLemmas
 pub mod StayLemmas
+pub mod ToldLemmas
 pub mod TouchedLemmas

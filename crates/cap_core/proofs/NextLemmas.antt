@@ -19,21 +19,25 @@ use Rattle.cap_session.specs.Sessions.{session_numbered, with_session}
 use Rattle.cap_core.specs.declared.event.Event.{Event}
 use Rattle.cap_core.specs.declared.command.Command.{Command}
 use Rattle.cap_core.specs.declared.command.Command.TheVariants as command
+use Rattle.cap_core.specs.declared.session_command.SessionCommand.{SessionCommand}
+use Rattle.cap_core.specs.declared.session_command.SessionCommand.TheVariants.{Change, Delete, Diff}
 use Rattle.cap_core.specs.declared.reply.Reply.{Reply}
 use Rattle.cap_core.specs.declared.reply.Reply.TheVariants.{Done, Refused, Session as SessionMade}
-use Rattle.cap_core.specs.Answer.{IsLegal, IsLegalPast, State, answer, answer_by, diffed, effect_unless, drop_reply, event_by, has_room_for, new_session_reply, own_answer, refusal, refused_quiet, reply_of, save_reply, session_answer, session_reply, state, state_after, version_reply, write_reply}
+use Rattle.cap_core.specs.Answer.{IsLegal, IsLegalPast, State, answer, diffed, effect_unless, drop_reply, event_by, has_room_for, new_session_reply, refusal, refused_quiet, reply_of, save_reply, session_answer, session_reply, state, state_after, version_reply, write_reply}
 use Rattle.cap_core.specs.Diff.{diff}
-use Rattle.cap_core.specs.Flags.{changes_shown, drops, is_dropped, is_quiet, live_sessions, makes_session, quiet_sessions, session_named, sessions_made}
+use Rattle.cap_core.specs.Flags.{changes_shown, command_to, deletes, is_dropped, is_quiet, live_sessions, makes_session, quiet_sessions, sessions_made}
 use Rattle.cap_core.specs.History.{Databases, effect_of, event_effect, is_write, main, saved, saved_after, snapshot, version}
 use Rattle.cap_core.specs.Outcome.{Effect, no_effect, outcome}
 use Rattle.cap_core.specs.Past.{Past, is_accepted}
 use Rattle.cap_core.specs.Session.{session_of, sessions}
-use Rattle.cap_core.specs.Transition.{after_drop, after_new_session, after_save, after_session, after_write, compared, next, next_by, one_more, own_next, session_left, with_left, with_sessions, written}
+use Rattle.cap_core.specs.Transition.{after_drop, after_new_session, after_save, after_session, after_write, compared, next, one_more, session_left, with_left, with_sessions, written}
 use Rattle.cap_core.proofs.HistoryLemmas.{map-map}
-use Rattle.cap_core.proofs.SessionLemmas.{IsElsewhere, and_false, cond-same, effect-refused, flags-apart, flags-elsewhere, none_some, record_commit-new, session-elsewhere, session-quiet, session-refused, shown-recorded, silent-apart, silent-elsewhere, speaks_to, to_session}
-use Rattle.cap_core.proofs.NumberLemmas.{apart_numbers, is_number, lookup-beyond, lookup-passing, made_before, named_number, numbered, passing, passing-push, same_number, same_some, with-passing, without-passing}
+use Rattle.cap_core.proofs.SessionLemmas.{and_false, effect-refused, effect-told, record_commit-new, session-apart, session-elsewhere, session-refused, shown-recorded}
+use Rattle.cap_core.proofs.NumberLemmas.{lookup-beyond, lookup-passing, made_before, numbered, passing, passing-push, with-passing, without-passing}
 use Rattle.cap_core.proofs.SessionStandLemmas.{with-same}
+use Rattle.cap_core.proofs.ChangeLemmas.{change-accepted}
 use Rattle.cap_core.proofs.FlagLemmas.{session-here}
+use Rattle.cap_core.proofs.ToldLemmas.{is_told, to_itself, to_others}
 
 accepted_version : (A : Type 0) (number : ℕ) (report : Option ReportState) → is_accepted {A = A} (version_reply number report) ≡ true
 accepted_version A number None = refl
@@ -51,18 +55,16 @@ module _ {A : Type 0} where
   numbered-none : (past : Past A) (number : ℕ) → sessions_made past < number → session_numbered (sessions past) number ≡ None
   numbered-none past number lt = lookup-beyond (is_live past) (session_of past) 1 (sessions_made past) number (omega arith)
 
-  unknown-refused : (s : State A) (number : ℕ) → session_numbered s.sessions number ≡ None → (c : Command A) → speaks_to number c ≡ true → is_accepted (answer s c) ≡ false
-  unknown-refused s number none c is =
-      ap (λ named. is_accepted (answer_by named s c)) (named_number number (session_named c) is)
-      ∙ ap (λ found. is_accepted (session_answer found (session_reply s c))) none
+  unknown-refused : (s : State A) (number : ℕ) → session_numbered s.sessions number ≡ None → (c : Command A) (told : SessionCommand A) → command_to number c ≡ Some told → is_accepted (answer s c) ≡ false
+  unknown-refused s number none c told is =
+      ap (λ c. is_accepted (answer s c)) (is_told number c told is) ∙ ap (λ found. is_accepted (session_answer found (session_reply s told))) none
 
-  unknown-stays : (s : State A) (number : ℕ) → session_numbered s.sessions number ≡ None → (c : Command A) → (is_accepted (answer s c) && drops number c) ≡ false
-  unknown-stays s number none (command.DropSession other) =
-      elim (nat_eq other number) as (λ b. nat_eq other number ≡ b → (is_accepted (answer s (command.DropSession other)) && b) ≡ false) [
-        | true ↦ λ is. ap (λ b. b && true) (unknown-refused s number none (command.DropSession other) is)
-        | false ↦ λ _. and_false _
+  unknown-stays : (s : State A) (number : ℕ) → session_numbered s.sessions number ≡ None → (c : Command A) → (is_accepted (answer s c) && deletes (command_to number c)) ≡ false
+  unknown-stays s number none c =
+      elim (command_to number c) as (λ o. command_to number c ≡ o → (is_accepted (answer s c) && deletes o) ≡ false) [
+        | Some told ↦ λ is. ap (λ b. b && deletes (Some told)) (unknown-refused s number none c told is)
+        | None ↦ λ _. and_false (is_accepted (answer s c))
       ] refl
-  unknown-stays s number none c = and_false (is_accepted (answer s c))
 
   not_made : (past : Past A) (number : ℕ) → IsLegalPast past → sessions_made past < number → (session_of past number ≡ new_session) × (is_dropped past number ≡ false)
   not_made [] number legal lt = (refl, refl)
@@ -71,11 +73,11 @@ module _ {A : Type 0} where
       let known = not_made past number legal.1 before in
       let none = numbered-none past number before in
       let changes = changes_shown number event.command (event_effect (snapshot past) event).changes in (
-        elim (speaks_to number event.command) as (λ b. speaks_to number event.command ≡ b → session_of (event ∷ past) number ≡ new_session) [
-          | true ↦ λ speaks. session-refused number event past (ap is_accepted legal.0 ∙ unknown-refused (state_after past) number none event.command speaks) ∙ known.0
-          | false ↦ λ apart. session-elsewhere number event past apart ∙ ap (record_commit changes) known.0 ∙ record_commit-new changes
+        elim (command_to number event.command) as (λ o. command_to number event.command ≡ o → session_of (event ∷ past) number ≡ new_session) [
+          | Some told ↦ λ is. session-refused number event past (ap is_accepted legal.0 ∙ unknown-refused (state_after past) number none event.command told is) ∙ known.0
+          | None ↦ λ apart. session-elsewhere number event past apart ∙ ap (record_commit changes) known.0 ∙ record_commit-new changes
         ] refl,
-        ap (λ reply. (is_accepted reply && drops number event.command) || is_dropped past number) legal.0
+        ap (λ reply. (is_accepted reply && deletes (command_to number event.command)) || is_dropped past number) legal.0
             ∙ ap₂ (λ a b. a || b) (unknown-stays (state_after past) number none event.command) known.1,
       )
 
@@ -90,12 +92,12 @@ module _ {A : Type 0} where
       (sym (ap (λ b. cond (b && makes_session event.command) (sessions_made past + 1) (sessions_made past)) refused))
       (sym (λ i.
       map (λ number. (number, session-refused number event past refused i))
-      (filter (λ number. not ((refused i && drops number event.command) || is_dropped past number)) (range_with_len 1 (cond (refused i && makes_session event.command) (sessions_made past + 1) (sessions_made past))))))
+      (filter (λ number. not ((refused i && deletes (command_to number event.command)) || is_dropped past number)) (range_with_len 1 (cond (refused i && makes_session event.command) (sessions_made past + 1) (sessions_made past))))))
 
-  sessions-still : (event : Event A) (past : Past A) → ((number : ℕ) → speaks_to number event.command ≡ false) → (event_effect (snapshot past) event).changes ≡ []
+  sessions-still : (event : Event A) (past : Past A) → ((number : ℕ) → command_to number event.command ≡ None) → (event_effect (snapshot past) event).changes ≡ []
       → sessions past ≡ numbered (session_of (event ∷ past)) (live_sessions past)
   sessions-still event past apart none =
-      sym (λ i. map (λ number. (number, session-quiet number event past (silent-elsewhere number event past (apart number)) (flags-elsewhere number event past (apart number)) none i)) (live_sessions past))
+      sym (λ i. map (λ number. (number, session-apart number event past (apart number) none i)) (live_sessions past))
 
   -- ---- commands that write
 
@@ -104,8 +106,7 @@ module _ {A : Type 0} where
     writes : is_write c ≡ true
     makes : makes_session c ≡ false
     saves : (tables : Tables A) (databases : Databases A) → saved_after c tables databases ≡ databases
-    drops : (number : ℕ) → drops number c ≡ false
-    speaks : (number : ℕ) → speaks_to number c ≡ false
+    apart : (number : ℕ) → command_to number c ≡ None
 
   next-written : (past : Past A) (event : Event A) (effect : Effect A) → IsWrite event.command → is_accepted event.reply ≡ true → outcome (snapshot past) event.command ≡ Ok effect
       → written (state_after past) effect.database effect.changes (quiet_sessions event.command) ≡ state_after (event ∷ past)
@@ -113,9 +114,9 @@ module _ {A : Type 0} where
       let effected : event_effect (snapshot past) event ≡ effect = λ i. cond (accepted i) (effect_of (main past) (is i)) (no_effect (main past)) in
       let recorded : (number : ℕ) → cond (is_quiet number event.command) (session_of past number) (record_commit effect.changes (session_of past number)) ≡ session_of (event ∷ past) number =
       λ number. shown-recorded effect.changes (is_quiet number event.command) (session_of past number)
-      ∙ sym (session-elsewhere number event past (write.speaks number) ∙ ap (λ e. record_commit (changes_shown number event.command e.changes) (session_of past number)) effected) in
+      ∙ sym (session-elsewhere number event past (write.apart number) ∙ ap (λ e. record_commit (changes_shown number event.command e.changes) (session_of past number)) effected) in
       let made : sessions_made (event ∷ past) ≡ sessions_made past = λ i. cond (accepted i && write.makes i) (sessions_made past + 1) (sessions_made past) in
-      let live : live_sessions (event ∷ past) ≡ live_sessions past = λ i. filter (λ number. not ((accepted i && write.drops number i) || is_dropped past number)) (range_with_len 1 (made i)) in
+      let live : live_sessions (event ∷ past) ≡ live_sessions past = λ i. filter (λ number. not ((accepted i && deletes (write.apart number i)) || is_dropped past number)) (range_with_len 1 (made i)) in
       same_state _ _ (add-one (length past))
       (sym (ap (λ e. e.database) effected))
       (sym (λ i. cond (accepted i && write.writes i) (version past + 1) (version past)))
@@ -140,7 +141,7 @@ module _ {A : Type 0} where
       let s = state_after past in
       let c : Command A = command.Apply blob policy quiet in
       elim (refused_quiet (sessions past) quiet) as (λ o. after_write s quiet (effect_unless o (outcome (snapshot past) c)) ≡ state_after (event_by by c (write_reply s (effect_unless o (outcome (snapshot past) c))) ∷ past)) [
-        | None ↦ next-write past by c (record { writes = refl; makes = refl; saves = λ _ _. refl; drops = λ _. refl; speaks = λ _. refl })
+        | None ↦ next-write past by c (record { writes = refl; makes = refl; saves = λ _ _. refl; apart = λ _. refl })
         | Some why ↦ after_refusal (event_by by c (Refused None why)) past refl
       ]
 
@@ -175,7 +176,7 @@ module _ {A : Type 0} where
             let same : 1 + n ≡ n + 1 = omega arith in
             let new = not_made past (1 + n) legal lt in
             let here : session_of (event ∷ past) (1 + n) ≡ new_session =
-            session-quiet (1 + n) event past (silent-elsewhere (1 + n) event past refl) (flags-elsewhere (1 + n) event past refl) refl ∙ new.0 in
+            session-apart (1 + n) event past refl refl ∙ new.0 in
             same_state _ _ (add-one (length past)) refl refl refl refl
             (sym (ap (λ k. numbered (session_of (event ∷ past)) (passing (is_live past) 1 k)) (add-one n)
             ∙ ap (numbered (session_of (event ∷ past))) (passing-push (is_live past) n ∙ ap (λ b. live_sessions past ++ cond (not b) ((1 + n) ∷ []) []) new.1)
@@ -185,109 +186,96 @@ module _ {A : Type 0} where
 
   -- ---- one session
 
-  quiet-changes : (past : Past A) (event : Event A) (number : ℕ) → session_named event.command ≡ Some number → (event_effect (snapshot past) event).changes ≡ []
-  quiet-changes past event number named =
-      let own = to_session event.command number named in
-      ap (λ r. (cond (is_accepted event.reply) (effect_of (main past) r) (no_effect (main past))).changes) (own.leaves (snapshot past))
-      ∙ ap (λ e. e.changes) (cond-same (is_accepted event.reply) (no_effect (main past)))
+  -- a command to one session leaves the others as they are
+  others-stay : (past : Past A) (event : Event A) (number : ℕ) (told : SessionCommand A) → event.command ≡ command.Session number told → (other : ℕ) → (other ≡ number → ⊥) → session_of (event ∷ past) other ≡ session_of past other
+  others-stay past event number told is other apart =
+      session-apart other event past (ap (command_to other) is ∙ to_others other number told apart) (ap (λ e. e.changes) (effect-told past event number told is))
 
-  -- a command to one session changes it alone
-  changed-sessions : (past : Past A) (event : Event A) (number : ℕ) (left : SessionState A) → session_named event.command ≡ Some number → left ≡ session_of (event ∷ past) number
-      → with_session (sessions past) number left ≡ numbered (session_of (event ∷ past)) (live_sessions past)
-  changed-sessions past event number left named is =
-      with-passing (is_live past) (session_of past) (session_of (event ∷ past)) 1 (sessions_made past) number left is
-      (λ j other.
-      let apart : speaks_to j event.command ≡ false = ap (is_number j) named ∙ apart_numbers number j other in
-      sym (session-quiet j event past (silent-elsewhere j event past apart) (flags-elsewhere j event past apart) (quiet-changes past event number named)))
+  changed-sessions : (past : Past A) (by number : ℕ) (told : SessionCommand A) (reply : Reply A) (left : SessionState A) → left ≡ session_of (event_by by (command.Session number told) reply ∷ past) number
+      → with_session (sessions past) number left ≡ numbered (session_of (event_by by (command.Session number told) reply ∷ past)) (live_sessions past)
+  changed-sessions past by number told reply left is =
+      let event : Event A = event_by by (command.Session number told) reply in
+      with-passing (is_live past) (session_of past) (session_of (event ∷ past)) 1 (sessions_made past) number left is (λ j other. sym (others-stay past event number told refl j other))
 
   -- what a command to a session leaves where it is there
-  abbrev Leaves : Past A → ℕ → ℕ → Command A → Type 0
-  Leaves past by number c =
+  abbrev Leaves : Past A → ℕ → ℕ → SessionCommand A → Type 0
+  Leaves past by number told =
       (session : SessionState A) → session_numbered (sessions past) number ≡ Some session
-      → with_sessions (state_after past) (with_left (sessions past) number (session_left (main past) (saved past) c session)) ≡ state_after (event_by by c (session_reply (state_after past) c session) ∷ past)
+      → with_sessions (state_after past) (with_left (sessions past) number (session_left (main past) (saved past) told session)) ≡ state_after (event_by by (command.Session number told) (session_reply (state_after past) told session) ∷ past)
 
-  next-told : (past : Past A) (by number : ℕ) (c : Command A) → Leaves past by number c
-      → after_session (state_after past) number (session_numbered (sessions past) number) (session_left (main past) (saved past) c)
-      ≡ state_after (event_by by c (session_answer (session_numbered (sessions past) number) (session_reply (state_after past) c)) ∷ past)
-  next-told past by number c there =
-      let s = state_after past in
-      elim (session_numbered (sessions past) number) as (λ o. session_numbered (sessions past) number ≡ o → after_session s number o (session_left s.main s.saved c) ≡ state_after (event_by by c (session_answer o (session_reply s c)) ∷ past)) [
-        | None ↦ λ is. after_refusal (event_by by c (refusal NoSession)) past refl
-        | Some session ↦ λ is. there session is
-      ] refl
-
-  leaves-drop : (past : Past A) (by number : ℕ) → Leaves past by number (command.DropSession number)
-  leaves-drop past by number session is =
-      let event : Event A = event_by by (command.DropSession number) Done in
+  leaves-deleted : (past : Past A) (by number : ℕ) → Leaves past by number Delete
+  leaves-deleted past by number session is =
+      let event : Event A = event_by by (command.Session number Delete) Done in
       same_state _ _ (add-one (length past)) refl refl refl refl
       (without-passing (is_live past) (is_live (event ∷ past)) (session_of past) (session_of (event ∷ past)) 1 (sessions_made past) number
-      (ap (λ b. not (b || is_dropped past number)) (same_number number))
-      (λ j apart. sym (ap (λ b. not (b || is_dropped past j)) (apart_numbers number j apart)))
-      (λ j.
-      let apart : IsElsewhere j past event.command = record { enabled = refl; indirect = refl; filter = refl; all = refl; attached = refl; compared = refl; restarts = refl } in
-      sym (session-quiet j event past (silent-apart j event past apart) (flags-apart j event past apart) refl)))
+      (ap (λ told. not (deletes told || is_dropped past number)) (to_itself number Delete))
+      (λ j apart. (sym (others-stay past event number Delete refl j apart), sym (ap (λ told. not (deletes told || is_dropped past j)) (to_others j number Delete apart)))))
 
   -- a session that is there and goes on
-  leaves-left : (past : Past A) (by number : ℕ) (c : Command A) → session_named c ≡ Some number → ((j : ℕ) → drops j c ≡ false) → (session left : SessionState A) → session_numbered (sessions past) number ≡ Some session
-      → session_left (main past) (saved past) c session ≡ Some left → (reply : Reply A) → is_accepted reply ≡ true
-      → with_sessions (state_after past) (with_session (sessions past) number left) ≡ state_after (event_by by c reply ∷ past)
-  leaves-left past by number c named stays session left is goes reply accepted =
-      let event : Event A = event_by by c reply in
-      let own = to_session c number named in
+  leaves-left : (past : Past A) (by number : ℕ) (told : SessionCommand A) → deletes (Some told) ≡ false → (session left : SessionState A) → session_numbered (sessions past) number ≡ Some session
+      → session_left (main past) (saved past) told session ≡ Some left → (reply : Reply A) → is_accepted reply ≡ true
+      → with_sessions (state_after past) (with_session (sessions past) number left) ≡ state_after (event_by by (command.Session number told) reply ∷ past)
+  leaves-left past by number told stays session left is goes reply accepted =
+      let event : Event A = event_by by (command.Session number told) reply in
       let found = lookup-passing (is_live past) (session_of past) 1 (sessions_made past) number session is in
-      let quiet : event_effect (snapshot past) event ≡ no_effect (main past) = λ i. cond (accepted i) (effect_of (main past) (own.leaves (snapshot past) i)) (no_effect (main past)) in
-      let made : sessions_made (event ∷ past) ≡ sessions_made past = λ i. cond (accepted i && own.makes i) (sessions_made past + 1) (sessions_made past) in
-      let live : live_sessions (event ∷ past) ≡ live_sessions past = λ i. filter (λ j. not ((accepted i && stays j i) || is_dropped past j)) (range_with_len 1 (made i)) in
+      let kept : (j : ℕ) → deletes (command_to j (command.Session number told)) ≡ false =
+      λ j. elim (nat_eq number j) as (λ b. deletes (cond b (Some told) None) ≡ false) [ true ↦ stays | false ↦ refl ] in
+      let made : sessions_made (event ∷ past) ≡ sessions_made past = λ i. cond (accepted i && false) (sessions_made past + 1) (sessions_made past) in
+      let live : live_sessions (event ∷ past) ≡ live_sessions past = λ i. filter (λ j. not ((accepted i && kept j i) || is_dropped past j)) (range_with_len 1 (made i)) in
       let changed : left ≡ session_of (event ∷ past) number =
-      ap (λ o. unwrap_or o (session_of past number)) (sym goes ∙ ap (session_left (main past) (saved past) c) found.1) ∙ sym (session-here past by number c reply accepted named) in
+      ap (λ o. unwrap_or o (session_of past number)) (sym goes ∙ ap (session_left (main past) (saved past) told) found.1) ∙ sym (session-here past by number told reply accepted) in
       same_state _ _ (add-one (length past))
-      (sym (ap (λ e. e.database) quiet))
-      (sym (λ i. cond (accepted i && own.writes i) (version past + 1) (version past)))
-      (sym (λ i. cond (accepted i) (own.saves (main past) (saved past) i) (saved past)))
+      (sym (λ i. (cond (accepted i) (no_effect (main past)) (no_effect (main past))).database))
+      (sym (λ i. cond (accepted i && false) (version past + 1) (version past)))
+      (sym (λ i. cond (accepted i) (saved past) (saved past)))
       (sym made)
-      (changed-sessions past event number left named changed ∙ ap (numbered (session_of (event ∷ past))) (sym live))
+      (changed-sessions past by number told reply left changed ∙ ap (numbered (session_of (event ∷ past))) (sym live))
 
   -- a command that a session refuses leaves it as it is
-  pub refused-left : (s : State A) (c : Command A) (session : SessionState A) → is_accepted (session_reply s c session) ≡ false → session_left s.main s.saved c session ≡ Some session
-  refused-left s (command.Diff number from name) session is = inner (diff s.main s.saved from name) is
+  pub refused-left : (s : State A) (told : SessionCommand A) (session : SessionState A) → is_accepted (session_reply s told session) ≡ false → session_left s.main s.saved told session ≡ Some session
+  refused-left s (Change change) session is = let clash : true ≡ false = sym (change-accepted change s.version s.main session) ∙ is in cc
+  refused-left s (Diff from name) session is = inner (diff s.main s.saved from name) is
     where
       inner : (r : Result (Option (List (Difference A))) Refusal) → is_accepted (diffed {A = A} r) ≡ false → Some (compared name r session) ≡ Some session
       inner (Ok found) none = cc
       inner (Err why) none = refl
   refused-left s _ session is = cc
 
-  leaves : (past : Past A) (by number : ℕ) (c : Command A) → session_named c ≡ Some number → Leaves past by number c
-  leaves past by number (command.DropSession other) named = subst (λ k. Leaves past by number (command.DropSession k)) (sym (same_some other number named)) (leaves-drop past by number)
-  leaves past by number c named = λ session is.
+  leaves : (past : Past A) (by number : ℕ) (told : SessionCommand A) → Leaves past by number told
+  leaves past by number Delete = leaves-deleted past by number
+  leaves past by number told = λ session is.
       let s = state_after past in
-      let reply = session_reply s c session in
-      elim (is_accepted reply) as (λ b. is_accepted reply ≡ b → with_sessions s (with_left (sessions past) number (session_left (main past) (saved past) c session)) ≡ state_after (event_by by c reply ∷ past)) [
-        | true ↦ λ accepted. leaves-left past by number c named (λ _. refl) session (unwrap_or (session_left (main past) (saved past) c session) session) is refl reply accepted
+      let reply = session_reply s told session in
+      elim (is_accepted reply) as (λ b. is_accepted reply ≡ b → with_sessions s (with_left (sessions past) number (session_left (main past) (saved past) told session)) ≡ state_after (event_by by (command.Session number told) reply ∷ past)) [
+        | true ↦ λ accepted. leaves-left past by number told refl session (unwrap_or (session_left (main past) (saved past) told session) session) is refl reply accepted
         | false ↦ λ refused.
-            ap (λ left. with_sessions s (with_left (sessions past) number left)) (refused-left s c session refused)
-            ∙ ap (with_sessions s) (with-same number (sessions past) session is) ∙ after_refusal (event_by by c reply) past refused
+            ap (λ left. with_sessions s (with_left (sessions past) number left)) (refused-left s told session refused)
+            ∙ ap (with_sessions s) (with-same number (sessions past) session is) ∙ after_refusal (event_by by (command.Session number told) reply) past refused
+      ] refl
+
+  next-told : (past : Past A) (by number : ℕ) (told : SessionCommand A)
+      → next (state_after past) (command.Session number told) ≡ state_after (event_by by (command.Session number told) (answer (state_after past) (command.Session number told)) ∷ past)
+  next-told past by number told =
+      let s = state_after past in
+      let c : Command A = command.Session number told in
+      elim (session_numbered (sessions past) number) as (λ o. session_numbered (sessions past) number ≡ o → after_session s number o (session_left s.main s.saved told) ≡ state_after (event_by by c (session_answer o (session_reply s told)) ∷ past)) [
+        | None ↦ λ is. after_refusal (event_by by c (refusal NoSession)) past refl
+        | Some session ↦ λ is. leaves past by number told session is
       ] refl
 
   -- ---- any command
 
-  -- a command that is to no session: one that is not named only asks
-  next-own : (past : Past A) (by : ℕ) (c : Command A) → session_named c ≡ None → IsLegalPast past → own_next (state_after past) c ≡ state_after (event_by by c (own_answer (state_after past) c) ∷ past)
-  next-own past by (command.CreateTable name schema) none legal = next-write past by (command.CreateTable name schema) (record { writes = refl; makes = refl; saves = λ _ _. refl; drops = λ _. refl; speaks = λ _. refl })
-  next-own past by (command.Commit batch) none legal = next-write past by (command.Commit batch) (record { writes = refl; makes = refl; saves = λ _ _. refl; drops = λ _. refl; speaks = λ _. refl })
-  next-own past by (command.Apply blob policy quiet) none legal = next-apply past by blob policy quiet
-  next-own past by (command.SaveAs name) none legal = next-save past by name
-  next-own past by (command.DropDatabase name) none legal = next-drop past by name
-  next-own past by command.NewSession none legal = next-new_session past by legal
-  next-own past by (command.DropSession number) none legal = absurd (none_some number (sym none))
-  next-own past by c none legal =
-      same_state _ _ (add-one (length past)) refl refl refl refl (sessions-still (event_by by c (own_answer (state_after past) c)) past (λ j. ap (is_number j) none) refl)
-
+  -- one that is not named only asks
   pub next-is : (past : Past A) (by : ℕ) (c : Command A) → IsLegalPast past → next (state_after past) c ≡ state_after (event_by by c (answer (state_after past) c) ∷ past)
+  next-is past by (command.CreateTable name schema) legal = next-write past by (command.CreateTable name schema) (record { writes = refl; makes = refl; saves = λ _ _. refl; apart = λ _. refl })
+  next-is past by (command.Commit batch) legal = next-write past by (command.Commit batch) (record { writes = refl; makes = refl; saves = λ _ _. refl; apart = λ _. refl })
+  next-is past by (command.Apply blob policy quiet) legal = next-apply past by blob policy quiet
+  next-is past by (command.SaveAs name) legal = next-save past by name
+  next-is past by (command.DropDatabase name) legal = next-drop past by name
+  next-is past by command.NewSession legal = next-new_session past by legal
+  next-is past by (command.Session number told) legal = next-told past by number told
   next-is past by c legal =
-      elim (session_named c) as (λ named. session_named c ≡ named → next_by named (state_after past) c ≡ state_after (event_by by c (answer_by named (state_after past) c) ∷ past)) [
-        | None ↦ λ none. next-own past by c none legal
-        | Some number ↦ λ named. next-told past by number c (leaves past by number c named)
-      ] refl
+      same_state _ _ (add-one (length past)) refl refl refl refl (sessions-still (event_by by c (answer (state_after past) c)) past (λ _. refl) refl)
 
   -- ---- histories, the first event first
 

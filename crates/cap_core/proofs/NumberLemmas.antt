@@ -1,7 +1,7 @@
 -- Sessions under their numbers, among the numbers that were given.
 use Rattle.std.proofs.lemmas.List.Elements.{filter-append}
 use Rattle.std.proofs.lemmas.Bool.Decides.{nat_tests}
-use Rattle.std.proofs.Common.{◌≡◌, ℕ, suc, zero, ◌+◌, ◌<◌, ◌≤◌, Bool, true, false, cond, Option, Some, None, List, [], ◌∷◌, ◌++◌, map, refl, sym, ap, ap₂, ◌∙◌, arith, nat_eq, add-zero}
+use Rattle.std.proofs.Common.{◌≡◌, ℕ, suc, zero, ◌+◌, ◌<◌, ◌≤◌, Bool, true, false, cond, Some, None, List, [], ◌∷◌, ◌++◌, map, refl, sym, ap, ap₂, ◌∙◌, arith, nat_eq, add-zero}
 use Rattle.std.specs.Prelude.{filter}
 use Rattle.std.specs.List.{range_with_len}
 use Rattle.std.specs.Map.{lookup}
@@ -25,15 +25,6 @@ equal_numbers m n is = grind (arith, nat_tests)
 
 pub unequal_numbers : (m n : ℕ) → nat_eq m n ≡ false → m ≡ n → ⊥
 unequal_numbers m n is e = let clash : true ≡ false = sym (same_number n) ∙ ap (λ k. nat_eq k n) (sym e) ∙ is in cc
-
--- the number that is named is this one
-abbrev pub is_number : ℕ → Option ℕ → Bool
-is_number n None = false
-is_number n (Some m) = nat_eq m n
-
-pub named_number : (n : ℕ) (named : Option ℕ) → is_number n named ≡ true → named ≡ Some n
-named_number n None is = cc
-named_number n (Some m) is = ap Some (equal_numbers m n is)
 
 pub same_some : (m n : ℕ) → Some m ≡ Some n → m ≡ n
 same_some m n is = cc
@@ -103,27 +94,27 @@ module _ {A : Type 0} (p : ℕ → Bool) where
         | false ↦ with-passing f g (a + 1) n number new is others
       ]
 
-  pub without-passing : (q : ℕ → Bool) (f g : ℕ → SessionState A) (a n number : ℕ) → q number ≡ false → ((j : ℕ) → (j ≡ number → ⊥) → p j ≡ q j) → ((j : ℕ) → f j ≡ g j)
+  pub without-passing : (q : ℕ → Bool) (f g : ℕ → SessionState A) (a n number : ℕ) → q number ≡ false → ((j : ℕ) → (j ≡ number → ⊥) → (f j ≡ g j) × (p j ≡ q j))
       → without_session (numbered f (passing p a n)) number ≡ numbered g (filter q (range_with_len a n))
-  without-passing q f g a zero number gone others same = refl
-  without-passing q f g a (suc n) number gone others same =
+  without-passing q f g a zero number gone others = refl
+  without-passing q f g a (suc n) number gone others =
       let rest = passing p (a + 1) n in
       let left = filter q (range_with_len (a + 1) n) in
       elim (nat_eq number a) as (λ b. nat_eq number a ≡ b → without_session (numbered f (cond (p a) (a ∷ rest) rest)) number ≡ numbered g (cond (q a) (a ∷ left) left)) [
         | true ↦ λ t.
             let here : number ≡ a = equal_numbers number a t in
-            let later : numbered f rest ≡ numbered g left = passing-same p f g q (a + 1) n (λ j le. (same j, others j (λ e. omega arith))) in
+            let later : numbered f rest ≡ numbered g left = passing-same p f g q (a + 1) n (λ j le. others j (λ e. omega arith)) in
             elim (p a) as (λ b. without_session (numbered f (cond b (a ∷ rest) rest)) number ≡ numbered g left) [
               | true ↦ ap (λ b. cond b (numbered f rest) ((a, f a) ∷ without_session (numbered f rest) number)) t ∙ later
-              | false ↦ without-passing q f g (a + 1) n number gone others same
+              | false ↦ without-passing q f g (a + 1) n number gone others
             ]
             ∙ ap (λ b. numbered g (cond b (a ∷ left) left)) (sym (ap q (sym here) ∙ gone))
         | false ↦ λ t.
-            let later = without-passing q f g (a + 1) n number gone others same in
-            let here : p a ≡ q a = others a (λ e. unequal_numbers number a t (sym e)) in
-            ap (λ c. without_session (numbered f (cond c (a ∷ rest) rest)) number) here
+            let later = without-passing q f g (a + 1) n number gone others in
+            let here : (f a ≡ g a) × (p a ≡ q a) = others a (λ e. unequal_numbers number a t (sym e)) in
+            ap (λ c. without_session (numbered f (cond c (a ∷ rest) rest)) number) here.1
             ∙ elim (q a) as (λ c. without_session (numbered f (cond c (a ∷ rest) rest)) number ≡ numbered g (cond c (a ∷ left) left)) [
-              | true ↦ ap (λ b. cond b (numbered f rest) ((a, f a) ∷ without_session (numbered f rest) number)) t ∙ ap₂ (λ x xs. (a, x) ∷ xs) (same a) later
+              | true ↦ ap (λ b. cond b (numbered f rest) ((a, f a) ∷ without_session (numbered f rest) number)) t ∙ ap₂ (λ x xs. (a, x) ∷ xs) here.0 later
               | false ↦ later
             ]
       ] refl

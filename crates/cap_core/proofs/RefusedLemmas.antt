@@ -13,7 +13,7 @@ use Rattle.cap_apply.specs.Report.{ReportState}
 use Rattle.cap_compare.specs.declared.difference.Difference.{Difference}
 use Rattle.cap_table.specs.Table.{TableState}
 use Rattle.cap_database.specs.Operation.{and_then, changes, in_place, refused_in, refused_step, run, step, stepped}
-use Rattle.cap_database.specs.Tables.{Tables, created, create, refused_create, table_of}
+use Rattle.cap_database.specs.Tables.{Tables, table_of}
 use Rattle.cap_database.specs.declared.op.Op.{Op}
 use Rattle.cap_database.proofs.StepLemmas.{refused_act_is}
 use Rattle.cap_session.specs.Session.{SessionState, new_session}
@@ -23,12 +23,11 @@ use Rattle.cap_core.specs.declared.command.Command.{Command}
 use Rattle.cap_core.specs.declared.command.Command.TheVariants as command
 use Rattle.cap_core.specs.declared.reply.Reply.{Reply}
 use Rattle.cap_core.specs.declared.reply.Reply.TheVariants.{Done, Refused, Session}
-use Rattle.cap_core.specs.Answer.{State, answer, application, answer_by, diffed, effect_unless, has_room_for, own_answer, refusal, refused_quiet, session_answer, session_reply, snapshot_of, version_reply, write_reply}
+use Rattle.cap_core.specs.Answer.{State, answer, application, diffed, effect_unless, has_room_for, refusal, refused_quiet, session_answer, session_reply, snapshot_of, version_reply, write_reply}
 use Rattle.cap_core.specs.Code.CommandOutcome.{Reports}
-use Rattle.cap_core.specs.Flags.{session_named}
-use Rattle.cap_core.specs.Outcome.{Effect, Refused as Why, commit_unless, created as effect_created, made, outcome}
+use Rattle.cap_core.specs.Outcome.{Effect, Refused as Why, commit_unless, made, outcome}
 use Rattle.cap_core.specs.RefusedFirst.{RepliesFirst, no_session, refusal_in, refused_batch, refused_first, refused_op, whole}
-use Rattle.cap_core.specs.Transition.{after_session, after_write, next, next_by, one_more, own_next, session_left, with_left, with_sessions}
+use Rattle.cap_core.specs.Transition.{after_session, after_write, next, one_more, session_left, with_left, with_sessions}
 use Rattle.cap_core.specs.Past.{is_accepted}
 use Rattle.cap_core.proofs.NextLemmas.{refused-left}
 use Rattle.cap_core.proofs.SessionStandLemmas.{with-same}
@@ -108,30 +107,27 @@ module _ {A : Type 0} where
       inner None known is = refl
       inner (Some session) known is = there session known is
 
-  -- a command that is to no session
-  own-refused : (s : State A) (c : Command A) (why : Why) → refusal_in (own_answer s c) ≡ Some why → own_next s c ≡ one_more s
-  own-refused s (command.CreateTable name schema) why is = write-next s [] (outcome (snapshot_of s) (command.CreateTable name schema)) why is
-  own-refused s (command.Commit batch) why is = write-next s [] (outcome (snapshot_of s) (command.Commit batch)) why is
-  own-refused s (command.Apply blob policy quiet) why is = write-next s quiet (application s blob policy quiet) why is
-  own-refused s (command.SaveAs name) why is =
+  refused-next : (s : State A) (c : Command A) (why : Why) → refusal_in (answer s c) ≡ Some why → next s c ≡ one_more s
+  refused-next s (command.CreateTable name schema) why is = write-next s [] (outcome (snapshot_of s) (command.CreateTable name schema)) why is
+  refused-next s (command.Commit batch) why is = write-next s [] (outcome (snapshot_of s) (command.Commit batch)) why is
+  refused-next s (command.Apply blob policy quiet) why is = write-next s quiet (application s blob policy quiet) why is
+  refused-next s (command.SaveAs name) why is =
       either-next (has_room_for s.saved name) Done (refusal TooMany) (record (one_more s) { saved = put_entry bytes_cmp s.saved name s.main }) (one_more s) why refl is
-  own-refused s (command.DropDatabase name) why is =
+  refused-next s (command.DropDatabase name) why is =
       either-next (is_some (get bytes_cmp s.saved name)) Done (refusal NoDatabase) (record (one_more s) { saved = take_entry bytes_cmp s.saved name }) (one_more s) why refl is
-  own-refused s command.NewSession why is =
+  refused-next s command.NewSession why is =
       room-next (nat_le 64 (length s.sessions)) (refusal TooMany) (Session (s.sessions_made + 1)) (one_more s)
       (record (one_more s) { sessions_made = s.sessions_made + 1; sessions = s.sessions ++ (s.sessions_made + 1, new_session) ∷ [] }) why refl is
-  own-refused s _ why is = refl
+  refused-next s (command.Session number told) why is =
+      session-next s number (session_reply s told) (session_left s.main s.saved told) why
+      (λ session there refused.
+      ap (λ left. with_sessions s (with_left s.sessions number left)) (refused-left s told session (ap is_accepted (refused-is (session_reply s told session) why refused)))
+      ∙ ap (with_sessions s) (with-same number s.sessions session there))
+      is
+  refused-next s _ why is = refl
 
   pub first-next : (s : State A) (c : Command A) (why : Why) → refused_first s c ≡ Some why → next s c ≡ one_more s
-  first-next s c why is =
-      elim (session_named c) as (λ named. refusal_in (answer_by named s c) ≡ Some why → next_by named s c ≡ one_more s) [
-        | None ↦ λ told. own-refused s c why told
-        | Some number ↦ λ told. session-next s number (session_reply s c) (session_left s.main s.saved c) why
-            (λ session there refused.
-            ap (λ left. with_sessions s (with_left s.sessions number left)) (refused-left s c session (ap is_accepted (refused-is (session_reply s c session) why refused)))
-            ∙ ap (with_sessions s) (with-same number s.sessions session there))
-            told
-      ] (ap refusal_in (first-answer s c why is))
+  first-next s c why is = refused-next s c why (ap refusal_in (first-answer s c why is))
 
   -- ---- what a step answers
 
@@ -142,23 +138,17 @@ module _ {A : Type 0} where
       inner None refuses = tt
       inner (Some why) refuses = is ∙ first-answer s c why refuses
 
-  -- ---- what is known of each command
+  -- ---- what is known of a command to a session
 
-  pub create-known : (s : State A) (name : List ℕ) (schema : List Bool) → whole (refused_create s.main name) ≡ refusal_in (write_reply s (effect_created (create s.main name schema)))
-  create-known s name schema = inner (refused_create s.main name)
-    where
-      inner : (o : Option Refusal) → whole o ≡ refusal_in (write_reply s (effect_created (created o s.main name schema)))
-      inner None = refl
-      inner (Some why) = refl
+  pub diff-known : (r : Result (Option (List (Difference A))) Refusal) → whole (result_err r) ≡ refusal_in {A = A} (diffed r)
+  diff-known (Ok found) = refl
+  diff-known (Err why) = refl
 
-  pub session-known : (s : State A) (found : Option (SessionState A)) (reply : SessionState A → Reply A) → ((session : SessionState A) → refusal_in (reply session) ≡ None) → whole (no_session found) ≡ refusal_in (session_answer found reply)
-  session-known s None reply none = refl
-  session-known s (Some session) reply none = sym (none session)
-
-  pub diff-known : (found : Option (SessionState A)) (r : Result (Option (List (Difference A))) Refusal) → no_session found ≡ None → whole (result_err r) ≡ refusal_in (session_answer found (λ session. diffed r))
-  diff-known None r none = cc
-  diff-known (Some session) (Ok found) none = refl
-  diff-known (Some session) (Err why) none = refl
+  -- the session is live
+  pub live-known : (found : Option (SessionState A)) (reply : SessionState A → Reply A) (known : Option Why) → no_session found ≡ None
+      → ((session : SessionState A) → known ≡ refusal_in (reply session)) → known ≡ refusal_in (session_answer found reply)
+  live-known None reply known none each = cc
+  live-known (Some session) reply known none each = each session
 
 module _ {A S E : Type 0} (gives : S → Reply A → Result Unit E → S → Type 0) where
   -- a command that is refused so has that reply, and leaves that

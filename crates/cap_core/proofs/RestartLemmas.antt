@@ -33,7 +33,7 @@ use Rattle.cap_session.specs.Session.{AttachedTables, record_of, records_of as a
 use Rattle.cap_core.specs.declared.command.Command.{Command}
 use Rattle.cap_core.specs.declared.command.Command.TheVariants as command
 use Rattle.cap_core.specs.declared.event.Event.{Event}
-use Rattle.cap_core.specs.Flags.{is_enabled, is_indirect, is_quiet}
+use Rattle.cap_core.specs.Flags.{command_to, is_enabled, is_indirect, is_quiet}
 use Rattle.cap_core.specs.History.{event_effect, is_write, main, snapshot}
 use Rattle.cap_core.specs.Outcome.{Effect, no_effect}
 use Rattle.cap_database.specs.Carried.{is_of_row}
@@ -49,7 +49,7 @@ use Rattle.cap_core.proofs.AppliedCaptureLemmas.{capture_fits, changes_apply, re
 use Rattle.cap_core.proofs.LawLemmas.{first_image}
 use Rattle.cap_core.proofs.StayLemmas.{event-keeps, row_stays}
 use Rattle.cap_core.proofs.HistoryLemmas.{is_among, is_among-first_of_each, none_of, table_names, table_names-append, touches-none, touches_of-append}
-use Rattle.cap_core.proofs.SessionLemmas.{IsSilent, and_false, kept, shown-none, silent-elsewhere, speaks_to, told-on}
+use Rattle.cap_core.proofs.SessionLemmas.{IsSilent, and_false, kept, shown-none, silent-elsewhere, told-on}
 use Rattle.cap_core.proofs.SmallLemmas.{second}
 use Rattle.cap_core.proofs.TouchedLemmas.{fields_same, tied, told}
 
@@ -117,7 +117,7 @@ module _ {A : Type 0} where
 
   -- ---- the touches by an event that is no diff of the session
 
-  writes-apart : (session : ℕ) (c : Command A) → is_write c ≡ true → speaks_to session c ≡ false
+  writes-apart : (session : ℕ) (c : Command A) → is_write c ≡ true → command_to session c ≡ None
   writes-apart session (command.CreateTable name schema) is = refl
   writes-apart session (command.Commit batch) is = refl
   writes-apart session (command.Apply blob policy quiet) is = refl
@@ -231,12 +231,9 @@ module _ {A : Type 0} where
   same_schema None = refl
   same_schema (Some table) = refl
 
-  restarts-write : (session : ℕ) (c : Command A) → restarts session c ≡ true → is_write c ≡ false
-  restarts-write session (command.Restart number) is = refl
-  restarts-write session (command.CreateTable name schema) is = cc
-  restarts-write session (command.Commit batch) is = cc
-  restarts-write session (command.Apply blob policy quiet) is = cc
-  restarts-write session _ is = refl
+  restarts-write : (session : ℕ) (c : Command A) → restarts (command_to session c) ≡ true → is_write c ≡ false
+  restarts-write session (command.Session number told) is = refl
+  restarts-write session _ is = cc
 
   sooner-none : (first later : Option (Option (Fields A))) → sooner first later ≡ None → (first ≡ None) × (later ≡ None)
   sooner-none None later is = (refl, is)
@@ -265,13 +262,13 @@ module _ {A : Type 0} where
     over-more : (event : Event A) (later : List (Event A)) (name : List ℕ) (key : Fields A) → Over (event ∷ later) name key ≡ sooner (Over later name key) (Here event later name key)
     over-more event later name key = first-append (touches_over session later start) (event_touches session event (later ++ start)) name key
 
-    since-more : (event : Event A) (later : List (Event A)) (name : List ℕ) (key : Fields A) → (is_accepted event.reply && restarts session event.command) ≡ false
+    since-more : (event : Event A) (later : List (Event A)) (name : List ℕ) (key : Fields A) → (is_accepted event.reply && restarts (command_to session event.command)) ≡ false
         → Since (event ∷ later) name key ≡ sooner (Since later name key) (Here event later name key)
     since-more event later name key kept_on =
         ap (λ b. first_touched (cond b [] (touches session (later ++ start) ++ event_touches session event (later ++ start))) name key) kept_on
         ∙ first-append (touches session (later ++ start)) (event_touches session event (later ++ start)) name key
 
-    since-restart : (event : Event A) (later : List (Event A)) (name : List ℕ) (key : Fields A) → (is_accepted event.reply && restarts session event.command) ≡ true → Since (event ∷ later) name key ≡ None
+    since-restart : (event : Event A) (later : List (Event A)) (name : List ℕ) (key : Fields A) → (is_accepted event.reply && restarts (command_to session event.command)) ≡ true → Since (event ∷ later) name key ≡ None
     since-restart event later name key restarted = ap (λ b. first_touched (cond b [] (touches session (later ++ start) ++ event_touches session event (later ++ start))) name key) restarted
 
     -- what was not touched over all was not touched since the last restart
@@ -279,7 +276,7 @@ module _ {A : Type 0} where
     not-since [] name key none = ap (λ ts. first_touched ts name key) fresh
     not-since (event ∷ later) name key none =
         let parts = sooner-none (Over later name key) (Here event later name key) (sym (over-more event later name key) ∙ none) in
-        elim (is_accepted event.reply && restarts session event.command) as (λ b. (is_accepted event.reply && restarts session event.command) ≡ b → Since (event ∷ later) name key ≡ None) [
+        elim (is_accepted event.reply && restarts (command_to session event.command)) as (λ b. (is_accepted event.reply && restarts (command_to session event.command)) ≡ b → Since (event ∷ later) name key ≡ None) [
           | true ↦ λ restarted. since-restart event later name key restarted
           | false ↦ λ kept_on. since-more event later name key kept_on ∙ (λ i. sooner (not-since later name key parts.0 i) (parts.1 i))
         ] refl
@@ -362,7 +359,7 @@ module _ {A : Type 0} where
 
     module _ (event : Event A) (later : List (Event A)) (steady : IsSteady session (event ∷ later) start) (holds : HoldsFirst database session (event ∷ later) start) (before : Left later) where
       -- an event that is no restart of the session
-      other-left : (is_accepted event.reply && restarts session event.command) ≡ false → Left (event ∷ later)
+      other-left : (is_accepted event.reply && restarts (command_to session event.command)) ≡ false → Left (event ∷ later)
       other-left kept_on = record {
         left = before.left;
         applied = subst (λ lists. AppliesEach blob_of policy lists database before.left) (sym (ap (λ b. captures session later start ++ cond b (told ∷ []) []) kept_on ∙ append-nil (captures session later start))) before.applied;
@@ -397,7 +394,7 @@ module _ {A : Type 0} where
           told = session_changes (main (later ++ start)) (session_of (later ++ start) session)
 
       -- a restart, whose capture is applied
-      module _ (restarted : (is_accepted event.reply && restarts session event.command) ≡ true) (main_rise : AreRising (main (later ++ start))) where
+      module _ (restarted : (is_accepted event.reply && restarts (command_to session event.command)) ≡ true) (main_rise : AreRising (main (later ++ start))) where
         abbrev list : List (TableChanges A)
         list = session_changes (main (later ++ start)) (session_of (later ++ start) session)
 
@@ -407,7 +404,7 @@ module _ {A : Type 0} where
         quiet : event_effect (snapshot (later ++ start)) event ≡ no_effect (main (later ++ start))
         quiet =
             quiet-effect (later ++ start) event
-            (ap (λ b. is_accepted event.reply && b) (restarts-write session event.command (second (is_accepted event.reply) (restarts session event.command) restarted)) ∙ and_false (is_accepted event.reply))
+            (ap (λ b. is_accepted event.reply && b) (restarts-write session event.command (second (is_accepted event.reply) (restarts (command_to session event.command)) restarted)) ∙ and_false (is_accepted event.reply))
 
         nothing-here : (name : List ℕ) (key : Fields A) → Here event later name key ≡ None
         nothing-here name key =
@@ -479,14 +476,14 @@ module _ {A : Type 0} where
     left-after : (later : List (Event A)) → IsSteady session later start → HoldsFirst database session later start → BlobsFitPast (later ++ start) → Left later
     left-after [] steady holds fits = start-left
     left-after (event ∷ later) steady holds fits =
-        elim (is_accepted event.reply && restarts session event.command) as (λ b. (is_accepted event.reply && restarts session event.command) ≡ b → Left (event ∷ later)) [
+        elim (is_accepted event.reply && restarts (command_to session event.command)) as (λ b. (is_accepted event.reply && restarts (command_to session event.command)) ≡ b → Left (event ∷ later)) [
           | true ↦ λ restarted.
               restart-left event later steady holds (left-after later steady.2 (holds-before event later steady holds) fits.1) restarted (rises (later ++ start) fits.1)
           | false ↦ λ kept_on. other-left event later steady holds (left-after later steady.2 (holds-before event later steady holds) fits.1) kept_on
         ] refl
 
     -- where the last of the events is a restart
-    pub in_a_row : (event : Event A) (later : List (Event A)) → (is_accepted event.reply && restarts session event.command) ≡ true → IsSteady session (event ∷ later) start
+    pub in_a_row : (event : Event A) (later : List (Event A)) → (is_accepted event.reply && restarts (command_to session event.command)) ≡ true → IsSteady session (event ∷ later) start
         → HoldsFirst database session (event ∷ later) start → BlobsFitPast (event ∷ later ++ start)
         → (left : Tables A) × AppliesEach blob_of policy (captures session (event ∷ later) start) database left × HasRowsNow left session (event ∷ later) start
     in_a_row event later restarted steady holds fits =

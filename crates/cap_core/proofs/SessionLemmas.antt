@@ -1,13 +1,12 @@
 -- What one more event makes of a session.
 use Rattle.std.proofs.lemmas.List.{append-nil}
 use Rattle.std.proofs.lemmas.List.Folds.{list_any-append}
-use Rattle.std.proofs.Common.{◌≡◌, ℕ, Bool, true, false, cond, Some, None, Ok, List, [], ◌∷◌, ◌++◌, ◌&&◌, ◌||◌, map, length, refl, sym, ap, ◌∙◌}
+use Rattle.std.proofs.Common.{◌≡◌, ℕ, Bool, true, false, cond, None, List, [], ◌∷◌, ◌++◌, ◌&&◌, ◌||◌, map, length, refl, sym, ap, ap₂, ◌∙◌}
 use Rattle.std.specs.Prelude.{filter, fold}
 use Rattle.std.specs.List.{enumerate_from, filter_map}
 use Rattle.std.specs.Option.{unwrap_or}
 use Rattle.cap_value.specs.Bytes.{bytes_eq}
 use Rattle.cap_database.specs.Snapshot.{SnapshotState}
-use Rattle.cap_database.specs.Tables.{Tables}
 use Rattle.cap_database.specs.declared.change.Change.{Change}
 use Rattle.cap_session.specs.declared.rule.AutomaticRule.TheVariants.{Nothing}
 use Rattle.cap_session.specs.Recording.{attach_by, attach_by_rule, record_commit, touch_tables, touches_of as carried_by}
@@ -16,16 +15,15 @@ use Rattle.cap_session.specs.Records.{Records, Touch as RowTouch, with_touches}
 use Rattle.cap_session.specs.Session.{AttachedTables, SessionState, new_session}
 use Rattle.cap_core.specs.declared.command.Command.{Command}
 use Rattle.cap_core.specs.declared.command.Command.TheVariants as command
+use Rattle.cap_core.specs.declared.session_command.SessionCommand.{SessionCommand}
 use Rattle.cap_core.specs.declared.event.Event.{Event}
-use Rattle.cap_core.specs.Diff.{diff}
-use Rattle.cap_core.specs.Flags.{asks_enabled, asks_for_all, asks_indirect, changes_shown, filter_set, is_enabled, is_indirect, is_quiet, last_filter, later, makes_session, rule as rule_of, rule_by, session_named, wants_all}
-use Rattle.cap_core.specs.History.{Databases, effect_of, event_effect, is_write, main, saved, saved_after, snapshot}
+use Rattle.cap_core.specs.Flags.{asks_enabled, asks_for_all, asks_indirect, changes_shown, command_to, filter_set, is_enabled, is_indirect, is_quiet, last_filter, later, rule as rule_of, rule_by, wants_all}
+use Rattle.cap_core.specs.History.{effect_of, event_effect, main, snapshot}
 use Rattle.cap_core.specs.Outcome.{no_effect, outcome}
 use Rattle.cap_core.specs.Past.{Past, is_accepted}
 use Rattle.cap_core.specs.Session.{records_of, session_of}
-use Rattle.cap_core.specs.Touch.{Attaching, attach_list, attaching_at, attaching_by, attachings, changes_touch, diff_by, diff_touches, event_changes, event_diff, first_of_each, found_in, is_recorded, names_attached, names_compared, restarts, touch_of, touches, touches_of}
+use Rattle.cap_core.specs.Touch.{Attaching, attach_list, attaching_at, attaching_by, attachings, changes_touch, diff_by, diff_touches, event_changes, event_diff, first_of_each, is_recorded, names_attached, names_compared, restarts, touch_of, touches, touches_of}
 use Rattle.cap_core.proofs.HistoryLemmas.{accepted-by-changes, attach_by-named, first_of_each-append, is_among, is_among-first_of_each, map-listed, map-map, names-by-changes, none-by-changes, push_by, seen_before, seen_now, table_names, table_names-append, touches-none, touches-told, touches_of-append}
-use Rattle.cap_core.proofs.NumberLemmas.{is_number}
 use Rattle.cap_core.proofs.TouchedLemmas.{records_of-append, records_of-none, told}
 
 pub cond-same : {X : Type 0} (b : Bool) (x : X) → cond b x x ≡ x
@@ -38,9 +36,6 @@ and_false false = refl
 
 either_true : (a b : Bool) → (a || b) ≡ true → a ≡ false → b ≡ true
 either_true a b is none = cc
-
-pub none_some : (n : ℕ) → None ≡ Some n → ⊥
-none_some n is = cc
 
 map-same : {X : Type 0} (xs : List X) → map (λ x. x) xs ≡ xs
 map-same [] = refl
@@ -60,9 +55,9 @@ module _ {A : Type 0} where
   -- ---- a command that neither attaches a table to a session nor restarts it
 
   pub record IsSilent (session : ℕ) (event : Event A) (past : Past A) : Type 0 where
-    pub attached : cond (is_accepted event.reply) (map (attaching_at (length past) 0) (names_attached session event.command)) [] ≡ []
+    pub attached : cond (is_accepted event.reply) (map (attaching_at (length past) 0) (names_attached (command_to session event.command))) [] ≡ []
     pub compared : event_diff session event past ≡ None
-    pub restarts : (is_accepted event.reply && restarts session event.command) ≡ false
+    pub restarts : (is_accepted event.reply && restarts (command_to session event.command)) ≡ false
 
   module _ (session : ℕ) (event : Event A) (past : Past A) (silent : IsSilent session event past) where
     abbrev changes_made : List (Change A)
@@ -189,15 +184,6 @@ module _ {A : Type 0} where
   shown-recorded changes true s = sym (record_commit-nothing s)
   shown-recorded changes false s = refl
 
-  pub tables-quiet : (session : ℕ) (event : Event A) (past : Past A) → IsSilent session event past → (event_effect (snapshot past) event).changes ≡ []
-      → (session_of (event ∷ past) session).tables ≡ (session_of past session).tables
-  tables-quiet session event past silent none =
-      let tables = (session_of past session).tables in
-      tables-silent session event past silent
-      ∙ ap (λ changes. cond (is_enabled session past) (touch_tables (is_indirect session past) changes (attach_by_rule (rule_of session past) changes tables)) tables) (shown-none session event.command _ none)
-      ∙ ap (λ same. cond (is_enabled session past) same tables) (map-same tables)
-      ∙ cond-same (is_enabled session past) tables
-
   -- ---- an event of another session's, or that was refused
 
   pub record KeepsFlags (session : ℕ) (event : Event A) (past : Past A) : Type 0 where
@@ -211,94 +197,46 @@ module _ {A : Type 0} where
       same_session _ _ flags.enabled flags.indirect flags.rule (tables-silent session event past silent)
       ∙ sym (record_commit-is (changes_shown session event.command (event_effect (snapshot past) event).changes) (session_of past session))
 
-  -- the command is to the session
-  abbrev pub speaks_to : ℕ → Command A → Bool
-  speaks_to session c = is_number session (session_named c)
-
-  -- what a command to a session does not do
-  pub record IsToSession (c : Command A) : Type 0 where
-    pub writes : is_write c ≡ false
-    pub saves : (tables : Tables A) (databases : Databases A) → saved_after c tables databases ≡ databases
-    pub makes : makes_session c ≡ false
-    pub leaves : (now : SnapshotState A) → outcome now c ≡ Ok (no_effect now.database)
-
-  pub to_session : (c : Command A) (number : ℕ) → session_named c ≡ Some number → IsToSession c
-  to_session (command.CreateTable name schema) number is = absurd (none_some number is)
-  to_session (command.Commit batch) number is = absurd (none_some number is)
-  to_session (command.Apply blob policy quiet) number is = absurd (none_some number is)
-  to_session (command.SaveAs name) number is = absurd (none_some number is)
-  to_session (command.DropDatabase name) number is = absurd (none_some number is)
-  to_session command.NewSession number is = absurd (none_some number is)
-  to_session _ number is = record { writes = refl; saves = λ _ _. refl; makes = refl; leaves = λ _. refl }
-
-  -- a command that says nothing to the session
-  pub record IsElsewhere (session : ℕ) (past : Past A) (c : Command A) : Type 0 where
-    pub enabled : asks_enabled session c ≡ None
-    pub indirect : asks_indirect session c ≡ None
-    pub filter : filter_set session c ≡ None
-    pub all : asks_for_all session c ≡ false
-    pub attached : names_attached session c ≡ []
-    pub compared : diff_by session c past ≡ None
-    pub restarts : restarts session c ≡ false
-
-  elsewhere : (session : ℕ) (past : Past A) (c : Command A) → speaks_to session c ≡ false → IsElsewhere session past c
-  elsewhere session past (command.Attach number name) is =
-      record { enabled = refl; indirect = refl; filter = refl; all = refl; attached = ap (λ b. cond b (name ∷ []) []) is; compared = refl; restarts = refl }
-  elsewhere session past (command.AttachAll number) is =
-      record { enabled = refl; indirect = refl; filter = refl; all = is; attached = refl; compared = refl; restarts = refl }
-  elsewhere session past (command.SetFilter number chosen) is =
-      record { enabled = refl; indirect = refl; filter = ap (λ b. cond b (Some chosen) None) is; all = refl; attached = refl; compared = refl; restarts = refl }
-  elsewhere session past (command.Enable number asked) is =
-      record { enabled = ap (λ b. cond b asked None) is; indirect = refl; filter = refl; all = refl; attached = refl; compared = refl; restarts = refl }
-  elsewhere session past (command.Indirect number asked) is =
-      record { enabled = refl; indirect = ap (λ b. cond b asked None) is; filter = refl; all = refl; attached = refl; compared = refl; restarts = refl }
-  elsewhere session past (command.Diff number from name) is =
-      record { enabled = refl; indirect = refl; filter = refl; all = refl; attached = refl; compared = ap (λ b. cond b (found_in name (diff (main past) (saved past) from name)) None) is; restarts = refl }
-  elsewhere session past (command.Restart number) is =
-      record { enabled = refl; indirect = refl; filter = refl; all = refl; attached = refl; compared = refl; restarts = is }
-  elsewhere session past _ is =
-      record { enabled = refl; indirect = refl; filter = refl; all = refl; attached = refl; compared = refl; restarts = refl }
-
-  pub silent-apart : (session : ℕ) (event : Event A) (past : Past A) → IsElsewhere session past event.command → IsSilent session event past
-  silent-apart session event past apart =
+  -- the command is not to the session
+  pub silent-elsewhere : (session : ℕ) (event : Event A) (past : Past A) → command_to session event.command ≡ None → IsSilent session event past
+  silent-elsewhere session event past none =
       let accepted = is_accepted event.reply in
       record {
-        attached = ap (λ names. cond accepted (map (attaching_at (length past) 0) names) []) apart.attached ∙ cond-same accepted [];
-        compared = ap (λ found. cond accepted found None) apart.compared ∙ cond-same accepted None;
-        restarts = ap (λ b. accepted && b) apart.restarts ∙ and_false accepted;
+        attached = ap (λ told. cond accepted (map (attaching_at (length past) 0) (names_attached told)) []) none ∙ cond-same accepted [];
+        compared = ap (λ told. cond accepted (diff_by told past) None) none ∙ cond-same accepted None;
+        restarts = ap (λ told. accepted && restarts told) none ∙ and_false accepted;
       }
 
-  pub flags-apart : (session : ℕ) (event : Event A) (past : Past A) → IsElsewhere session past event.command → KeepsFlags session event past
-  flags-apart session event past apart =
+  pub flags-elsewhere : (session : ℕ) (event : Event A) (past : Past A) → command_to session event.command ≡ None → KeepsFlags session event past
+  flags-elsewhere session event past none =
       let accepted = is_accepted event.reply in
-      let filtered : last_filter session (event ∷ past) ≡ last_filter session past = ap (λ set. cond accepted (later set (last_filter session past)) (last_filter session past)) apart.filter ∙ cond-same accepted (last_filter session past) in
-      let wanted : wants_all session (event ∷ past) ≡ wants_all session past = ap (λ b. (accepted && b) || wants_all session past) apart.all ∙ ap (λ b. b || wants_all session past) (and_false accepted) in
+      let last = last_filter session past in
       record {
-        enabled = ap (λ asked. cond accepted (unwrap_or asked (is_enabled session past)) (is_enabled session past)) apart.enabled ∙ cond-same accepted (is_enabled session past);
-        indirect = ap (λ asked. cond accepted (unwrap_or asked (is_indirect session past)) (is_indirect session past)) apart.indirect ∙ cond-same accepted (is_indirect session past);
-        rule = λ i. rule_by (filtered i) (wanted i);
+        enabled = ap (λ told. cond accepted (unwrap_or (asks_enabled told) (is_enabled session past)) (is_enabled session past)) none ∙ cond-same accepted (is_enabled session past);
+        indirect = ap (λ told. cond accepted (unwrap_or (asks_indirect told) (is_indirect session past)) (is_indirect session past)) none ∙ cond-same accepted (is_indirect session past);
+        rule = ap (λ told. rule_by (cond accepted (later (filter_set told) last) last) ((accepted && asks_for_all told) || wants_all session past)) none
+            ∙ ap₂ (λ filter b. rule_by filter (b || wants_all session past)) (cond-same accepted last) (and_false accepted);
       }
 
-  pub silent-elsewhere : (session : ℕ) (event : Event A) (past : Past A) → speaks_to session event.command ≡ false → IsSilent session event past
-  silent-elsewhere session event past is = silent-apart session event past (elsewhere session past event.command is)
-
-  pub flags-elsewhere : (session : ℕ) (event : Event A) (past : Past A) → speaks_to session event.command ≡ false → KeepsFlags session event past
-  flags-elsewhere session event past is = flags-apart session event past (elsewhere session past event.command is)
+  -- a command to a session changes no row
+  pub effect-told : (past : Past A) (event : Event A) (number : ℕ) (told : SessionCommand A) → event.command ≡ command.Session number told → event_effect (snapshot past) event ≡ no_effect (main past)
+  effect-told past event number told is =
+      ap (λ c. cond (is_accepted event.reply) (effect_of (main past) (outcome (snapshot past) c)) (no_effect (main past))) is ∙ cond-same (is_accepted event.reply) (no_effect (main past))
 
   pub silent-refused : (session : ℕ) (event : Event A) (past : Past A) → is_accepted event.reply ≡ false → IsSilent session event past
   silent-refused session event past refused = record {
-    attached = ap (λ b. cond b (map (attaching_at (length past) 0) (names_attached session event.command)) []) refused;
-    compared = ap (λ b. cond b (diff_by session event.command past) None) refused;
-    restarts = ap (λ b. b && restarts session event.command) refused;
+    attached = ap (λ b. cond b (map (attaching_at (length past) 0) (names_attached (command_to session event.command))) []) refused;
+    compared = ap (λ b. cond b (diff_by (command_to session event.command) past) None) refused;
+    restarts = ap (λ b. b && restarts (command_to session event.command)) refused;
   }
 
   pub flags-refused : (session : ℕ) (event : Event A) (past : Past A) → is_accepted event.reply ≡ false → KeepsFlags session event past
   flags-refused session event past refused = record {
-    enabled = ap (λ b. cond b (unwrap_or (asks_enabled session event.command) (is_enabled session past)) (is_enabled session past)) refused;
-    indirect = ap (λ b. cond b (unwrap_or (asks_indirect session event.command) (is_indirect session past)) (is_indirect session past)) refused;
+    enabled = ap (λ b. cond b (unwrap_or (asks_enabled (command_to session event.command)) (is_enabled session past)) (is_enabled session past)) refused;
+    indirect = ap (λ b. cond b (unwrap_or (asks_indirect (command_to session event.command)) (is_indirect session past)) (is_indirect session past)) refused;
     rule = λ i.
-        rule_by (cond (refused i) (later (filter_set session event.command) (last_filter session past)) (last_filter session past))
-        ((refused i && asks_for_all session event.command) || wants_all session past);
+        rule_by (cond (refused i) (later (filter_set (command_to session event.command)) (last_filter session past)) (last_filter session past))
+        ((refused i && asks_for_all (command_to session event.command)) || wants_all session past);
   }
 
   pub effect-refused : (event : Event A) (now : SnapshotState A) → is_accepted event.reply ≡ false → event_effect now event ≡ no_effect now.database
@@ -314,13 +252,17 @@ module _ {A : Type 0} where
   session-refused session event past refused =
       session-quiet session event past (silent-refused session event past refused) (flags-refused session event past refused) (ap (λ effect. effect.changes) (effect-refused event (snapshot past) refused))
 
-  pub session-elsewhere : (session : ℕ) (event : Event A) (past : Past A) → speaks_to session event.command ≡ false
+  -- a session that the command is not to
+  pub session-apart : (session : ℕ) (event : Event A) (past : Past A) → command_to session event.command ≡ None → (event_effect (snapshot past) event).changes ≡ [] → session_of (event ∷ past) session ≡ session_of past session
+  session-apart session event past apart = session-quiet session event past (silent-elsewhere session event past apart) (flags-elsewhere session event past apart)
+
+  pub session-elsewhere : (session : ℕ) (event : Event A) (past : Past A) → command_to session event.command ≡ None
       → session_of (event ∷ past) session ≡ record_commit (changes_shown session event.command (event_effect (snapshot past) event).changes) (session_of past session)
   session-elsewhere session event past is = session-recorded session event past (silent-elsewhere session event past is) (flags-elsewhere session event past is)
 
   -- a command that leaves a session as it is
 
-  quiet-elsewhere : (session : ℕ) (c : Command A) → is_quiet session c ≡ true → speaks_to session c ≡ false
+  quiet-elsewhere : (session : ℕ) (c : Command A) → is_quiet session c ≡ true → command_to session c ≡ None
   quiet-elsewhere session (command.Apply blob policy quiet) is = refl
   quiet-elsewhere session _ is = cc
 

@@ -2,13 +2,15 @@
 use Rattle.std.proofs.Common.{◌≡◌, ◌∙◌, ℕ, true, false, cond, Option, Some, None, [], ◌∷◌, refl, sym, ap, nat_eq}
 use Rattle.std.specs.Option.{option_map}
 use Rattle.cap_database.specs.Tables.{Tables}
-use Rattle.cap_session.specs.Session.{SessionState, changed_by}
+use Rattle.cap_session.specs.Session.{SessionState, changed_by, forget}
 use Rattle.cap_session.specs.declared.session_change.SessionChange.{SessionChange}
-use Rattle.cap_session.specs.declared.session_change.SessionChange.TheVariants.{AttachAll, SetFilter, Enable, Indirect, Restart}
 use Rattle.cap_session.specs.Sessions.{NumberedSessions, session_numbered, with_session, with_session_if}
-use Rattle.cap_core.specs.CanCapture.{session_stands}
+use Rattle.cap_core.specs.declared.session_command.SessionCommand.TheVariants.{Change}
+use Rattle.cap_core.specs.CanCapture.{session_stands, tables_stand}
 use Rattle.cap_core.specs.Code.Sound.{sessions_stand}
-use Rattle.cap_core.proofs.SoundLemmas.{numbered-stands, restart-stands, with_session-stands}
+use Rattle.cap_core.specs.Touch.{restarts}
+use Rattle.cap_core.proofs.ChangeLemmas.{is_changed}
+use Rattle.cap_core.proofs.SoundLemmas.{numbered-stands, forgotten-stand, with_session-stands}
 
 module _ {A : Type 0} (number : ℕ) where
   -- a session in its own place leaves all
@@ -31,11 +33,12 @@ module _ {A : Type 0} (number : ℕ) where
 
 -- a session goes on to stand where its caller changes it
 pub change-stands : {A : Type 0} (database : Tables A) (change : SessionChange A) (session : SessionState A) → session_stands database session ≡ true → session_stands database (changed_by change session) ≡ true
-change-stands database AttachAll session all = all
-change-stands database (SetFilter rule) session all = all
-change-stands database (Enable asked) session all = all
-change-stands database (Indirect asked) session all = all
-change-stands database Restart session all = restart-stands database session.tables
+change-stands database change session all =
+    ap (tables_stand database) (is_changed change session).tables
+    ∙ elim (restarts (Some (Change change))) as (λ b. tables_stand database (cond b (forget session.tables) session.tables) ≡ true) [
+      | true ↦ forgotten-stand database session.tables
+      | false ↦ all
+    ]
 
 -- sessions go on to stand where one of them is changed so that it does
 module _ {A : Type 0} (database : Tables A) (number : ℕ) (change : SessionState A → SessionState A) where

@@ -231,9 +231,9 @@ module _ {A : Type 0} where
             | false ↦ λ other. is
           ] refl
 
-  pub restart-stands : (database : Tables A) (tables : AttachedTables A) → tables_stand database (forget tables) ≡ true
-  restart-stands database [] = refl
-  restart-stands database (attached ∷ tables) = restart-stands database tables
+  pub forgotten-stand : (database : Tables A) (tables : AttachedTables A) → tables_stand database (forget tables) ≡ true
+  forgotten-stand database [] = refl
+  forgotten-stand database (attached ∷ tables) = forgotten-stand database tables
 
   -- ---- a session among others
 

@@ -16,9 +16,14 @@ use Rattle.cap_apply.specs.Report.{ReportState}
 use Rattle.cap_apply.specs.declared.policy.Policy.{Policy}
 use Rattle.cap_compare.specs.declared.difference.Difference.{Difference}
 use Rattle.cap_session.specs.Session.{SessionState, stored}
+use Rattle.cap_session.specs.declared.session_change.SessionChange.{SessionChange}
+use Rattle.cap_session.specs.declared.session_change.SessionChange.TheVariants.{Enable, Indirect, Restart}
 use Rattle.cap_session.specs.Sessions.{NumberedSessions, session_numbered}
 use Rattle.cap_core.specs.declared.command.Command.{Command}
 use Rattle.cap_core.specs.declared.command.Command.TheVariants as command
+use Rattle.cap_core.specs.declared.session_command.SessionCommand.{SessionCommand}
+use Rattle.cap_core.specs.declared.session_command.SessionCommand.TheVariants.{Capture as CaptureAsked}
+use Rattle.cap_core.specs.declared.session_command.SessionCommand.TheVariants.{Change, Diff, IsEmpty}
 use Rattle.cap_core.specs.declared.event.Event.{Event}
 use Rattle.cap_core.specs.declared.reply.Reply.{Reply}
 use Rattle.cap_core.specs.declared.reply.Reply.TheVariants.{Done, Written, Applied, Session, Snapshot, Flag}
@@ -26,7 +31,7 @@ use Rattle.cap_core.specs.declared.reply.Reply.TheVariants.{Capture, Databases, 
 use Rattle.cap_core.specs.declared.reply.Reply.TheVariants.{Tables as TablesListed}
 use Rattle.cap_core.specs.Capture.{session_changes}
 use Rattle.cap_core.specs.Diff.{diff}
-use Rattle.cap_core.specs.Flags.{session_named, sessions_made}
+use Rattle.cap_core.specs.Flags.{sessions_made}
 use Rattle.cap_core.specs.History.{Databases as Saved, main, saved, version}
 use Rattle.cap_core.specs.Listed.{listed_sessions, listed_tables}
 use Rattle.cap_core.specs.Outcome.{Effect, Refused as Why, outcome}
@@ -87,15 +92,20 @@ module _ {A : Type 0} where
   capture_reply version tables session =
       Capture (record { version = version; changes = session_changes tables session })
 
+  -- the reply to a change of a session: of a flag, as it is then
+  abbrev pub change_reply : SessionChange A → ℕ → Tables A → SessionState A → Reply A
+  change_reply (Enable asked) version tables session = Flag (unwrap_or asked session.enabled)
+  change_reply (Indirect asked) version tables session = Flag (unwrap_or asked session.indirect)
+  change_reply Restart version tables session = capture_reply version tables session
+  change_reply _ version tables session = Done
+
   -- The reply to a command by the session that it is to: done, where the command is not named. A session is
   -- empty where no row was touched, also where each touched row is again as it was.
-  abbrev pub session_reply : State A → Command A → SessionState A → Reply A
-  session_reply state (command.Enable number asked) session = Flag (unwrap_or asked session.enabled)
-  session_reply state (command.Indirect number asked) session = Flag (unwrap_or asked session.indirect)
-  session_reply state (command.IsEmpty number) session = Flag (nat_eq (stored session.tables) 0)
-  session_reply state (command.Diff number from name) session = diffed (diff state.main state.saved from name)
-  session_reply state (command.Capture number) session = capture_reply state.version state.main session
-  session_reply state (command.Restart number) session = capture_reply state.version state.main session
+  abbrev pub session_reply : State A → SessionCommand A → SessionState A → Reply A
+  session_reply state (Change change) session = change_reply change state.version state.main session
+  session_reply state IsEmpty session = Flag (nat_eq (stored session.tables) 0)
+  session_reply state (Diff from name) session = diffed (diff state.main state.saved from name)
+  session_reply state CaptureAsked session = capture_reply state.version state.main session
   session_reply state _ session = Done
 
   -- a command to a session is refused where there is none with the number
@@ -118,32 +128,24 @@ module _ {A : Type 0} where
       effect_unless (refused_quiet state.sessions quiet)
       (outcome (snapshot_of state) (command.Apply blob policy quiet))
 
-  -- the reply to a command that is to no session: the last case is that of `Read`
-  abbrev pub own_answer : State A → Command A → Reply A
-  own_answer state (command.CreateTable name schema) =
-      write_reply state (outcome (snapshot_of state) (command.CreateTable name schema))
-  own_answer state (command.Commit batch) =
-      write_reply state (outcome (snapshot_of state) (command.Commit batch))
-  own_answer state (command.Apply blob policy quiet) =
-      write_reply state (application state blob policy quiet)
-  own_answer state (command.SaveAs name) = save_reply state.saved name
-  own_answer state (command.DropDatabase name) = drop_reply state.saved name
-  own_answer state command.Databases = Databases (keys_of state.saved)
-  own_answer state command.Sessions = Sessions (listed_sessions state.sessions)
-  own_answer state command.Tables = TablesListed (listed_tables state.main)
-  own_answer state command.Dump = Dump (snapshot_of state)
-  own_answer state command.NewSession = new_session_reply state
-  own_answer state _ = Snapshot (snapshot_of state)
-
-  -- the reply to a command to the session with this number, or to none
-  abbrev pub answer_by : Option ℕ → State A → Command A → Reply A
-  answer_by None state command = own_answer state command
-  answer_by (Some number) state command =
-      session_answer (session_numbered state.sessions number) (session_reply state command)
-
-  -- the reply to a command in a state
+  -- the reply to a command in a state: the last case is that of `Read`
   abbrev pub answer : State A → Command A → Reply A
-  answer state command = answer_by (session_named command) state command
+  answer state (command.CreateTable name schema) =
+      write_reply state (outcome (snapshot_of state) (command.CreateTable name schema))
+  answer state (command.Commit batch) =
+      write_reply state (outcome (snapshot_of state) (command.Commit batch))
+  answer state (command.Apply blob policy quiet) =
+      write_reply state (application state blob policy quiet)
+  answer state (command.SaveAs name) = save_reply state.saved name
+  answer state (command.DropDatabase name) = drop_reply state.saved name
+  answer state command.Databases = Databases (keys_of state.saved)
+  answer state command.Sessions = Sessions (listed_sessions state.sessions)
+  answer state command.Tables = TablesListed (listed_tables state.main)
+  answer state command.Dump = Dump (snapshot_of state)
+  answer state command.NewSession = new_session_reply state
+  answer state (command.Session number command) =
+      session_answer (session_numbered state.sessions number) (session_reply state command)
+  answer state _ = Snapshot (snapshot_of state)
 
   -- ---- histories
 
@@ -156,6 +158,10 @@ module _ {A : Type 0} where
     sessions_made = sessions_made past;
     sessions = sessions past;
   }
+
+  -- the reply to a capture of this session
+  abbrev pub capture_after : Past A → ℕ → Reply A
+  capture_after past session = answer (state_after past) (command.Session session CaptureAsked)
 
   -- each reply is that of its command after the events before it
   abbrev pub IsLegalPast : Past A → Type 0

@@ -1,6 +1,6 @@
 -- A capture that is applied to another database.
-use Rattle.std.specs.Prelude.{◌≡◌, ℕ, Bool, true, false, Some, None, Ok, List, [], ◌∷◌, ◌&&◌, ◌||◌, length}
-use Rattle.std.specs.Prelude.{nat_eq, sum_by}
+use Rattle.std.specs.Prelude.{◌≡◌, ℕ, Bool, true, false, Option, Some, None, Ok, List, [], ◌∷◌, ◌&&◌, ◌||◌}
+use Rattle.std.specs.Prelude.{length, sum_by}
 use Rattle.std.specs.Option.{option_map}
 use Rattle.cap_value.specs.Bytes.{bytes_cmp}
 use Rattle.cap_row.specs.Fields.{Fields}
@@ -16,13 +16,16 @@ use Rattle.cap_apply.specs.Apply.{apply}
 use Rattle.cap_apply.specs.declared.policy.Policy.{Policy}
 use Rattle.cap_session.specs.declared.record.Record.{Record}
 use Rattle.cap_session.specs.Session.{AttachedTables, record_of}
-use Rattle.cap_core.specs.declared.command.Command.{Command}
-use Rattle.cap_core.specs.declared.command.Command.TheVariants.{Diff, Restart}
+use Rattle.cap_core.specs.declared.command.Command.TheVariants.{Session}
+use Rattle.cap_core.specs.declared.session_command.SessionCommand.{SessionCommand}
+use Rattle.cap_core.specs.declared.session_command.SessionCommand.TheVariants.{Diff}
 use Rattle.cap_core.specs.declared.event.Event.{Event}
 use Rattle.cap_core.specs.Answer.{answer, state_after}
+use Rattle.cap_core.specs.Flags.{command_to}
 use Rattle.cap_core.specs.History.{is_write, main, saved}
 use Rattle.cap_core.specs.Past.{Past, is_accepted}
 use Rattle.cap_core.specs.Session.{session_of}
+use Rattle.cap_core.specs.Touch.{restarts}
 
 module _ {A : Type 0} where
   -- For each touched key the database has its table, with the columns that it has in main, and at the key the
@@ -62,16 +65,16 @@ module _ {A : Type 0} where
   -- ---- after a diff
 
   -- a diff or a restart of the session
-  abbrev pub renews : ℕ → Command A → Bool
-  renews session (Diff number from name) = nat_eq number session
-  renews session (Restart number) = nat_eq number session
-  renews session _ = false
+  abbrev pub renews : Option (SessionCommand A) → Bool
+  renews (Some (Diff from name)) = true
+  renews told = restarts told
 
   -- none of the events writes, or is a diff or a restart of the session, unless it was refused
   abbrev pub AreQuiet : ℕ → List (Event A) → Type 0
   AreQuiet session [] = Unit {0}
   AreQuiet session (event ∷ events) =
-      ((is_accepted event.reply && (is_write event.command || renews session event.command)) ≡ false)
+      ((is_accepted event.reply && (is_write event.command || renews (command_to session event.command)))
+      ≡ false)
       × AreQuiet session events
 
   -- After the past comes an accepted diff of this table against this saved database, by a session without
@@ -80,7 +83,7 @@ module _ {A : Type 0} where
       (table : TableState A) : Type 0 where
     pub from : List ℕ
     pub replied : event.reply ≡ answer (state_after past) event.command
-    pub diffs : event.command ≡ Diff session from name
+    pub diffs : event.command ≡ Session session (Diff from name)
     pub accepted : is_accepted event.reply ≡ true
     pub database_is : get bytes_cmp (saved past) from ≡ Some database
     pub there : table_of (main past) name ≡ Some table

@@ -6,12 +6,14 @@ use Rattle.std.specs.Option.{unwrap_or}
 use Rattle.cap_filter.specs.Rule.{Rule}
 use Rattle.cap_database.specs.declared.change.Change.{Change}
 use Rattle.cap_session.specs.Sessions.{is_one_of}
+use Rattle.cap_session.specs.declared.session_change.SessionChange.TheVariants.{AttachAll, Enable, Indirect}
+use Rattle.cap_session.specs.declared.session_change.SessionChange.TheVariants.{SetFilter}
 use Rattle.cap_session.specs.declared.rule.AutomaticRule.{AutomaticRule}
 use Rattle.cap_session.specs.declared.rule.AutomaticRule.TheVariants.{Nothing, All, Filter}
 use Rattle.cap_core.specs.declared.command.Command.{Command}
-use Rattle.cap_core.specs.declared.command.Command.TheVariants.{Apply, NewSession, DropSession, Attach, AttachAll}
-use Rattle.cap_core.specs.declared.command.Command.TheVariants.{SetFilter, Enable, Indirect, IsEmpty, Diff}
-use Rattle.cap_core.specs.declared.command.Command.TheVariants.{Capture, Restart}
+use Rattle.cap_core.specs.declared.command.Command.TheVariants.{Apply, NewSession, Session}
+use Rattle.cap_core.specs.declared.session_command.SessionCommand.{SessionCommand}
+use Rattle.cap_core.specs.declared.session_command.SessionCommand.TheVariants.{Change as Changes, Delete}
 use Rattle.cap_core.specs.Past.{Past, is_accepted}
 
 -- the earlier one unless there is a later one
@@ -33,17 +35,13 @@ module _ {A : Type 0} where
 
   -- the session that a command is to, where it is to one
   abbrev pub session_named : Command A → Option ℕ
-  session_named (DropSession number) = Some number
-  session_named (Attach number name) = Some number
-  session_named (AttachAll number) = Some number
-  session_named (SetFilter number filter) = Some number
-  session_named (Enable number asked) = Some number
-  session_named (Indirect number asked) = Some number
-  session_named (IsEmpty number) = Some number
-  session_named (Diff number from name) = Some number
-  session_named (Capture number) = Some number
-  session_named (Restart number) = Some number
+  session_named (Session number command) = Some number
   session_named _ = None
+
+  -- what a command is to this session, where it is to it
+  abbrev pub command_to : ℕ → Command A → Option (SessionCommand A)
+  command_to session (Session number command) = if nat_eq number session then Some command else None
+  command_to session _ = None
 
   -- the sessions that a command leaves as they are
   abbrev pub quiet_sessions : Command A → List ℕ
@@ -57,12 +55,13 @@ module _ {A : Type 0} where
   abbrev pub changes_shown : ℕ → Command A → List (Change A) → List (Change A)
   changes_shown session command changes = if is_quiet session command then [] else changes
 
-  abbrev pub drops : ℕ → Command A → Bool
-  drops session (DropSession number) = nat_eq number session
-  drops session _ = false
+  abbrev pub deletes : Option (SessionCommand A) → Bool
+  deletes (Some Delete) = true
+  deletes _ = false
 
   abbrev pub is_dropped : Past A → ℕ → Bool
-  is_dropped past session = list_any (λ event. is_accepted event.reply && drops session event.command) past
+  is_dropped past session =
+      list_any (λ event. is_accepted event.reply && deletes (command_to session event.command)) past
 
   -- the numbers of the live sessions, rising
   abbrev pub live_sessions : Past A → List ℕ
@@ -71,19 +70,20 @@ module _ {A : Type 0} where
 
   -- ---- flags
 
-  abbrev pub asks_enabled : ℕ → Command A → Option Bool
-  asks_enabled session (Enable number asked) = if nat_eq number session then asked else None
-  asks_enabled session _ = None
+  abbrev pub asks_enabled : Option (SessionCommand A) → Option Bool
+  asks_enabled (Some (Changes (Enable asked))) = asked
+  asks_enabled _ = None
 
-  abbrev pub asks_indirect : ℕ → Command A → Option Bool
-  asks_indirect session (Indirect number asked) = if nat_eq number session then asked else None
-  asks_indirect session _ = None
+  abbrev pub asks_indirect : Option (SessionCommand A) → Option Bool
+  asks_indirect (Some (Changes (Indirect asked))) = asked
+  asks_indirect _ = None
 
   -- a session is enabled until it is set otherwise
   abbrev pub is_enabled : ℕ → Past A → Bool
   is_enabled session [] = true
   is_enabled session (event ∷ past) =
-      if is_accepted event.reply then unwrap_or (asks_enabled session event.command) (is_enabled session past)
+      if is_accepted event.reply
+      then unwrap_or (asks_enabled (command_to session event.command)) (is_enabled session past)
       else is_enabled session past
 
   -- a session is not indirect until it is set so
@@ -91,29 +91,30 @@ module _ {A : Type 0} where
   is_indirect session [] = false
   is_indirect session (event ∷ past) =
       if is_accepted event.reply
-      then unwrap_or (asks_indirect session event.command) (is_indirect session past)
+      then unwrap_or (asks_indirect (command_to session event.command)) (is_indirect session past)
       else is_indirect session past
 
   -- ---- the rule by which tables are attached
 
-  abbrev pub asks_for_all : ℕ → Command A → Bool
-  asks_for_all session (AttachAll number) = nat_eq number session
-  asks_for_all session _ = false
+  abbrev pub asks_for_all : Option (SessionCommand A) → Bool
+  asks_for_all (Some (Changes AttachAll)) = true
+  asks_for_all _ = false
 
-  abbrev pub filter_set : ℕ → Command A → Option Rule
-  filter_set session (SetFilter number filter) = if nat_eq number session then Some filter else None
-  filter_set session _ = None
+  abbrev pub filter_set : Option (SessionCommand A) → Option Rule
+  filter_set (Some (Changes (SetFilter filter))) = Some filter
+  filter_set _ = None
 
   -- the filter that was set last
   abbrev pub last_filter : ℕ → Past A → Option Rule
   last_filter session [] = None
   last_filter session (event ∷ past) =
-      if is_accepted event.reply then later (filter_set session event.command) (last_filter session past)
+      if is_accepted event.reply
+      then later (filter_set (command_to session event.command)) (last_filter session past)
       else last_filter session past
 
   abbrev pub wants_all : ℕ → Past A → Bool
   wants_all session past =
-      list_any (λ event. is_accepted event.reply && asks_for_all session event.command) past
+      list_any (λ event. is_accepted event.reply && asks_for_all (command_to session event.command)) past
 
   -- a filter decides where one was set
   abbrev pub rule_by : Option Rule → Bool → AutomaticRule A

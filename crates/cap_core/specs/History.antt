@@ -6,7 +6,8 @@ use Rattle.cap_tree.specs.Tree.{put_entry, take_entry}
 use Rattle.cap_database.specs.Snapshot.{SnapshotState}
 use Rattle.cap_database.specs.Tables.{Tables}
 use Rattle.cap_core.specs.declared.command.Command.{Command}
-use Rattle.cap_core.specs.declared.command.Command.TheVariants.{CreateTable, Commit, Apply, DropDatabase, SaveAs}
+use Rattle.cap_core.specs.declared.command.Command.TheVariants.{CreateTable, Commit, Apply, DropDatabase}
+use Rattle.cap_core.specs.declared.command.Command.TheVariants.{SaveAs}
 use Rattle.cap_core.specs.declared.event.Event.{Event}
 use Rattle.cap_core.specs.Outcome.{Effect, Refused, no_effect, outcome}
 use Rattle.cap_core.specs.Past.{Past, is_accepted}

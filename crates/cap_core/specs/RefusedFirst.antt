@@ -41,8 +41,9 @@ module _ {A : Type 0} where
   refused_batch None tables ops = refused_op tables ops
 
   -- A batch is refused where it is out of date, and then where its first operation is refused before memory
-  -- is needed. An application is refused where a session that it leaves as it is is not live; conflicts of its
-  -- blob are found as it is applied, which needs memory. Each refusal of any other command is known without it.
+  -- is needed. An application is refused where a session that it leaves as it is is not live; conflicts of
+  -- its blob are found as it is applied, which needs memory. Each refusal of any other command is known
+  -- without it.
   abbrev pub refused_first : State A → Command A → Option Why
   refused_first state (Commit batch) =
       refused_batch (stale batch.base batch.seen (snapshot_of state)) state.main batch.ops

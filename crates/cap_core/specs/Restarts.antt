@@ -16,7 +16,7 @@ use Rattle.cap_apply.specs.Apply.{apply}
 use Rattle.cap_apply.specs.declared.policy.Policy.{Policy}
 use Rattle.cap_core.specs.declared.event.Event.{Event}
 use Rattle.cap_core.specs.Capture.{session_changes}
-use Rattle.cap_core.specs.Flags.{is_enabled, is_quiet}
+use Rattle.cap_core.specs.Flags.{command_to, is_enabled, is_quiet}
 use Rattle.cap_core.specs.History.{main}
 use Rattle.cap_core.specs.Past.{Past, is_accepted}
 use Rattle.cap_core.specs.Session.{session_of}
@@ -39,11 +39,12 @@ module _ {A : Type 0} where
   captures session [] start = []
   captures session (event ∷ later) start =
       captures session later start
-      ++ (if is_accepted event.reply && restarts session event.command
+      ++ (if is_accepted event.reply && restarts (command_to session event.command)
       then session_changes (main (later ++ start)) (session_of (later ++ start) session) ∷ []
       else [])
 
-  -- the session is enabled before each of the later events, none of which leaves it as it is or is a diff of it
+  -- The session is enabled before each of the later events, none of which leaves it as it is or is a diff of
+  -- it.
   abbrev pub IsSteady : ℕ → List (Event A) → Past A → Type 0
   IsSteady session [] start = Unit {0}
   IsSteady session (event ∷ later) start =

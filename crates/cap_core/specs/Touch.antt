@@ -1,7 +1,7 @@
 -- The moments at which the tables of a session were attached, and its touches: read off the events of a
 -- history.
-use Rattle.std.specs.Prelude.{ℕ, Bool, false, Option, Some, None, Result, Ok, List, [], ◌∷◌, ◌++◌, length}
-use Rattle.std.specs.Prelude.{map, filter, not, ◌&&◌, ◌||◌, nat_eq, nat_lt, nat_le, if◌then◌else◌}
+use Rattle.std.specs.Prelude.{ℕ, Bool, true, false, Option, Some, None, Result, Ok, List, [], ◌∷◌, ◌++◌}
+use Rattle.std.specs.Prelude.{length, map, filter, not, ◌&&◌, ◌||◌, nat_eq, nat_lt, nat_le, if◌then◌else◌}
 use Rattle.std.specs.List.{enumerate_from, filter_map, list_any}
 use Rattle.std.specs.Option.{option_map}
 use Rattle.cap_value.specs.Bytes.{bytes_eq}
@@ -12,11 +12,13 @@ use Rattle.cap_database.specs.declared.change.Change.{Change}
 use Rattle.cap_compare.specs.declared.difference.Difference.{Difference}
 use Rattle.cap_session.specs.Recording.{is_cascade}
 use Rattle.cap_session.specs.Session.{accepts_by}
-use Rattle.cap_core.specs.declared.command.Command.{Command}
-use Rattle.cap_core.specs.declared.command.Command.TheVariants.{Attach, Diff, Restart}
+use Rattle.cap_session.specs.declared.session_change.SessionChange.TheVariants.{Restart}
+use Rattle.cap_core.specs.declared.session_command.SessionCommand.{SessionCommand}
+use Rattle.cap_core.specs.declared.session_command.SessionCommand.TheVariants.{Attach, Change as Changes}
+use Rattle.cap_core.specs.declared.session_command.SessionCommand.TheVariants.{Diff}
 use Rattle.cap_core.specs.declared.event.Event.{Event}
 use Rattle.cap_core.specs.Diff.{diff}
-use Rattle.cap_core.specs.Flags.{changes_shown, is_enabled, is_indirect, rule}
+use Rattle.cap_core.specs.Flags.{changes_shown, command_to, is_enabled, is_indirect, rule}
 use Rattle.cap_core.specs.History.{event_effect, main, saved, snapshot}
 use Rattle.cap_core.specs.Past.{Past, is_accepted}
 
@@ -59,21 +61,21 @@ module _ {A : Type 0} where
   found_in name (Ok (Some differences)) = Some (name, differences)
   found_in name _ = None
 
-  abbrev pub diff_by : ℕ → Command A → Past A → Option (List ℕ × List (Difference A))
-  diff_by session (Diff number from name) past =
-      if nat_eq number session then found_in name (diff (main past) (saved past) from name) else None
-  diff_by session _ past = None
+  abbrev pub diff_by : Option (SessionCommand A) → Past A → Option (List ℕ × List (Difference A))
+  diff_by (Some (Diff from name)) past = found_in name (diff (main past) (saved past) from name)
+  diff_by _ past = None
 
   -- the table that a diff of this session compared in the event after this past, and its differences
   abbrev pub event_diff : ℕ → Event A → Past A → Option (List ℕ × List (Difference A))
-  event_diff session event past = if is_accepted event.reply then diff_by session event.command past else None
+  event_diff session event past =
+      if is_accepted event.reply then diff_by (command_to session event.command) past else None
 
   -- ---- the attach list
 
   -- the name that a command attaches to a session
-  abbrev pub names_attached : ℕ → Command A → List (List ℕ)
-  names_attached session (Attach number name) = if nat_eq number session then name ∷ [] else []
-  names_attached session _ = []
+  abbrev pub names_attached : Option (SessionCommand A) → List (List ℕ)
+  names_attached (Some (Attach name)) = name ∷ []
+  names_attached _ = []
 
   -- the name of a table that was compared
   abbrev pub names_compared : Option (List ℕ × List (Difference A)) → List (List ℕ)
@@ -91,7 +93,7 @@ module _ {A : Type 0} where
   abbrev pub event_attachings : ℕ → Event A → Past A → List Attaching
   event_attachings session event past =
       (if is_accepted event.reply
-      then map (attaching_at (length past) 0) (names_attached session event.command)
+      then map (attaching_at (length past) 0) (names_attached (command_to session event.command))
       else [])
       ++ map (attaching_at (length past) 0) (names_compared (event_diff session event past))
       ++ filter_map (attaching_by session past) (event_changes session event past)
@@ -159,15 +161,15 @@ module _ {A : Type 0} where
   event_touches session event past =
       changes_touch session event past ++ diff_touches session past (event_diff session event past)
 
-  abbrev pub restarts : ℕ → Command A → Bool
-  restarts session (Restart number) = nat_eq number session
-  restarts session _ = false
+  abbrev pub restarts : Option (SessionCommand A) → Bool
+  restarts (Some (Changes Restart)) = true
+  restarts _ = false
 
   -- the touches of a session since it was last restarted, in order of time
   abbrev pub touches : ℕ → Past A → List (Touch A)
   touches session [] = []
   touches session (event ∷ past) =
-      if is_accepted event.reply && restarts session event.command then []
+      if is_accepted event.reply && restarts (command_to session event.command) then []
       else touches session past ++ event_touches session event past
 
   -- those of one table, each under its key

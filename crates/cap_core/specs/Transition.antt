@@ -6,18 +6,18 @@ use Rattle.cap_value.specs.Bytes.{bytes_cmp}
 use Rattle.cap_value.specs.declared.refusal.Refusal.{Refusal}
 use Rattle.cap_tree.specs.Tree.{get, put_entry, take_entry}
 use Rattle.cap_database.specs.Tables.{Tables}
-use Rattle.cap_database.specs.declared.change.Change.{Change}
+use Rattle.cap_database.specs.declared.change.Change.{Change as RowChange}
 use Rattle.cap_compare.specs.declared.difference.Difference.{Difference}
 use Rattle.cap_session.specs.Recording.{record_diff}
-use Rattle.cap_session.specs.Session.{SessionState, attach_all, attached, enabled_as, indirect_as}
-use Rattle.cap_session.specs.Session.{new_session, restart, set_filter}
+use Rattle.cap_session.specs.Session.{SessionState, attached, changed_by, new_session}
 use Rattle.cap_session.specs.Sessions.{NumberedSessions, record_commit_each, session_numbered, with_session}
 use Rattle.cap_session.specs.Sessions.{without_session}
 use Rattle.cap_core.specs.declared.command.Command.{Command}
 use Rattle.cap_core.specs.declared.command.Command.TheVariants as command
+use Rattle.cap_core.specs.declared.session_command.SessionCommand.{SessionCommand}
+use Rattle.cap_core.specs.declared.session_command.SessionCommand.TheVariants.{Attach, Change, Delete, Diff}
 use Rattle.cap_core.specs.Answer.{State, application, has_room_for, snapshot_of}
 use Rattle.cap_core.specs.Diff.{diff}
-use Rattle.cap_core.specs.Flags.{session_named}
 use Rattle.cap_core.specs.History.{Databases}
 use Rattle.cap_core.specs.Outcome.{Effect, Refused, outcome}
 
@@ -28,7 +28,7 @@ module _ {A : Type 0} where
   -- ---- the tables
 
   -- these tables, one version later, with these changes in each session but the quiet ones
-  abbrev pub written : State A → Tables A → List (Change A) → List ℕ → State A
+  abbrev pub written : State A → Tables A → List (RowChange A) → List ℕ → State A
   written state tables changes quiet =
       record (one_more state) {
         main = tables;
@@ -71,16 +71,13 @@ module _ {A : Type 0} where
 
   -- What a command leaves of the session that it is to, by the tables and the saved databases, or none where
   -- it ends the session. A command that is not named leaves it as it is.
-  abbrev pub session_left : Tables A → Databases A → Command A → SessionState A → Option (SessionState A)
-  session_left main saved (command.DropSession number) session = None
-  session_left main saved (command.Attach number name) session = Some (attached name session)
-  session_left main saved (command.AttachAll number) session = Some (attach_all session)
-  session_left main saved (command.SetFilter number filter) session = Some (set_filter filter session)
-  session_left main saved (command.Enable number asked) session = Some (enabled_as asked session)
-  session_left main saved (command.Indirect number asked) session = Some (indirect_as asked session)
-  session_left main saved (command.Diff number from name) session =
+  abbrev pub session_left : Tables A → Databases A → SessionCommand A → SessionState A
+      → Option (SessionState A)
+  session_left main saved Delete session = None
+  session_left main saved (Attach name) session = Some (attached name session)
+  session_left main saved (Change change) session = Some (changed_by change session)
+  session_left main saved (Diff from name) session =
       Some (compared name (diff main saved from name) session)
-  session_left main saved (command.Restart number) session = Some (restart session)
   session_left main saved _ session = Some session
 
   -- the sessions with what is left of the one with the number
@@ -98,26 +95,18 @@ module _ {A : Type 0} where
   after_session state number (Some session) left =
       with_sessions state (with_left state.sessions number (left session))
 
-  -- the state after a command that is to no session: one that is not named only asks
-  abbrev pub own_next : State A → Command A → State A
-  own_next state (command.CreateTable name schema) =
+  -- the state after a command: one that is not named only asks
+  abbrev pub next : State A → Command A → State A
+  next state (command.CreateTable name schema) =
       after_write state [] (outcome (snapshot_of state) (command.CreateTable name schema))
-  own_next state (command.Commit batch) =
+  next state (command.Commit batch) =
       after_write state [] (outcome (snapshot_of state) (command.Commit batch))
-  own_next state (command.Apply blob policy quiet) =
+  next state (command.Apply blob policy quiet) =
       after_write state quiet (application state blob policy quiet)
-  own_next state (command.SaveAs name) = after_save state name
-  own_next state (command.DropDatabase name) = after_drop state name
-  own_next state command.NewSession = after_new_session state
-  own_next state _ = one_more state
-
-  -- the state after a command to the session with this number, or to none
-  abbrev pub next_by : Option ℕ → State A → Command A → State A
-  next_by None state command = own_next state command
-  next_by (Some number) state command =
+  next state (command.SaveAs name) = after_save state name
+  next state (command.DropDatabase name) = after_drop state name
+  next state command.NewSession = after_new_session state
+  next state (command.Session number command) =
       after_session state number (session_numbered state.sessions number)
       (session_left state.main state.saved command)
-
-  -- the state after a command
-  abbrev pub next : State A → Command A → State A
-  next state command = next_by (session_named command) state command
+  next state _ = one_more state

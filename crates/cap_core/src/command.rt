@@ -1,15 +1,13 @@
 //! The commands of the server.
 
-use crate::QuietSessions;
+use crate::{QuietSessions, SessionCommand};
 use cap_apply::{Policy, blob_fits_its_columns};
 use cap_codec::Contents;
-use cap_filter::TableFilter;
 use cap_row::Schema;
 use cap_txn::Batch;
 use cap_value::{AllocHandle, Name};
 
-/// A command to the server. Where a variant names no other, the reply is `Done`. A command with the number of
-/// a session is refused with `NoSession` where no session has it, before anything else.
+/// A command to the server. Where a variant names no other, the reply is `Done`.
 #[derive(Drop)]
 pub enum Command<A: AllocHandle> {
     /// Creates an empty table. The reply is `Written`. Refused with `TableExists`, or with `TooMany` where
@@ -25,8 +23,8 @@ pub enum Command<A: AllocHandle> {
     /// alone, where it is not the present version; and otherwise as its first refused operation.
     Commit(Batch<A>),
     /// Applies a changeset or patchset (sqlite3changeset_apply). The reply is `Applied`. Refused with
-    /// `NoSession` where a quiet session is not live, with `Aborted` where the policy aborts, or with `Misuse`
-    /// where it replaces a row that is not there.
+    /// `NoSession` where a quiet session is not live, with `Aborted` where the policy aborts, or with
+    /// `Misuse` where it replaces a row that is not there.
     Apply {
         /// The changeset or patchset.
         blob: Contents<A>,
@@ -60,79 +58,13 @@ pub enum Command<A: AllocHandle> {
     /// Creates a session, which records changes to its attached tables (sqlite3session_create). The reply is
     /// `Session`. Refused with `TooMany` where 64 sessions are live.
     NewSession,
-    /// Deletes a session (sqlite3session_delete). Its number is never reused.
-    DropSession {
+    /// A command to one session. Refused with `NoSession` where no session has the number, before anything
+    /// else.
+    Session {
         /// The session's number.
         session: u64,
-    },
-    /// Attaches a table to a session (sqlite3session_attach). The table need not exist.
-    Attach {
-        /// The session's number.
-        session: u64,
-        /// The table's name.
-        table: Name<A>,
-    },
-    /// From now on a table is attached when one of its rows changes, unless the session has a filter
-    /// (sqlite3session_attach with no name).
-    AttachAll {
-        /// The session's number.
-        session: u64,
-    },
-    /// From now on a table is attached when one of its rows changes and the filter accepts its name
-    /// (sqlite3session_table_filter).
-    SetFilter {
-        /// The session's number.
-        session: u64,
-        /// The filter.
-        filter: TableFilter<A>,
-    },
-    /// Sets or queries whether a session is enabled (sqlite3session_enable). The reply is `Flag`, after the
-    /// change.
-    Enable {
-        /// The session's number.
-        session: u64,
-        /// The new value, or none to query.
-        enabled: Option<bool>,
-    },
-    /// Sets or queries the indirect flag of a session (sqlite3session_indirect). The reply is `Flag`, after
-    /// the change.
-    Indirect {
-        /// The session's number.
-        session: u64,
-        /// The new value, or none to query.
-        indirect: Option<bool>,
-    },
-    /// Queries whether a session has recorded no row (sqlite3session_isempty). The reply is `Flag`. A
-    /// recorded row may be as it was: then the session is not empty, and a capture may have no change.
-    IsEmpty {
-        /// The session's number.
-        session: u64,
-    },
-    /// Records how a table differs from the table of the same name in a saved database (sqlite3session_diff).
-    /// It attaches the table, whatever the filter says, and records also where the session is disabled. Its
-    /// touches are indirect where the session's indirect flag is set, and first images are kept. Does nothing
-    /// where the table does not exist or has no key columns. Otherwise refused with `NoDatabase`, or with
-    /// `Incompatible` where the saved database lacks the table. Tables of one name keep their columns, so
-    /// these never differ on a server.
-    Diff {
-        /// The session's number.
-        session: u64,
-        /// The saved database's name.
-        from: Name<A>,
-        /// The table's name.
-        table: Name<A>,
-    },
-    /// Captures a session's changes (sqlite3session_changeset, sqlite3session_patchset). The reply is
-    /// `Capture`.
-    Capture {
-        /// The session's number.
-        session: u64,
-    },
-    /// Captures a session's changes, and then deletes its records. The reply is `Capture`. Its flags, filter
-    /// and attached tables stay.
-    Restart {
-        /// The session's number.
-        session: u64,
+        /// What it is told.
+        command: SessionCommand<A>,
     },
 }
 
@@ -146,16 +78,7 @@ impl<A: AllocHandle> Command<A> {
         ensures { result ≡ session_named self.now }
     {
         match self {
-            Command::DropSession { session }
-            | Command::Attach { session, .. }
-            | Command::AttachAll { session }
-            | Command::SetFilter { session, .. }
-            | Command::Enable { session, .. }
-            | Command::Indirect { session, .. }
-            | Command::IsEmpty { session }
-            | Command::Diff { session, .. }
-            | Command::Capture { session }
-            | Command::Restart { session } => Some(*session),
+            Command::Session { session, .. } => Some(*session),
             _ => None,
         }
     }

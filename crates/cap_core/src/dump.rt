@@ -39,8 +39,8 @@ impl<A: AllocHandle> Dump<A> {
         &self.snapshot
     }
 
-    /// The bytes of the changeset, with these key flags: a direct INSERT for each row that has a key, table by
-    /// table in the order of their names, as `cap_dump::dump_all` has them.
+    /// The bytes of the changeset, with these key flags: a direct INSERT for each row that has a key, table
+    /// by table in the order of their names, as `cap_dump::dump_all` has them.
     pub fn changeset_with(&self, alloc: A, key_flags: KeyFlags) -> Result<Vec<u8, A>, OutOfMemory>
         ensures { IfOk result (λ bytes. bytes.items ≡ dump_bytes key_flags self.now.database) }
     {

@@ -27,15 +27,17 @@ ghost use Rattle.cap_database.specs.Tables.{AreRising, EachRises, Tables};
 ghost use Rattle.cap_txn.specs.Batch.{BatchState, WhereSeen};
 ghost use Rattle.cap_txn.specs.Stale.{StandsFor};
 ghost use Rattle.cap_core.specs.declared.command.Command.{Command};
+ghost use Rattle.cap_core.specs.declared.session_command.SessionCommand.{SessionCommand};
+ghost use Rattle.cap_session.specs.declared.session_change.SessionChange.{SessionChange};
 ghost use Rattle.cap_core.specs.declared.event.Event.{Event};
 ghost use Rattle.cap_core.specs.declared.reply.Reply.{Reply};
-ghost use Rattle.cap_core.specs.Answer.{IsLegal, IsLegalPast, State, answer, event_by, history_of, reply_of};
-ghost use Rattle.cap_core.specs.Answer.{refusal, snapshot_of, state, state_after};
+ghost use Rattle.cap_core.specs.Answer.{IsLegal, IsLegalPast, State, answer, capture_after, event_by};
+ghost use Rattle.cap_core.specs.Answer.{history_of, refusal, reply_of, snapshot_of, state, state_after};
 ghost use Rattle.cap_core.specs.Capture.{CaptureState, change_now, session_changes};
 ghost use Rattle.cap_core.specs.Commit.{CommitsIfUnchanged};
 ghost use Rattle.cap_core.specs.AppliedCapture.{AppliesRows, AppliesWhole, AreQuiet, HoldsImages, IsDiffed};
 ghost use Rattle.cap_core.specs.AppliedCapture.{changes_in};
-ghost use Rattle.cap_core.specs.Flags.{is_quiet, live_sessions, session_named};
+ghost use Rattle.cap_core.specs.Flags.{command_to, is_quiet, live_sessions, session_named};
 ghost use Rattle.cap_core.specs.History.{event_effect, main, version};
 ghost use Rattle.cap_core.specs.Insert.{HasChange, IsInsertOfAbsent, changes_by_key};
 ghost use Rattle.cap_database.specs.Carried.{is_of_row};
@@ -97,10 +99,11 @@ pub fn untouched_captures_nothing<A: AllocHandle>()
 /// there is no such session.
 pub fn empty_without_touches<A: AllocHandle>()
     ensures live { (past : Past A) (session : ℕ) → list_any (nat_eq session) (live_sessions past) ≡ true
-        → answer (state_after past) (Command.IsEmpty session)
+        → answer (state_after past) (Command.Session session SessionCommand.IsEmpty)
         ≡ Reply.Flag (length (touches session past) == 0) }
     ensures none { (past : Past A) (session : ℕ) → list_any (nat_eq session) (live_sessions past) ≡ false
-        → answer (state_after past) (Command.IsEmpty session) ≡ refusal Refusal.NoSession }
+        → answer (state_after past) (Command.Session session SessionCommand.IsEmpty)
+        ≡ refusal Refusal.NoSession }
 {}
 
 /// After an accepted insert into a table that an enabled session has attached, or attaches by its rule, of a
@@ -158,20 +161,21 @@ pub fn database_rises<A: AllocHandle>(database: &Database<A>)
 pub fn a_capture_gives_the_rows_now<A: AllocHandle>()
     ensures changeset { (past : Past A) (session : ℕ) (capture : CaptureState A) (database : Tables A)
         (policy : Policy)
-        → answer (state_after past) (Command.Capture session) ≡ Reply.Capture capture → AreRising database
+        → capture_after past session ≡ Reply.Capture capture → AreRising database
         → BlobsFitPast past → HoldsImages database (main past) (session_of past session).tables
         → AppliesWhole policy (Contents.Changes capture.changes) (changes_in capture.changes) database
         (main past) (session_of past session).tables }
     ensures patchset { (past : Past A) (session : ℕ) (capture : CaptureState A) (database : Tables A)
         (policy : Policy)
-        → answer (state_after past) (Command.Capture session) ≡ Reply.Capture capture → AreRising database
+        → capture_after past session ≡ Reply.Capture capture → AreRising database
         → BlobsFitPast past → HoldsImages database (main past) (session_of past session).tables
         → AppliesWhole policy (Contents.Patches (patch_list_of capture.changes))
         (changes_in capture.changes) database (main past) (session_of past session).tables }
-    ensures restart { (past : Past A) (session : ℕ) → answer (state_after past) (Command.Restart session)
-        ≡ answer (state_after past) (Command.Capture session) }
+    ensures restart { (past : Past A) (session : ℕ)
+        → answer (state_after past) (Command.Session session (SessionCommand.Change SessionChange.Restart))
+        ≡ capture_after past session }
     ensures version { (past : Past A) (session : ℕ) (capture : CaptureState A)
-        → answer (state_after past) (Command.Capture session) ≡ Reply.Capture capture
+        → capture_after past session ≡ Reply.Capture capture
         → capture.version ≡ version past }
 {
     a_changeset_gives_the_rows_now::<A>();
@@ -194,14 +198,14 @@ pub fn a_capture_after_a_diff_gives_the_rows_now<A: AllocHandle>()
         (name : List ℕ) (database : Tables A) (table : TableState A) (capture : CaptureState A)
         (policy : Policy)
         → IsDiffed past event session name database table → AreQuiet session later → BlobsFitPast past
-        → answer (state_after (later ++ event ∷ past)) (Command.Capture session) ≡ Reply.Capture capture
+        → capture_after (later ++ event ∷ past) session ≡ Reply.Capture capture
         → AppliesRows policy (Contents.Changes capture.changes) (changes_in capture.changes) database
         (main (later ++ event ∷ past)) name }
     ensures patchset { (past : Past A) (event : Event A) (later : List (Event A)) (session : ℕ)
         (name : List ℕ) (database : Tables A) (table : TableState A) (capture : CaptureState A)
         (policy : Policy)
         → IsDiffed past event session name database table → AreQuiet session later → BlobsFitPast past
-        → answer (state_after (later ++ event ∷ past)) (Command.Capture session) ≡ Reply.Capture capture
+        → capture_after (later ++ event ∷ past) session ≡ Reply.Capture capture
         → AppliesRows policy (Contents.Patches (patch_list_of capture.changes))
         (changes_in capture.changes) database (main (later ++ event ∷ past)) name }
 {
@@ -219,14 +223,16 @@ pub fn a_capture_after_a_diff_gives_the_rows_now<A: AllocHandle>()
 pub fn captures_in_a_row_give_the_rows_now<A: AllocHandle>()
     ensures changesets { (policy : Policy) (session : ℕ) (start : Past A) (later : List (Event A))
         (event : Event A) (database : Tables A)
-        → touches session start ≡ [] → (is_accepted event.reply && restarts session event.command) ≡ true
+        → touches session start ≡ []
+        → (is_accepted event.reply && restarts (command_to session event.command)) ≡ true
         → IsSteady session (event ∷ later) start → HoldsFirst database session (event ∷ later) start
         → AreRising database → BlobsFitPast (event ∷ later ++ start)
         → (left : Tables A) × AppliesAll policy (captures session (event ∷ later) start) database left
         × HasRowsNow left session (event ∷ later) start }
     ensures patchsets { (policy : Policy) (session : ℕ) (start : Past A) (later : List (Event A))
         (event : Event A) (database : Tables A)
-        → touches session start ≡ [] → (is_accepted event.reply && restarts session event.command) ≡ true
+        → touches session start ≡ []
+        → (is_accepted event.reply && restarts (command_to session event.command)) ≡ true
         → IsSteady session (event ∷ later) start → HoldsFirst database session (event ∷ later) start
         → AreRising database → BlobsFitPast (event ∷ later ++ start)
         → (left : Tables A)
@@ -254,8 +260,7 @@ pub fn a_row_that_no_change_names_stays<A: AllocHandle>()
 pub fn a_session_changes_no_others_capture<A: AllocHandle>()
     ensures { (past : Past A) (event : Event A) (one : ℕ) (other : ℕ) → session_named event.command ≡ Some one
         → (other ≡ one → ⊥) → (later : List (Event A))
-        → answer (state_after (later ++ event ∷ past)) (Command.Capture other)
-        ≡ answer (state_after (later ++ past)) (Command.Capture other) }
+        → capture_after (later ++ event ∷ past) other ≡ capture_after (later ++ past) other }
 {}
 
 /// The order of two sessions' commands, one after the other, does not matter to any capture, whatever comes
@@ -264,8 +269,8 @@ pub fn order_of_two_sessions_does_not_matter<A: AllocHandle>()
     ensures { (past : Past A) (first : Event A) (second : Event A) (one : ℕ) (other : ℕ)
         → session_named first.command ≡ Some one → session_named second.command ≡ Some other
         → (one ≡ other → ⊥) → (later : List (Event A)) (session : ℕ)
-        → answer (state_after (later ++ second ∷ first ∷ past)) (Command.Capture session)
-        ≡ answer (state_after (later ++ first ∷ second ∷ past)) (Command.Capture session) }
+        → capture_after (later ++ second ∷ first ∷ past) session
+        ≡ capture_after (later ++ first ∷ second ∷ past) session }
 {}
 
 /// A history whose last event is taken off a legal one is legal, and that event has the reply to its command
@@ -305,7 +310,7 @@ pub fn rows_stand_under_own_keys<A: AllocHandle>()
 /// A capture has no group without changes.
 pub fn captures_have_no_empty_group<A: AllocHandle>()
     ensures { (past : Past A) (session : ℕ) (capture : CaptureState A)
-        → answer (state_after past) (Command.Capture session) ≡ Reply.Capture capture
+        → capture_after past session ≡ Reply.Capture capture
         → HasNoEmptyGroup (Contents.Changes capture.changes) }
 {}
 
@@ -317,18 +322,18 @@ pub fn captures_have_no_empty_group<A: AllocHandle>()
 pub fn bytes_of_a_capture_give_the_rows_now<A: AllocHandle>()
     ensures changeset_read { (past : Past A) (session : ℕ) (capture : CaptureState A)
         (key_flags : KeyFlags)
-        → answer (state_after past) (Command.Capture session) ≡ Reply.Capture capture
+        → capture_after past session ≡ Reply.Capture capture
         → IsWritable (Contents.Changes capture.changes)
         → blob_at (list_bytes_with key_flags capture.changes) ≡ Ok (Contents.Changes capture.changes) }
     ensures patchset_read { (past : Past A) (session : ℕ) (capture : CaptureState A)
         (key_flags : KeyFlags)
-        → answer (state_after past) (Command.Capture session) ≡ Reply.Capture capture
+        → capture_after past session ≡ Reply.Capture capture
         → IsWritable (Contents.Changes capture.changes)
         → blob_at (patch_list_bytes_with key_flags (patch_list_of capture.changes))
         ≡ Ok (of_patches (patch_list_of capture.changes)) }
     ensures changeset { (past : Past A) (session : ℕ) (capture : CaptureState A) (database : Tables A)
         (policy : Policy) (key_flags : KeyFlags) (blob : Contents A)
-        → answer (state_after past) (Command.Capture session) ≡ Reply.Capture capture
+        → capture_after past session ≡ Reply.Capture capture
         → IsWritable (Contents.Changes capture.changes) → AreRising database → BlobsFitPast past
         → HoldsImages database (main past) (session_of past session).tables
         → blob_at (list_bytes_with key_flags capture.changes) ≡ Ok blob
@@ -336,7 +341,7 @@ pub fn bytes_of_a_capture_give_the_rows_now<A: AllocHandle>()
         (session_of past session).tables }
     ensures patchset { (past : Past A) (session : ℕ) (capture : CaptureState A) (database : Tables A)
         (policy : Policy) (key_flags : KeyFlags) (blob : Contents A)
-        → answer (state_after past) (Command.Capture session) ≡ Reply.Capture capture
+        → capture_after past session ≡ Reply.Capture capture
         → IsWritable (Contents.Changes capture.changes) → AreRising database → BlobsFitPast past
         → HoldsImages database (main past) (session_of past session).tables
         → blob_at (patch_list_bytes_with key_flags (patch_list_of capture.changes)) ≡ Ok blob

@@ -2,16 +2,17 @@
 ghost use Rattle.std.specs.Prelude.{◌≡◌, is_some};
 ghost use Rattle.std.specs.List.{list_all};
 ghost use Rattle.std.specs.Result.{result_err};
-ghost use Rattle.cap_core.specs.Answer.{refused_quiet, snapshot_of};
+ghost use Rattle.cap_core.specs.Answer.{refused_quiet, session_reply, snapshot_of};
 ghost use Rattle.cap_core.specs.Diff.{diff};
-ghost use Rattle.cap_core.specs.RefusedFirst.{no_session, refused_batch, refused_first, whole};
+ghost use Rattle.cap_core.specs.RefusedFirst.{no_session, refusal_in, refused_batch, refused_first, whole};
 ghost use Rattle.cap_database.specs.Operation.{refused_step};
 ghost use Rattle.cap_database.specs.Tables.{refused_create};
+ghost use Rattle.cap_session.specs.Session.{SessionState};
 ghost use Rattle.cap_session.specs.Sessions.{session_numbered};
 ghost use Rattle.cap_txn.specs.Stale.{stale};
 
 use crate::server::has_room_for;
-use crate::{Command, Core, SESSIONS_MAX};
+use crate::{Command, Core, SESSIONS_MAX, SessionCommand};
 use cap_database::{Action, Database, Op, TABLES_MAX};
 use cap_session::Sessions;
 use cap_txn::Batch;
@@ -47,18 +48,22 @@ impl<A: AllocHandle> Core<A> {
                 }
                 Some((None, Refusal::TooMany))
             }
-            Command::Diff {
-                session,
-                from,
-                table,
-            } => match self.no_session(*session) {
+            Command::Session { session, command } => match self.no_session(*session) {
                 Some(why) => Some((None, why)),
-                None => whole(self.refused_diff(from, table)),
+                None => self.refused_session_command(command),
             },
-            _ => match command.session_named() {
-                Some(session) => whole(self.no_session(session)),
-                None => None,
-            },
+            _ => None,
+        }
+    }
+
+    // A command to a session that is live.
+    fn refused_session_command(&self, command: &SessionCommand<A>) -> Option<Why>
+        ensures { (session : SessionState A) → result
+            ≡ refusal_in (session_reply self.now command.now session) }
+    {
+        match command {
+            SessionCommand::Diff { from, table } => whole(self.refused_diff(from, table)),
+            _ => None,
         }
     }
 

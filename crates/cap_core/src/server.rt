@@ -1,10 +1,9 @@
 //! The sequential server, `Core`. No module may be named `core`.
-ghost use Rattle.std.specs.Prelude.{◌≡◌, ℕ, ◌<◌, ◌^◌, ◌≤◌, [], ◌∷◌, ◌++◌, List, None, Some, Ok, Err, IfOk, IfErr};
+ghost use Rattle.std.specs.Prelude.{◌≡◌, ℕ, ◌<◌, ◌^◌, ◌≤◌, [], ◌∷◌, ◌++◌, List, Some, Ok, Err, IfOk, IfErr};
 ghost use Rattle.std.specs.Prelude.{All, OnOk, OnErr, IsTrue, length};
 ghost use Rattle.cap_core.specs.declared.event.Event.{Event};
 ghost use Rattle.cap_core.specs.Answer.{State, state, reply_of, IsLegal, event_by, history_of, answer};
-ghost use Rattle.cap_core.specs.Answer.{drop_reply, has_room_for, own_answer, save_reply, snapshot_of};
-ghost use Rattle.cap_core.specs.Flags.{session_named};
+ghost use Rattle.cap_core.specs.Answer.{drop_reply, has_room_for, save_reply, snapshot_of};
 ghost use Rattle.cap_tree.specs.Tree.{put_entry, take_entry};
 ghost use Rattle.cap_value.specs.Bytes.{bytes_cmp};
 ghost use Rattle.cap_value.specs.Memory.{MatchFault};
@@ -12,7 +11,7 @@ ghost use Rattle.cap_core.specs.Code.CommandOutcome.{Reports};
 ghost use Rattle.cap_core.specs.Past.{HasRoom};
 ghost use Rattle.cap_core.specs.RefusedFirst.{RepliesFirst, refused_first};
 ghost use Rattle.cap_core.specs.Table.{BlobFits, BlobsFit};
-ghost use Rattle.cap_core.specs.Transition.{next, one_more, after_drop, after_save, own_next};
+ghost use Rattle.cap_core.specs.Transition.{next, one_more, after_drop, after_save};
 
 use crate::commit_hook::{ReplyHook, ask};
 use crate::names::names_of;
@@ -203,24 +202,6 @@ impl<A: AllocHandle> Core<A> {
         ensures { Reports C.gives (answer self.old command.now) (next self.old command.now)
             self.old self.new hook.old hook.new result }
     {
-        match command.session_named() {
-            Some(number) => self.session_command(number, command, hook),
-            None => self.own_command(command, hook),
-        }
-    }
-
-    // Carries out a command that is to no session.
-    fn own_command<C: CommitHook<A>>(
-        &mut self,
-        command: &Command<A>,
-        hook: &mut C,
-    ) -> Result<Reply<A>, Fault<C::Refusal>>
-        requires room { HasRoom self.old.events }
-        requires unnamed { session_named command.now ≡ None }
-        requires can_ask { C.can_ask hook.old (own_answer self.old command.now) }
-        ensures { Reports C.gives (own_answer self.old command.now) (own_next self.old command.now)
-            self.old self.new hook.old hook.new result }
-    {
         match command {
             Command::CreateTable { table, schema } => self.create_table(table, schema, hook),
             Command::Commit(batch) => self.commit(batch, hook),
@@ -246,7 +227,7 @@ impl<A: AllocHandle> Core<A> {
                 self.reply_only(Reply::Sessions(sessions), hook)
             }
             Command::NewSession => self.new_session(hook),
-            _ => unreachable!(),
+            Command::Session { session, command } => self.session_command(*session, command, hook),
         }
     }
 

@@ -1,28 +1,26 @@
 //! The commands on sessions. Each computes its reply and reserves all memory, asks the commit hook, and then
 //! changes the session in place.
-ghost use Rattle.std.specs.Prelude.{◌≡◌, ◌+◌, ◌∷◌, ◌++◌, [], is_some, IfOk, IsTrue};
-ghost use Rattle.cap_core.specs.Answer.{capture_reply, diffed, new_session_reply, session_answer};
-ghost use Rattle.cap_core.specs.Answer.{session_reply};
+ghost use Rattle.std.specs.Prelude.{◌≡◌, ◌+◌, ◌∷◌, ◌++◌, [], IfOk, IsTrue};
+ghost use Rattle.cap_core.specs.Answer.{capture_reply, change_reply, diffed, new_session_reply};
+ghost use Rattle.cap_core.specs.Answer.{session_answer, session_reply};
 ghost use Rattle.cap_core.specs.CanCapture.{session_stands};
 ghost use Rattle.cap_core.specs.Code.Sound.{differences_stand};
 ghost use Rattle.cap_core.specs.Code.CommandOutcome.{Reports};
 ghost use Rattle.cap_core.specs.Code.SessionChange.{changed_session};
 ghost use Rattle.cap_core.specs.Diff.{diff};
-ghost use Rattle.cap_core.specs.Flags.{session_named};
 ghost use Rattle.cap_core.specs.Past.{HasRoom};
 ghost use Rattle.cap_core.specs.Transition.{after_new_session, after_session, compared, one_more};
 ghost use Rattle.cap_core.specs.Transition.{session_left, with_sessions};
 ghost use Rattle.cap_session.specs.Recording.{record_diff};
-ghost use Rattle.cap_session.specs.Session.{attached, changed_by, new_session, set_filter};
+ghost use Rattle.cap_session.specs.Session.{attached, changed_by, new_session};
 ghost use Rattle.cap_session.specs.Sessions.{session_numbered, without_session};
 ghost use Rattle.cap_database.specs.Tables.{schema_of};
 
 use crate::commit_hook::{ReplyHook, ask};
 use crate::diff::differences;
-use crate::{Capture, Command, CommitHook, Core, Reply, SESSIONS_MAX};
+use crate::{Capture, CommitHook, Core, Reply, SESSIONS_MAX, SessionCommand};
 use cap_compare::Difference;
 use cap_database::Database;
-use cap_filter::TableFilter;
 use cap_session::{Session, SessionChange};
 use cap_value::{AllocHandle, Fault, Name, OutOfMemory, Refusal};
 
@@ -75,11 +73,10 @@ impl<A: AllocHandle> Core<A> {
     pub(crate) fn session_command<C: CommitHook<A>>(
         &mut self,
         number: u64,
-        command: &Command<A>,
+        command: &SessionCommand<A>,
         hook: &mut C,
     ) -> Result<Reply<A>, Fault<C::Refusal>>
         requires room { HasRoom self.old.events }
-        requires named { IsTrue (is_some (session_named command.now)) }
         requires can_ask { C.can_ask hook.old (session_answer
             (session_numbered self.old.sessions number) (session_reply self.old command.now)) }
         ensures { let session = session_numbered self.old.sessions number in
@@ -93,35 +90,37 @@ impl<A: AllocHandle> Core<A> {
             return self.reply_only(Reply::Refused { at: None, why }, hook);
         };
         match command {
-            Command::DropSession { .. } => self.drop_session(number, hook),
-            Command::Attach { table, .. } => self.attach(number, table, hook),
-            Command::AttachAll { .. } => {
-                self.change_session(number, SessionChange::AttachAll, Reply::Done, hook)
+            SessionCommand::Delete => self.drop_session(number, hook),
+            SessionCommand::Attach { table } => self.attach(number, table, hook),
+            SessionCommand::Change(change) => {
+                let reply = change_reply(change, self.version, session, &self.main)?;
+                self.change_session(number, copy_of(change)?, reply, hook)
             }
-            Command::SetFilter { filter, .. } => self.set_filter(number, filter, hook),
-            Command::Enable { enabled, .. } => {
-                let reply = Reply::Flag(enabled.unwrap_or(session.is_enabled()));
-                self.change_session(number, SessionChange::Enable(*enabled), reply, hook)
-            }
-            Command::Indirect { indirect, .. } => {
-                let reply = Reply::Flag(indirect.unwrap_or(session.is_indirect()));
-                self.change_session(number, SessionChange::Indirect(*indirect), reply, hook)
-            }
-            Command::IsEmpty { .. } => {
+            SessionCommand::IsEmpty => {
                 let empty = session.is_empty();
-                self.reply_only(Reply::Flag(empty), hook)
+                self.keep_session(number, Reply::Flag(empty), hook)
             }
-            Command::Diff { from, table, .. } => self.diff(number, from, table, hook),
-            Command::Capture { .. } => {
+            SessionCommand::Diff { from, table } => self.diff(number, from, table, hook),
+            SessionCommand::Capture => {
                 let reply = capture_reply(self.version, session, &self.main)?;
-                self.reply_only(reply, hook)
+                self.keep_session(number, reply, hook)
             }
-            Command::Restart { .. } => {
-                let reply = capture_reply(self.version, session, &self.main)?;
-                self.change_session(number, SessionChange::Restart, reply, hook)
-            }
-            _ => unreachable!(),
         }
+    }
+
+    // Leaves the session with this number as it is, and answers this.
+    fn keep_session<C: CommitHook<A>>(
+        &mut self,
+        number: u64,
+        reply: Reply<A>,
+        hook: &mut C,
+    ) -> Result<Reply<A>, Fault<C::Refusal>>
+        requires room { HasRoom self.old.events }
+        requires can_ask { C.can_ask hook.old reply }
+        ensures { Reports C.gives reply (changed_session self.old number (λ session. session))
+            self.old self.new hook.old hook.new result }
+    {
+        self.reply_only(reply, hook)
     }
 
     // Ends the session with this number.
@@ -163,22 +162,6 @@ impl<A: AllocHandle> Core<A> {
         Ok(reply)
     }
 
-    // Sets the filter of the session with this number.
-    fn set_filter<C: CommitHook<A>>(
-        &mut self,
-        number: u64,
-        filter: &TableFilter<A>,
-        hook: &mut C,
-    ) -> Result<Reply<A>, Fault<C::Refusal>>
-        requires room { HasRoom self.old.events }
-        requires can_ask { C.can_ask hook.old Reply.Done }
-        ensures { Reports C.gives Reply.Done (changed_session self.old number (set_filter filter.now))
-            self.old self.new hook.old hook.new result }
-    {
-        let filter = SessionChange::SetFilter(filter.copy()?);
-        self.change_session(number, filter, Reply::Done, hook)
-    }
-
     // Records the differences of a table from a saved one in the session with this number.
     fn diff<C: CommitHook<A>>(
         &mut self,
@@ -196,8 +179,11 @@ impl<A: AllocHandle> Core<A> {
     {
         match differences(self.alloc, &self.main, &self.saved, from, name) {
             Ok(Some(found)) => self.record_found(number, name, &found, hook),
-            Ok(None) => self.reply_only(Reply::Done, hook),
-            Err(Fault::Refused(why)) => self.reply_only(Reply::Refused { at: None, why }, hook),
+            Ok(None) => self.keep_session(number, Reply::Done, hook),
+            Err(Fault::Refused(why)) => {
+                let reply = Reply::Refused { at: None, why };
+                self.keep_session(number, reply, hook)
+            }
             Err(Fault::OutOfMemory) => Err(Fault::OutOfMemory),
         }
     }
@@ -242,6 +228,37 @@ impl<A: AllocHandle> Core<A> {
         self.sessions.change(number, change);
         self.events += 1;
         Ok(reply)
+    }
+}
+
+// A copy of a change.
+fn copy_of<A: AllocHandle>(change: &SessionChange<A>) -> Result<SessionChange<A>, OutOfMemory>
+    ensures { IfOk result (λ copy. copy ≡ change.now) }
+{
+    Ok(match change {
+        SessionChange::AttachAll => SessionChange::AttachAll,
+        SessionChange::SetFilter(filter) => SessionChange::SetFilter(filter.copy()?),
+        SessionChange::Enable(enabled) => SessionChange::Enable(*enabled),
+        SessionChange::Indirect(indirect) => SessionChange::Indirect(*indirect),
+        SessionChange::Restart => SessionChange::Restart,
+    })
+}
+
+// The reply to a change of a session.
+fn change_reply<A: AllocHandle>(
+    change: &SessionChange<A>,
+    version: u64,
+    session: &Session<A>,
+    main: &Database<A>,
+) -> Result<Reply<A>, OutOfMemory>
+    requires { IsTrue (session_stands main.now session.now) }
+    ensures { IfOk result (λ reply. reply ≡ change_reply change.now version main.now session.now) }
+{
+    match change {
+        SessionChange::Enable(asked) => Ok(Reply::Flag(asked.unwrap_or(session.is_enabled()))),
+        SessionChange::Indirect(asked) => Ok(Reply::Flag(asked.unwrap_or(session.is_indirect()))),
+        SessionChange::Restart => capture_reply(version, session, main),
+        SessionChange::AttachAll | SessionChange::SetFilter(_) => Ok(Reply::Done),
     }
 }
 

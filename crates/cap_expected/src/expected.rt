@@ -84,7 +84,7 @@ fn list_first_words<A: AllocHandle>(
 ) -> Result<(), OutOfMemory>
     ensures { OnOk result (string_bytes out.new ≡ string_bytes out.old ++ first_words A before.now) }
 {
-    let words: [&str; 38] = COMMAND_WORDS;
+    let words = COMMAND_WORDS;
     list_among(alloc, before, words.as_slice(), out)
 }
 

@@ -30,7 +30,7 @@ module _ {A X : Type 0} (key : List Bool → X → Fields A) (combine : List Boo
   -- ---- changes whose keys rise
 
   -- each change under its key
-  abbrev under_keys : List Bool → List X → List (Fields A × X)
+  abbrev pub under_keys : List Bool → List X → List (Fields A × X)
   under_keys flags xs = map (λ x. (key flags x, x)) xs
 
   each_more : (k : Fields A) (es : List (Fields A × X)) (e : Fields A × X) → Each fields_cmp Greater k es → fields_cmp k e.0 ≡ Greater → Each fields_cmp Greater k (es ++ e ∷ [])
@@ -38,10 +38,10 @@ module _ {A X : Type 0} (key : List Bool → X → Fields A) (combine : List Boo
   each_more k (f ∷ es) e h g = (h.0, each_more k es e h.1 g)
 
   -- the changes that are left are behind the entries
-  abbrev Behind : List Bool → List (Fields A × X) → List X → Type 0
+  abbrev pub Behind : List Bool → List (Fields A × X) → List X → Type 0
   Behind flags es xs = AllByRecursion (λ x. Each fields_cmp Greater (key flags x) es) xs
 
-  behind_nil : (flags : List Bool) (xs : List X) → Behind flags [] xs
+  pub behind_nil : (flags : List Bool) (xs : List X) → Behind flags [] xs
   behind_nil flags [] = tt
   behind_nil flags (x ∷ xs) = (tt, behind_nil flags xs)
 
@@ -59,7 +59,7 @@ module _ {A X : Type 0} (key : List Bool → X → Fields A) (combine : List Boo
       let all : set_change es k (change_after combine flags (get fields_cmp es k) x) ≡ es ++ (k, x) ∷ [] = ap (λ o. set_change es k (change_after combine flags o x)) none ∙ put in
       λ i. record { table = table; schema = flags; changes = all i }
 
-  rising : (table : List ℕ) (flags : List Bool) (xs : List X) (es : List (Fields A × X)) → Behind flags es xs → IsStrictlySortedBy fields_cmp (map (key flags) xs) →
+  pub rising : (table : List ℕ) (flags : List Bool) (xs : List X) (es : List (Fields A × X)) → Behind flags es xs → IsStrictlySortedBy fields_cmp (map (key flags) xs) →
       with_changes key combine (record { table = table; schema = flags; changes = es }) xs ≡ record { table = table; schema = flags; changes = es ++ under_keys flags xs }
   unfolding IsStrictlySortedBy
   rising table flags [] es past s = λ i. record { table = table; schema = flags; changes = sym (append-nil es) i }

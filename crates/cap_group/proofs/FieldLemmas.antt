@@ -1,6 +1,5 @@
 -- Two records of one row, field by field, by the bytes of their fields.
-use Rattle.std.proofs.Common.{◌≡◌, ℕ, ◌+◌, ◌<◌, ◌≤◌, List, [], ◌∷◌, ◌++◌, Bool, true, false, not, ◌&&◌, ◌||◌, cond, length, drop, get_or, Option, Some, None, IfSome, refl, sym, ap, subst, ◌∙◌, append_assoc, append-nil}
-use Rattle.std.proofs.lemmas.Bool.Decides.{same_from_decides}
+use Rattle.std.proofs.Common.{◌≡◌, ℕ, ◌+◌, ◌<◌, ◌≤◌, List, [], ◌∷◌, ◌++◌, Bool, true, false, not, ◌&&◌, ◌||◌, cond, length, drop, get_or, Option, Some, None, IfSome, refl, sym, ap, ◌∙◌}
 use Rattle.cap_value.specs.Bytes.{bytes_eq}
 use Rattle.cap_value.specs.declared.value.Value.{Value}
 use Rattle.cap_value.specs.declared.value.Value.TheVariants.{Null, Int, Text, Blob}
@@ -10,14 +9,10 @@ use Rattle.cap_changes.specs.Field.{record_bytes, field_bytes}
 use Rattle.cap_changes.specs.FieldRecord.{RecordFields}
 use Rattle.cap_changes.specs.Record.{BeginsWithField}
 use Rattle.cap_changes.proofs.PassLemmas.{flags-cons, flags-past}
-use Rattle.cap_changes.proofs.PutLemmas.{put_all}
-use Rattle.cap_changes.proofs.TouchedLemmas.{eq_by_bytes}
+use Rattle.cap_changes.proofs.PutLemmas.{goes_on, put_all}
+use Rattle.cap_changes.proofs.TouchedLemmas.{choose, eq_by_bytes}
+use Rattle.cap_changes.proofs.WholeLemmas.{undefined}
 use Rattle.cap_group.specs.Record as together
-
--- a piece is put, and this is left
-put_on : {X : Type 0} (out out' piece rest whole all : List X) → out' ≡ out ++ piece → whole ≡ piece ++ rest → out ++ whole ≡ all → out' ++ rest ≡ all
-put_on {X} out out' piece rest whole all put parts so_far =
-    ap (λ (l : List X). l ++ rest) put ∙ append_assoc out piece rest ∙ sym (ap (λ (l : List X). out ++ l) parts) ∙ so_far
 
 -- a key field, or one that is not the same
 either : (key same : Bool) → (key || not same) ≡ (key || (not key && not same))
@@ -37,16 +32,6 @@ module _ {A : Type 0} where
   field_eq_bytes (Some (Text t)) None p q = refl
   field_eq_bytes (Some (Blob t)) None p q = refl
   field_eq_bytes (Some b) (Some a) p q = sym (eq_by_bytes b a p q)
-
-  not_undefined : (v : Value A) → bytes_eq (field_bytes (Some v)) (0 ∷ []) ≡ true → ⊥
-  not_undefined Null e = cc
-  not_undefined (Int n) e = cc
-  not_undefined (Text t) e = cc
-  not_undefined (Blob t) e = cc
-
-  undefined : (a : (Option (Value A))) (bytes : List ℕ) → bytes ≡ field_bytes a → bytes_eq bytes (0 ∷ []) ≡ true → a ≡ None
-  undefined None bytes is same = refl
-  undefined (Some v) bytes is same = absurd (not_undefined v (ap (λ (l : List ℕ). bytes_eq l (0 ∷ [])) (sym is) ∙ same))
 
   -- the next field of a record over another
   pub over_begins : (below belows above aboves : RecordFields A) (b a : List ℕ) → BeginsWithField below b belows → BeginsWithField above a aboves →
@@ -86,36 +71,14 @@ module _ {A : Type 0} where
         → ((b a : (Option (Value A))) → IfSome b IsValue → IfSome a IsValue → was ≡ field_bytes b → is ≡ field_bytes a → piece ≡ field_bytes (f (get_or flags i false) b a))
         → out' ≡ out ++ piece → out ++ record_bytes (by_column f (drop i flags) before after) ≡ all → out' ++ record_bytes (by_column f (drop (i + 1) flags) befores afters) ≡ all
     column_put flags i before befores after afters was is piece out out' all lt (b, parts, spelled, fits) (a, parts', spelled', fits') made put so_far =
-        put_on out out' piece (record_bytes (by_column f (drop (i + 1) flags) befores afters)) (record_bytes (by_column f (drop i flags) before after)) all put
-        (rw (flags-cons flags i lt, parts, parts') (ap (λ (l : List ℕ). l ++ record_bytes (by_column f (drop (i + 1) flags) befores afters)) (sym (made b a fits fits' spelled spelled')))) so_far
-
-    no_before : (flags : List Bool) (after : RecordFields A) → by_column f flags [] after ≡ []
-    no_before [] after = refl
-    no_before (key ∷ flags) after = refl
-
-    no_after : (flags : List Bool) (before : RecordFields A) → by_column f flags before [] ≡ []
-    no_after [] before = refl
-    no_after (key ∷ flags) [] = refl
-    no_after (key ∷ flags) (b ∷ before) = refl
+        goes_on f flags i before after befores afters b a out out' all lt so_far parts parts' (put ∙ ap (λ (l : List ℕ). out ++ l) (made b a fits fits' spelled spelled'))
 
     -- no column is left
-    pub before_ends : (flags : List Bool) (before after : RecordFields A) (out all : List ℕ) → before ≡ [] → out ++ record_bytes (by_column f flags before after) ≡ all → out ≡ all
-    before_ends flags before after out all none so_far =
-        put_all out _ all (ap (λ (b : RecordFields A). record_bytes (by_column f flags b after)) none ∙ ap record_bytes (no_before flags after)) so_far
-
-    pub after_ends : (flags : List Bool) (before after : RecordFields A) (out all : List ℕ) → after ≡ [] → out ++ record_bytes (by_column f flags before after) ≡ all → out ≡ all
-    after_ends flags before after out all none so_far =
-        put_all out _ all (ap (λ (a : RecordFields A). record_bytes (by_column f flags before a)) none ∙ ap record_bytes (no_after flags before)) so_far
-
     pub columns_end : (flags : List Bool) (i : ℕ) (before after : RecordFields A) (out all : List ℕ) → length flags ≤ i → out ++ record_bytes (by_column f (drop i flags) before after) ≡ all → out ≡ all
     columns_end flags i before after out all le so_far =
         put_all out _ all (ap (λ (l : List Bool). record_bytes (by_column f l before after)) (flags-past flags i le)) so_far
 
   -- the old and the new field of a column
-  choose : (t : Bool) (b : (Option (Value A))) → cond t (field_bytes b) (0 ∷ []) ≡ field_bytes (cond t b None)
-  choose true b = refl
-  choose false b = refl
-
   modified_is : (key : Bool) (b a : (Option (Value A))) → IfSome b IsValue → IfSome a IsValue → (not key && not (bytes_eq (field_bytes b) (field_bytes a))) ≡ together.is_modified key b a
   modified_is key b a p q = ap (λ (t : Bool). not key && not t) (field_eq_bytes b a p q)
 

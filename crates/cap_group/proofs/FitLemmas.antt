@@ -1,6 +1,6 @@
 -- What two changes of one row are together fits their table.
-use Rattle.std.proofs.Common.{◌≡◌, List, [], ◌∷◌, Bool, true, false, not, ◌&&◌, Option, Some, None, is_some, is_none, cond, refl, subst, sym}
-use Rattle.std.specs.Prelude.{IfOk, IfSome, IsTrue, Result, Ok, Err}
+use Rattle.std.proofs.Common.{◌≡◌, List, [], ◌∷◌, Bool, true, false, not, ◌&&◌, Option, Some, None, is_some, is_none, cond, refl}
+use Rattle.std.specs.Prelude.{IfSome, IsTrue}
 use Rattle.std.proofs.lemmas.Bool.{and_parts, and_from}
 use Rattle.cap_value.specs.declared.value.Value.{Value}
 use Rattle.cap_value.specs.Value.{value_eq}
@@ -14,12 +14,13 @@ use Rattle.cap_changes.specs.declared.patch.Patch.{Patch}
 use Rattle.cap_changes.specs.declared.patch.Patch.TheVariants as patched
 use Rattle.cap_changes.specs.declared.field_requirement.FieldRequirement.TheVariants as required
 use Rattle.cap_changes.specs.declared.record_kind.RecordKind.TheVariants as record_kinds
+use Rattle.cap_changes.proofs.FitLemmas.{full_keyed}
 use Rattle.cap_group.specs.Record.{field_over, record_over, old_field, new_field, differ, update_between}
 use Rattle.cap_group.specs.Combined.{combined, patches_combined}
 
-if_some : {X : Type 0} (b : Bool) (x : X) (fits : X → Bool) → fits x ≡ true → IfSome (cond b (Some x) None) (λ one. IsTrue (fits one))
-if_some true x fits h = h
-if_some false x fits h = tt
+pub if_some : {X : Type 0} (P : X → Type 0) (b : Bool) (x : X) → P x → IfSome (cond b (Some x) None) P
+if_some P true x p = p
+if_some P false x p = tt
 
 module _ {A : Type 0} where
   -- a key field over a key field
@@ -61,16 +62,6 @@ module _ {A : Type 0} where
       and_from (satisfies required.Key (field_over below above)) _ (key_over below above parts.0 others.0) (keyed_over flags belows aboves parts.1 others.1)
   keyed_over (false ∷ flags) (below ∷ belows) (above ∷ aboves) met met' = keyed_over flags belows aboves met met'
 
-  full_is_keyed : (flags : List Bool) (fields : RecordFields A) → satisfy (requirements record_kinds.Full flags) fields ≡ true → satisfy (requirements record_kinds.Keyed flags) fields ≡ true
-  full_is_keyed [] [] met = refl
-  full_is_keyed [] (field ∷ fields) met = cc
-  full_is_keyed (key ∷ flags) [] met = cc
-  full_is_keyed (true ∷ flags) (field ∷ fields) met =
-      let parts = and_parts (satisfies required.Key field) (satisfy (requirements record_kinds.Full flags) fields) met in
-      and_from (satisfies required.Key field) _ parts.0 (full_is_keyed flags fields parts.1)
-  full_is_keyed (false ∷ flags) (field ∷ fields) met =
-      full_is_keyed flags fields (and_parts (is_some field) (satisfy (requirements record_kinds.Full flags) fields) met).1
-
   -- the new record of an UPDATE over a row
   none_over : (below above : Option (Value A)) → is_none above ≡ true → satisfies required.Key below ≡ true → satisfies required.Key (field_over below above) ≡ true
   none_over below None none met = met
@@ -96,14 +87,14 @@ module _ {A : Type 0} where
       and_from (is_some (field_over below above)) _ (defined_over below above parts.0) (new_over flags belows old aboves parts.1 met' news.1)
 
   -- defined in both or in neither
-  abbrev alike : Option (Value A) → Option (Value A) → Bool
+  abbrev pub alike : Option (Value A) → Option (Value A) → Bool
   alike None None = true
   alike None (Some after) = false
   alike (Some before) None = false
   alike (Some before) (Some after) = true
 
   -- the records of two states of a row: the first has the key fields, and outside the key both have the same fields
-  abbrev are_alike : List Bool → RecordFields A → RecordFields A → Bool
+  abbrev pub are_alike : List Bool → RecordFields A → RecordFields A → Bool
   are_alike [] [] [] = true
   are_alike [] [] (after ∷ afters) = false
   are_alike [] (before ∷ befores) afters = false
@@ -117,7 +108,7 @@ module _ {A : Type 0} where
   alike_defined (Some before) None met met' = cc
   alike_defined (Some before) (Some after) met met' = refl
 
-  rows_alike : (flags : List Bool) (befores afters : RecordFields A) → satisfy (requirements record_kinds.Full flags) befores ≡ true → satisfy (requirements record_kinds.Full flags) afters ≡ true →
+  pub rows_alike : (flags : List Bool) (befores afters : RecordFields A) → satisfy (requirements record_kinds.Full flags) befores ≡ true → satisfy (requirements record_kinds.Full flags) afters ≡ true →
       are_alike flags befores afters ≡ true
   rows_alike [] [] [] met met' = refl
   rows_alike [] [] (after ∷ afters) met met' = cc
@@ -146,7 +137,7 @@ module _ {A : Type 0} where
   over_alike (Some a) (Some b) (Some c) None met met' = cc
   over_alike (Some a) (Some b) (Some c) (Some d) met met' = refl
 
-  updates_alike : (flags : List Bool) (old new old' new' : RecordFields A) → satisfy (requirements record_kinds.Keyed flags) old ≡ true → satisfy (new_requirements flags old) new ≡ true →
+  pub updates_alike : (flags : List Bool) (old new old' new' : RecordFields A) → satisfy (requirements record_kinds.Keyed flags) old ≡ true → satisfy (new_requirements flags old) new ≡ true →
       satisfy (requirements record_kinds.Keyed flags) old' ≡ true → satisfy (new_requirements flags old') new' ≡ true →
       are_alike flags (record_over old' old) (record_over new new') ≡ true
   updates_alike [] [] [] [] [] met new_met met' new_met' = refl
@@ -207,7 +198,7 @@ module _ {A : Type 0} where
   update_between-fits : (flags : List Bool) (indirect : Bool) (befores afters : RecordFields A) → are_alike flags befores afters ≡ true →
       IfSome (update_between flags indirect befores afters) (λ one. IsTrue (change_fits flags one))
   update_between-fits flags indirect befores afters h =
-      if_some (differ flags befores afters) _ (change_fits flags)
+      if_some (λ one. IsTrue (change_fits flags one)) (differ flags befores afters) _
       (and_from (satisfy (requirements record_kinds.Keyed flags) (by_column old_field flags befores afters)) _ (old_fits flags befores afters h) (new_fits flags befores afters h))
 
   pub combined-fits : (flags : List Bool) (present added : RowChange A) → change_fits flags present ≡ true → change_fits flags added ≡ true →
@@ -237,12 +228,6 @@ module _ {A : Type 0} where
   patches_combined-fits flags (patched.Update indirect new) (patched.Insert indirect' new') fit fit' = fit
   patches_combined-fits flags (patched.Update indirect new) (patched.Update indirect' new') fit fit' = keyed_over flags new new' fit fit'
   patches_combined-fits flags (patched.Update indirect new) (patched.Delete indirect' key') fit fit' = fit'
-  patches_combined-fits flags (patched.Delete indirect key) (patched.Insert indirect' new') fit fit' = full_is_keyed flags new' fit'
+  patches_combined-fits flags (patched.Delete indirect key) (patched.Insert indirect' new') fit fit' = full_keyed flags new' fit'
   patches_combined-fits flags (patched.Delete indirect key) (patched.Update indirect' new') fit fit' = fit
   patches_combined-fits flags (patched.Delete indirect key) (patched.Delete indirect' key') fit fit' = fit
-
--- what a call made fits, where what it should make does
-pub made-fits : {X E : Type 0} (result : Result (Option X) E) (should : Option X) (fits : X → Bool) → IfOk result (λ made. made ≡ should) → IfSome should (λ one. IsTrue (fits one)) →
-    IfOk result (λ made. IfSome made (λ one. IsTrue (fits one)))
-made-fits (Ok made) should fits is h = subst (λ (o : Option _). IfSome o (λ one. IsTrue (fits one))) (sym is) h
-made-fits (Err e) should fits is h = tt

@@ -1,23 +1,17 @@
 -- Changes and groups that are added, one more at a time.
-use Rattle.std.proofs.Common.{◌≡◌, ℕ, suc, ◌+◌, arith, ◌<◌, List, [], ◌∷◌, ◌++◌, length, take, drop, get_or, set, cond, Bool, true, false, Ok, Err, Result, drop-cons, refl, ap, sym, subst, ◌∙◌}
+use Rattle.std.proofs.Common.{◌≡◌, ℕ, ◌+◌, arith, ◌<◌, List, [], ◌∷◌, ◌++◌, length, take, drop, get_or, set, cond, Bool, true, false, Ok, Err, Result, refl, ap, sym, ◌∙◌}
 use Rattle.std.specs.Prelude.{Option, Some, None, map, not, ◌==◌}
 use Rattle.std.proofs.lemmas.List.{map-append}
 use Rattle.std.proofs.lemmas.Bool.Decides.{nat_tests}
 use Rattle.std.specs.Option.{unwrap_or}
-use Rattle.std.specs.List.{AllByRecursion}
-use Rattle.std.specs.declared.cmp.Ordering.TheVariants.{Less, Equal, Greater}
-use Rattle.std.specs.Ordering.{match_ordering}
-use Rattle.std.specs.BTreeMap.{is_at}
 use Rattle.std.proofs.lemmas.List.{take_more}
-use Rattle.std.proofs.lemmas.List.Sums.{fold-append}
 use Rattle.cap_value.specs.declared.memory.Fault.{Fault}
 use Rattle.cap_value.specs.declared.memory.Fault.TheVariants.{Refused, OutOfMemory}
 use Rattle.cap_value.specs.Memory.{LeavesUnlessMemory, RefusesUnlessMemory}
 use Rattle.cap_row.specs.Fields.{Fields}
-use Rattle.cap_row.specs.Key.{fields_cmp}
 use Rattle.cap_row.specs.Schema.{flags_eq}
-use Rattle.cap_tree.specs.Tree.{get, put_entry, take_entry}
 use Rattle.cap_changes.specs.Entries.{TableEntries}
+use Rattle.cap_changes.proofs.LeftLemmas.{drop_here}
 use Rattle.cap_codec.specs.Writable.{has_some}
 use Rattle.cap_group.specs.KeyedChanges.{KeyedChanges, entries_of, no_changes, table_at, with_change, with_changes, with_table}
 use Rattle.cap_group.specs.ChangeGroup.{GroupContent, added, all_added, and_then, groups_of, with_group, with_groups}
@@ -25,15 +19,10 @@ use Rattle.cap_group.specs.declared.refusal.GroupRefusal.{GroupRefusal}
 use Rattle.cap_group.specs.declared.refusal.GroupRefusal.TheVariants.{OtherColumns}
 use Rattle.cap_codec.specs.declared.read.Contents.{Contents}
 
-pub rest : {X : Type 0} (xs : List X) (i : ℕ) (x : X) → i < length xs → x ≡ get_or xs i x → drop i xs ≡ x ∷ drop (i + 1) xs
-rest xs i x within is =
-    let n : suc i ≡ i + 1 = omega arith in
-    drop-cons xs i x within ∙ (λ k. sym is k ∷ drop (n k) xs)
-
 module _ {A X : Type 0} (key : List Bool → X → Fields A) (combine : List Bool → X → X → Option X) where
   module _ (i : ℕ) (tables : List (KeyedChanges A X)) (groups : List (TableEntries X)) (group : TableEntries X) (within : i < length groups) (is : group ≡ get_or groups i group) where
     at_group : with_groups key combine i tables (drop i groups) ≡ with_groups key combine i tables (group ∷ drop (i + 1) groups)
-    at_group = ap (with_groups key combine i tables) (rest groups i group within is)
+    at_group = ap (with_groups key combine i tables) (drop_here groups i group within is)
 
     pub group_more : (next : List (KeyedChanges A X)) → has_some group.changes ≡ true → with_group key combine i tables group ≡ Ok next →
         with_groups key combine i tables (drop i groups) ≡ with_groups key combine (i + 1) next (drop (i + 1) groups)
@@ -56,7 +45,7 @@ module _ {A X : Type 0} (key : List Bool → X → Fields A) (combine : List Boo
 
 module _ {A : Type 0} (i : ℕ) (group : GroupContent A) (blobs : List (Contents A)) (blob : Contents A) (within : i < length blobs) (is : blob ≡ get_or blobs i blob) where
   at_blob : all_added group (drop i blobs) ≡ all_added group (blob ∷ drop (i + 1) blobs)
-  at_blob = ap (all_added group) (rest blobs i blob within is)
+  at_blob = ap (all_added group) (drop_here blobs i blob within is)
 
   pub blob_more : (next : GroupContent A) → added group blob ≡ Ok next → all_added group (drop i blobs) ≡ all_added next (drop (i + 1) blobs)
   blob_more next made = at_blob ∙ ap (λ (r : Result (GroupContent A) GroupRefusal). and_then r (λ more. all_added more (drop (i + 1) blobs))) made

@@ -13,6 +13,7 @@ use Rattle.cap_changes.specs.FieldRecord.{RecordFields}
 use Rattle.cap_changes.specs.declared.row_change.RowChange.{RowChange}
 use Rattle.cap_changes.specs.declared.row_change.RowChange.TheVariants.{Insert, Update, Delete}
 use Rattle.std.specs.Option.{ForSome}
+use Rattle.cap_changes.proofs.ChangeLemmas.{same_first}
 use Rattle.cap_group.specs.Combined.{combined}
 use Rattle.cap_group.specs.Rows.{Follow, IsRowUnder, is_indirect, together}
 use Rattle.cap_group.specs.KeyedChanges.{change_after}
@@ -77,9 +78,6 @@ module _ {A : Type 0} where
   under_same a b false p = refl
 
   -- ---- rows
-
-  same_first : {a b : Value A} {xs ys : Fields A} → (a ∷ xs) ≡ (b ∷ ys) → (a ≡ b) × (xs ≡ ys)
-  same_first e = (cc, cc)
 
   -- an UPDATE over a row
   pub insert_update : (flags : List Bool) (row now : Fields A) → length row ≡ length flags → length now ≡ length flags → key_fields flags row ≡ key_fields flags now →

@@ -1,10 +1,10 @@
-pub mod ColumnLemmas
 pub mod FitLemmas
 pub mod GroupLemmas
 pub mod TableLemmas
 pub mod JoinLemmas
 pub mod RowLemmas
 pub mod AloneLemmas
+pub mod AgainLemmas
 pub mod BytesLemmas
 pub mod SameLemmas
 pub mod SortLemmas

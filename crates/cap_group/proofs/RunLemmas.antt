@@ -1,8 +1,8 @@
 -- Changes in the order of their keys, put row by row.
-use Rattle.std.proofs.Common.{◌≡◌, ℕ, suc, ◌+◌, ◌-◌, ◌<◌, ◌≤◌, Bool, true, false, List, [], ◌∷◌, ◌++◌, length, map, drop, get_or, Option, Some, None, refl, ap, sym, subst, ◌∙◌, append-nil, arith}
+use Rattle.std.proofs.Common.{◌≡◌, ℕ, ◌+◌, ◌-◌, ◌<◌, ◌≤◌, Bool, true, false, List, [], ◌∷◌, ◌++◌, length, map, drop, get_or, Option, Some, None, refl, ap, sym, ◌∙◌, append-nil, arith}
 use Rattle.std.specs.Option.{option_to_list}
 use Rattle.std.specs.List.Sorted.{IsSorted}
-use Rattle.std.specs.Ordering.{is_lt, match_ordering, ordering_reverse}
+use Rattle.std.specs.Ordering.{is_lt, ordering_reverse}
 use Rattle.std.specs.declared.cmp.Ordering.{Ordering}
 use Rattle.std.specs.declared.cmp.Ordering.TheVariants.{Less, Equal, Greater}
 use Rattle.std.specs.Cmp.{tied_itself}
@@ -10,17 +10,16 @@ use Rattle.std.specs.Ordering.{is_eq}
 use Rattle.std.proofs.lemmas.List.{drop_all, get_or_default}
 use Rattle.cap_row.specs.Fields.{Fields}
 use Rattle.cap_row.specs.Key.{fields_cmp, fields_cmp_total, fields_cmp-Equal}
-use Rattle.cap_tree.specs.Tree.{get, put_entry, take_entry}
+use Rattle.cap_tree.specs.Tree.{get}
 use Rattle.cap_tree.proofs.EntryLemmas.{Each, get-past, put_entry-past, take_entry-past, reversed}
-use Rattle.cap_changes.specs.Entries.{TableEntries}
+use Rattle.cap_changes.proofs.LeftLemmas.{drop_here}
 use Rattle.cap_group.specs.KeyedChanges.{KeyedChanges, change_after, entries_of, no_changes, set_change, with_change, with_changes}
 use Rattle.cap_group.specs.Place.{Place, place_cmp, place_eq}
-use Rattle.cap_group.proofs.GroupLemmas.{rest}
 
 less : (i : ℕ) → (i + 1) - 1 ≡ i
 less i = omega arith
 
-is_Equal : (r : Ordering) → is_eq r ≡ true → r ≡ Equal
+pub is_Equal : (r : Ordering) → is_eq r ≡ true → r ≡ Equal
 is_Equal Less is = cc
 is_Equal Equal is = refl
 is_Equal Greater is = cc
@@ -101,7 +100,7 @@ module _ {A X : Type 0} (key : List Bool → X → Fields A) (combine : List Boo
         with_changes key combine (keyed (es ++ at_key k o)) (map (λ (q : Place A X). q.change) (drop i all))
         ≡ with_changes key combine (keyed (es ++ at_key k (change_after combine flags o p.change))) (map (λ (q : Place A X). q.change) (drop (i + 1) all))
     step i p es k o within is past own =
-        ap (λ (l : List (Place A X)). with_changes key combine (keyed (es ++ at_key k o)) (map (λ (q : Place A X). q.change) l)) (rest all i p within is)
+        ap (λ (l : List (Place A X)). with_changes key combine (keyed (es ++ at_key k o)) (map (λ (q : Place A X). q.change) l)) (drop_here all i p within is)
         ∙ ap (λ (t : KeyedChanges A X). with_changes key combine t (map (λ (q : Place A X). q.change) (drop (i + 1) all))) (at_end es k o p.change past own)
 
     -- the first change

@@ -1,5 +1,5 @@
 -- Entries in order under which each key finds the same are the same.
-use Rattle.std.proofs.Common.{◌≡◌, cond, List, [], ◌∷◌, Bool, true, T, refl, ap, sym, subst, ◌∙◌}
+use Rattle.std.proofs.Common.{◌≡◌, cond, List, [], ◌∷◌, true, T, refl, ap, sym, subst, ◌∙◌}
 use Rattle.std.specs.declared.cmp.Ordering.{Ordering}
 use Rattle.std.specs.declared.cmp.Ordering.TheVariants.{Less, Equal}
 use Rattle.std.specs.Cmp.{IsTotalOrder}

@@ -77,12 +77,12 @@ module _ {A X : Type 0} (key : List Bool → X → Fields A) where
       ∙ ap (changes_of_row key flags q) (places_back flags (x ∷ xs))
 
   module _ (combine : List Bool → X → X → Option X) where
-    all_ordered : (changes : List X) (keyed : KeyedChanges A X) → IsOrdered fields_cmp keyed.changes → IsOrdered fields_cmp (with_changes key combine keyed changes).changes
+    pub all_ordered : (changes : List X) (keyed : KeyedChanges A X) → IsOrdered fields_cmp keyed.changes → IsOrdered fields_cmp (with_changes key combine keyed changes).changes
     all_ordered [] keyed s = s
     all_ordered (x ∷ xs) keyed s =
         all_ordered xs (with_change key combine keyed x) (set_ordered keyed.changes s (key keyed.schema x) (change_after combine keyed.schema (get fields_cmp keyed.changes (key keyed.schema x)) x))
 
-    kept_names : (table : List ℕ) (flags : List Bool) (changes : List X) (es : List (Fields A × X)) →
+    pub kept_names : (table : List ℕ) (flags : List Bool) (changes : List X) (es : List (Fields A × X)) →
         with_changes key combine (record { table = table; schema = flags; changes = es }) changes
         ≡ record { table = table; schema = flags; changes = (with_changes key combine (record { table = table; schema = flags; changes = es }) changes).changes }
     kept_names table flags [] es = refl

@@ -1,8 +1,7 @@
 -- What the changes of one row are together, by its bytes.
-use Rattle.std.proofs.Common.{◌≡◌, ℕ, Bool, true, false, cond, List, [], ◌∷◌, ◌++◌, Option, Some, None, is_some, IfSome, IsTrue, refl, sym, ap, subst, ◌∙◌, append-nil}
+use Rattle.std.proofs.Common.{◌≡◌, ℕ, Bool, true, false, cond, List, Option, Some, None, is_some, IfSome, IsTrue, sym, ◌∙◌, append-nil}
 use Rattle.std.specs.List.{flat_map}
 use Rattle.std.specs.Option.{option_to_list}
-use Rattle.cap_changes.specs.Entries.{TableEntries}
 use Rattle.cap_changes.specs.Stored.{IsEntry}
 use Rattle.cap_group.specs.Place.{RowSoFar}
 

@@ -15,7 +15,7 @@ use Rattle.cap_changes.specs.declared.patch.Patch.TheVariants as patched
 use Rattle.cap_changes.proofs.ValueLemmas.{each_of, values_of}
 use Rattle.cap_group.specs.Record.{differ, field_over, is_modified, new_field, old_field, record_over, update_between}
 use Rattle.cap_group.specs.Combined.{combined, patches_combined}
-use Rattle.cap_group.proofs.FitLemmas.{combined-fits, patches_combined-fits}
+use Rattle.cap_group.proofs.FitLemmas.{combined-fits, if_some, patches_combined-fits}
 
 pub any_ok : {X E : Type 0} (r : Result X E) (P : Type 0) → P → IfOk r (λ x. P)
 any_ok (Ok x) P p = p
@@ -59,10 +59,7 @@ module _ {A : Type 0} where
 
   between_values : (flags : List Bool) (indirect : Bool) (before after : RecordFields A) → AreValues before → AreValues after → IfSome (update_between flags indirect before after) HasValues
   between_values flags indirect before after p q =
-      elim (differ flags before after) as (λ b. IfSome (cond b (Some (changed.Update indirect (by_column old_field flags before after) (by_column new_field flags before after))) None) HasValues) [
-        | true ↦ (values_of _ (old_each flags before after (each_of before p)), values_of _ (new_each flags before after (each_of after q)))
-        | false ↦ tt
-      ]
+      if_some HasValues (differ flags before after) _ (values_of _ (old_each flags before after (each_of before p)), values_of _ (new_each flags before after (each_of after q)))
 
   combined_values : (flags : List Bool) (present added : RowChange A) → HasValues present → HasValues added → IfSome (combined flags present added) HasValues
   combined_values flags (changed.Insert indirect new) (changed.Insert indirect' new') p q = p

@@ -1,6 +1,7 @@
 -- What becomes of two changes of one row, the present one and one that is added (The Session Extension,
 -- "sqlite3changegroup_add"). What they make together is indirect only where both are.
-use Rattle.std.specs.Prelude.{Bool, List, Option, Some, None, ◌&&◌}
+use Rattle.std.specs.Prelude.{◌≡◌, Bool, List, Option, Some, None, IsTrue, ◌&&◌}
+use Rattle.cap_row.specs.Fields.{Fields}
 use Rattle.cap_changes.specs.declared.row_change.RowChange.{RowChange}
 use Rattle.cap_changes.specs.declared.row_change.RowChange.TheVariants as changed
 use Rattle.cap_changes.specs.declared.patch.Patch.{Patch}
@@ -47,3 +48,11 @@ module _ {A : Type 0} where
       Some (patched.Delete indirect key)
   patches_combined (patched.Delete indirect key) (patched.Delete indirect' key') =
       Some (patched.Delete indirect key)
+
+-- What two changes of one row become fits the table that both fit, and is of that row.
+abbrev pub KeepsKey : {A X : Type 0} → (List Bool → X → Bool) → (List Bool → X → Fields A) →
+    (List Bool → X → X → Option X) → Type 0
+KeepsKey {X = X} fits key combine = (flags : List Bool) (present added change : X) →
+    IsTrue (fits flags present) → IsTrue (fits flags added) → key flags added ≡ key flags present →
+    combine flags present added ≡ Some change →
+    IsTrue (fits flags change) × (key flags change ≡ key flags present)

@@ -15,12 +15,15 @@ ghost use Rattle.cap_group.specs.ChangeGroup.{empty_group, has_changes, refused_
 ghost use Rattle.cap_group.specs.Bytes.{bytes_added, contents_at};
 
 use crate::combine::Combine;
-use crate::tables::{add_groups, groups_of};
+use crate::tables::{add_groups, count_of, groups_of, merge_each};
 use crate::{BlobRefusal, GroupRefusal};
 use cap_changes::{ChangeList, Patch, PatchList, RowChange, TableGroup};
 use cap_codec::{Contents, KeyFlags, read_blob, write_changes_with, write_patches_with};
 use cap_value::{AllocHandle, Fault, OutOfMemory};
 use std::marker::Model;
+
+// Changes are made one for each row where they are more than this and twice what they were.
+const MERGE_ABOVE: usize = 1_000;
 
 /// The changes of several blobs together, one for each row (The Session Extension, "sqlite3changegroup").
 ///
@@ -31,6 +34,8 @@ pub struct ChangeGroup<A: AllocHandle> {
     // The changes of the blobs, one after the other.
     changes: Vec<TableGroup<RowChange<A>, A>, A>,
     patches: Vec<TableGroup<Patch<A>, A>, A>,
+    // How many there were when they were last made one for each row, or after the first blob.
+    merged: usize,
 }
 
 impl<A: AllocHandle> Model for ChangeGroup<A> {
@@ -55,6 +60,7 @@ impl<A: AllocHandle> Drop for ChangeGroup<A> {
             alloc: _,
             changes: _,
             patches: _,
+            merged: _,
         } = self;
     }
 }
@@ -68,6 +74,7 @@ impl<A: AllocHandle> ChangeGroup<A> {
             alloc,
             changes: Vec::new(alloc),
             patches: Vec::new(alloc),
+            merged: 0,
         }
     }
 
@@ -85,10 +92,27 @@ impl<A: AllocHandle> ChangeGroup<A> {
         if self.refuses_kind_of(blob) {
             return Err(Fault::Refused(GroupRefusal::OtherKind));
         }
+        self.merge()?;
         match blob {
             Contents::Changes(list) => self.add_changes(list),
             Contents::Patches(list) => self.add_patches(list),
         }
+    }
+
+    // Makes the changes one for each row where they have become many.
+    fn merge(&mut self) -> Result<(), OutOfMemory>
+        ensures { self.new ≡ self.old }
+    {
+        let count = count_of(&self.changes).wrapping_add(count_of(&self.patches));
+        if self.merged != 0 {
+            if count <= self.merged.saturating_mul(2).saturating_add(MERGE_ABOVE) {
+                return Ok(());
+            }
+            merge_each(self.alloc, &mut self.changes)?;
+            merge_each(self.alloc, &mut self.patches)?;
+        }
+        self.merged = count_of(&self.changes).wrapping_add(count_of(&self.patches));
+        Ok(())
     }
 
     fn add_changes(&mut self, list: &ChangeList<A>) -> Result<(), Fault<GroupRefusal>>

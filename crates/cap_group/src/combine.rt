@@ -5,6 +5,7 @@ ghost use Rattle.std.specs.Option.{option_to_list};
 ghost use Rattle.cap_row.specs.Fields.{Fields};
 ghost use Rattle.cap_changes.specs.Stored.{IsEntry};
 ghost use Rattle.cap_group.specs.ChangeKey.{key_values};
+ghost use Rattle.cap_group.specs.Combined.{KeepsKey};
 
 use cap_changes::{Entry, EntryRef, RecordRef};
 use cap_value::{AllocHandle, OutOfMemory};
@@ -39,6 +40,10 @@ pub(crate) trait Combine<A: AllocHandle>: Entry {
         // It fits the table that both fit, and its fields are values.
         ensures fits { IfOk result (λ some. IfSome (combined flags.now present.now added.now)
             (λ change. IsTrue (Self.fits_in flags.now change) × Self.has_values change)) };
+
+    // A law: what two changes of one row become is of that row. Does nothing at run time.
+    fn keeps_key()
+        ensures { KeepsKey Self.fits_in key combined };
 
     // The bytes of a change that fits are of just this one.
     ghost stored_again: { (flags : List Bool) (change : Self) (bytes : List ℕ) →

@@ -41,6 +41,8 @@ impl<A: AllocHandle> Combine<A> for RowChange<A> {
         push_together(out, flags, present.read(), added.read())
     }
 
+    fn keeps_key() {}
+
     ghost stored_again = { λ flags change bytes fits values spelled.
         change_entry flags change bytes fits values spelled };
 }

@@ -41,6 +41,8 @@ impl<A: AllocHandle> Combine<A> for Patch<A> {
         push_together(out, present.read(), added.read())
     }
 
+    fn keeps_key() {}
+
     ghost stored_again = { λ flags change bytes fits values spelled.
         patch_entry flags change bytes fits values spelled };
 }

@@ -1,7 +1,7 @@
 //! The changes of a group, one for each row.
 ghost use Rattle.std.specs.Prelude.{◌≡◌, ◌++◌, [], All, IfOk, OnOk, map};
 ghost use Rattle.std.specs.List.Sorted.{IsSorted};
-ghost use Rattle.cap_group.specs.KeyedChanges.{entries_of, no_changes, with_changes};
+ghost use Rattle.cap_group.specs.KeyedChanges.{entries_of, keyed_of, no_changes, with_changes};
 ghost use Rattle.cap_group.specs.Place.{IsPlace, place_cmp};
 
 use crate::combine::Combine;
@@ -15,9 +15,12 @@ pub(crate) fn one_each<C: Combine<A> + Drop, A: AllocHandle>(
     alloc: A,
     group: &TableGroup<C, A>,
 ) -> Result<TableGroup<C, A>, OutOfMemory>
-    ensures { IfOk result (λ made. made ≡ entries_of (with_changes C.key C.combined
+    ensures made { IfOk result (λ made. made ≡ entries_of (with_changes C.key C.combined
         (no_changes group.now.table group.now.schema) group.now.changes)) }
+    ensures again { IfOk result (λ made. keyed_of C.key C.combined made ≡ keyed_of C.key C.combined group.now) }
 {
+    // For the proof: what changes of one row become is of that row.
+    C::keeps_key();
     let mut places = places_of(alloc, group)?;
     places.sort()?;
     let mut made = TableGroup::new(alloc, group.table().copy()?, group.schema().copy()?);

@@ -208,3 +208,25 @@ pub(crate) fn groups_of<C: Combine<A> + Drop, A: AllocHandle>(
     }
     Ok(list)
 }
+
+// How many changes there are. No proof rests on it.
+pub(crate) fn count_of<C: Combine<A> + Drop, A: AllocHandle>(tables: &[TableGroup<C, A>]) -> usize {
+    let mut count = 0usize;
+    for table in tables {
+        count = count.wrapping_add(table.changes().len());
+    }
+    count
+}
+
+// Makes the changes of each table one for each row.
+pub(crate) fn merge_each<C: Combine<A> + Drop, A: AllocHandle>(
+    alloc: A,
+    tables: &mut [TableGroup<C, A>],
+) -> Result<(), OutOfMemory>
+    ensures { map (keyed_of C.key C.combined) tables.new ≡ map (keyed_of C.key C.combined) tables.old }
+{
+    for number in 0..tables.len() {
+        tables[number] = one_each(alloc, &tables[number])?;
+    }
+    Ok(())
+}

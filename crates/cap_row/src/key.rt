@@ -1,5 +1,5 @@
 //! Primary keys.
-ghost use Rattle.std.specs.Prelude.{◌≡◌, ◌≤◌, ◌<◌, ◌↔◌, List, ℕ, length, IfOk, IfSome, IsTrue, slice_get};
+ghost use Rattle.std.specs.Prelude.{◌≡◌, ◌∷◌, [], ◌≤◌, ◌<◌, ◌↔◌, List, ℕ, length, IfOk, IfSome, IsTrue, slice_get};
 ghost use Rattle.std.specs.Option.{option_copied};
 ghost use Rattle.cap_value.specs.Value.{IsValue};
 ghost use Rattle.cap_row.specs.Key.{key_from, key_fields, key_of, fields_cmp, is_key};
@@ -84,6 +84,19 @@ impl<A: AllocHandle> Key<A> {
             })),
             Err(_) => Err(OutOfMemory),
         }
+    }
+
+    /// The key of one value, or none where it is NULL. Takes no memory.
+    #[inline(always)]
+    pub fn of_one(value: Value<A>) -> Option<Self>
+        ensures { result ≡ key_from (value ∷ []) }
+    {
+        if value.is_null() {
+            return None;
+        }
+        Some(Key {
+            values: Values::One(value),
+        })
     }
 
     fn of_value(mut values: KeyValues<A>) -> Self

@@ -49,8 +49,8 @@ impl<A: AllocHandle> RowBuilder<A> {
         }
     }
 
-    // No values, with memory for so many bytes.
-    pub(crate) fn with_room(alloc: A, room: usize) -> Result<Self, OutOfMemory>
+    /// No values, with memory for so many bytes.
+    pub fn with_room(alloc: A, room: usize) -> Result<Self, OutOfMemory>
         ensures { IfOk result (λ builder. builder ≡ []) }
     {
         Ok(RowBuilder {

@@ -32,9 +32,9 @@ impl<'a, A: AllocHandle> Model for RowFields<'a, A> {
 }
 
 impl<'a, A: AllocHandle> RowFields<'a, A> {
-    // The values of these bytes.
+    /// The values of these bytes.
     #[inline(always)]
-    pub(crate) fn of(bytes: &'a [u8]) -> Self
+    pub fn of(bytes: &'a [u8]) -> Self
         requires { Encodes {A = A} bytes.now (fields_of bytes.now) }
         ensures { result ≡ fields_of bytes.now }
     {

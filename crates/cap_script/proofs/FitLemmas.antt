@@ -8,9 +8,11 @@ use Rattle.cap_value.specs.Bytes.{AreBytes, bytes_eq}
 use Rattle.cap_value.specs.declared.refusal.Refusal.TheVariants.{TooLong}
 use Rattle.cap_database.specs.declared.cause.Cause.TheVariants.{Direct}
 use Rattle.cap_database.specs.declared.op.Op.{Op}
+use Rattle.cap_session.specs.declared.session_change.SessionChange.{SessionChange}
 use Rattle.cap_codec.specs.BlobReading.{blob_at}
 use Rattle.cap_codec.specs.Spelling.{Spells as SpellsBlob}
 use Rattle.cap_field.specs.declared.fault.BlobFault.{BlobFault}
+use Rattle.cap_codec.specs.declared.key_flags.KeyFlags.{KeyFlags}
 use Rattle.cap_codec.specs.declared.read.Contents.{Contents}
 use Rattle.cap_codec.specs.declared.read.Contents.TheVariants.{Changes, Patches}
 use Rattle.cap_changes.specs.Entries.{IsFitting}
@@ -20,11 +22,12 @@ use Rattle.cap_filter.specs.Rule.{Rule}
 use Rattle.cap_apply.specs.Fitting.{FitsItsColumns}
 use Rattle.cap_apply.specs.declared.policy.Policy.{Policy}
 use Rattle.cap_core.specs.declared.command.Command.TheVariants.{Apply}
+use Rattle.cap_core.specs.declared.session_command.SessionCommand.{SessionCommand}
 use Rattle.cap_core.specs.Table.{BlobFits}
 use Rattle.cap_language.specs.Forms.{Words, a_blob, behind, either, one_of}
-use Rattle.cap_language.specs.Grammar.{Grammar, Spells, exceeds, unfit}
+use Rattle.cap_language.specs.Grammar.{Grammar, Spells, done, exceeds, unfit}
 use Rattle.cap_language.specs.Tokens.{Begins, Blob, Integer, Text, Token, Word}
-use Rattle.cap_script.specs.Language.{Filtered, Opening, alone, application, apply_each, apply_quiet, applying, attach, called, cascaded, changeset, command, commands, commit, commit_at, contents, contents_of, create, delete, diff, drop_database, dump, each_conflict, enable, ending, filter_behind, get, indirect, insert, numbered, opening, patchset, put, restart, rollback, save, scan, update, with_alone, with_numbered}
+use Rattle.cap_script.specs.Language.{Filtered, Opening, alone, application, apply_each, apply_quiet, applying, attach, called, capturing, captured, cascaded, command, commands, commit, commit_at, contents, contents_of, create, delete, diff, drop_database, dump, each_conflict, ending, filter_behind, flagged, from_diff, from_dump, get, insert, numbered, numbering, opening, put, rollback, save, scan, setting, update, with_words}
 use Rattle.cap_script.specs.Script.{Closes, LineSpelled, LinesSpelled, ScriptSpelled, SpellsLine, SpellsScript, filtered_command}
 use Rattle.cap_script.specs.declared.command.Filtering.{Filtering}
 use Rattle.cap_script.specs.declared.command.Filtering.TheVariants.{Application, EachConflict, Session}
@@ -32,6 +35,7 @@ use Rattle.cap_script.specs.declared.command.Spelled.{Spelled}
 use Rattle.cap_script.specs.declared.command.Spelled.TheVariants.{Filter, Whole}
 use Rattle.cap_script.specs.declared.line.Detail.{Detail}
 use Rattle.cap_script.specs.declared.line.Line.{Line}
+use Rattle.cap_script.specs.declared.line.Show.{Show}
 
 -- all that the grammar makes
 abbrev Makes : {X : Type 0} → (X → Type 0) → Grammar X → Type 0
@@ -132,29 +136,15 @@ module _ {A : Type 0} (fit : (blob : Contents A) (bytes : List ℕ) → SpellsBl
   unfolding attach
   attach-fits x line rest (session, a, p, (table, b, q, e)) = subst Fits (sym e.0) tt
 
-  enable-fits : Makes Fits enable
-  unfolding enable
-  enable-fits x line rest (session, a, p, (asked, b, q, e)) = subst Fits (sym e.0) tt
-
-  indirect-fits : Makes Fits indirect
-  unfolding indirect
-  indirect-fits x line rest (session, a, p, (asked, b, q, e)) = subst Fits (sym e.0) tt
+  setting-fits : (change_to : Option Bool → SessionChange A) → Makes Fits (setting change_to)
+  setting-fits change_to x line rest (asked, a, p, e) = subst Fits (sym e.0) tt
 
   diff-fits : Makes Fits diff
   unfolding diff
   diff-fits x line rest (session, a, p, (from, b, q, (table, c, r, e))) = subst Fits (sym e.0) tt
 
-  changeset-fits : Makes Fits changeset
-  unfolding changeset
-  changeset-fits x line rest (session, a, p, (flags, b, q, e)) = subst Fits (sym e.0) tt
-
-  patchset-fits : Makes Fits patchset
-  unfolding patchset
-  patchset-fits x line rest (session, a, p, (flags, b, q, e)) = subst Fits (sym e.0) tt
-
-  restart-fits : Makes Fits restart
-  unfolding restart
-  restart-fits x line rest (session, a, p, (flags, b, q, e)) = subst Fits (sym e.0) tt
+  capturing-fits : (what : SessionCommand A × (KeyFlags → Show A)) → Makes Fits (capturing what)
+  capturing-fits what x line rest (flags, a, p, e) = subst Fits (sym e.0) tt
 
   dump-fits : Makes Fits dump
   unfolding dump
@@ -198,14 +188,18 @@ module _ {A : Type 0} (fit : (blob : Contents A) (bytes : List ℕ) → SpellsBl
   said-fits (Filter (Application blob policy quiet detail)) is = cc
   said-fits _ is = tt
 
-  numbered-fit : (words : List (List ℕ × (ℕ → Spelled A))) (others : Words (Spelled A)) → ((session : ℕ) → list_all (λ word. has_no_blob (word.1 session)) words ≡ true) → AreFit others → AreFit (with_numbered words others)
+  words-fit : {X : Type 0} (grammar : X → Grammar (Spelled A)) → ((x : X) → Makes Fits (grammar x)) → (words : List (List ℕ × X)) (others : Words (Spelled A)) → AreFit others → AreFit (with_words grammar words others)
+  words-fit grammar fits [] others all = all
+  words-fit grammar fits ((w, x) ∷ words) others all = (fits x, words-fit grammar fits words others all)
+
+  numbered-fit : (words : List (List ℕ × (ℕ → Spelled A))) (others : Words (Spelled A)) → ((session : ℕ) → list_all (λ word. has_no_blob (word.1 session)) words ≡ true) → AreFit others → AreFit (with_words numbering words others)
   numbered-fit [] others none all = all
   numbered-fit ((w, of_session) ∷ words) others none all = (
     (λ x line rest (session, a, p, e). subst Fits (sym e.0) (said-fits (of_session session) (first_passes (has_no_blob (of_session session)) _ (none session)))),
     numbered-fit words others (λ session. others_pass (has_no_blob (of_session session)) _ (none session)) all,
   )
 
-  alone-fit : (words : List (List ℕ × Spelled A)) (others : Words (Spelled A)) → list_all (λ word. has_no_blob word.1) words ≡ true → AreFit others → AreFit (with_alone words others)
+  alone-fit : (words : List (List ℕ × Spelled A)) (others : Words (Spelled A)) → list_all (λ word. has_no_blob word.1) words ≡ true → AreFit others → AreFit (with_words done words others)
   alone-fit [] others none all = all
   alone-fit ((w, said) ∷ words) others none all = (
     (λ x line rest e. subst Fits (sym e.0) (said-fits said (first_passes (has_no_blob said) _ none))),
@@ -235,35 +229,17 @@ module _ {A : Type 0} (fit : (blob : Contents A) (bytes : List ℕ) → SpellsBl
                       drop_database-fits,
                       (
                         attach-fits,
-                        (
-                          enable-fits,
-                          (
-                            indirect-fits,
+                        words-fit setting setting-fits flagged from_diff (
+                          diff-fits,
+                          words-fit capturing capturing-fits captured from_dump (
+                            dump-fits,
                             (
-                              diff-fits,
+                              called-fits (insert Direct),
                               (
-                                changeset-fits,
+                                called-fits (update Direct),
                                 (
-                                  patchset-fits,
-                                  (
-                                    restart-fits,
-                                    (
-                                      dump-fits,
-                                      (
-                                        called-fits (insert Direct),
-                                        (
-                                          called-fits (update Direct),
-                                          (
-                                            called-fits (delete Direct),
-                                            (
-                                              called-fits cascaded,
-                                              (rollback-fits, (put-fits, numbered-fit numbered (with_alone alone []) (λ _. refl) (alone-fit alone [] refl tt))),
-                                            ),
-                                          ),
-                                        ),
-                                      ),
-                                    ),
-                                  ),
+                                  called-fits (delete Direct),
+                                  (called-fits cascaded, (rollback-fits, (put-fits, numbered-fit numbered (with_words done alone []) (λ _. refl) (alone-fit alone [] refl tt)))),
                                 ),
                               ),
                             ),

@@ -17,6 +17,7 @@ use Rattle.cap_codec.specs.declared.key_flags.KeyFlags.{KeyFlags}
 use Rattle.cap_codec.specs.declared.key_flags.KeyFlags.TheVariants.{Ones, Places}
 use Rattle.cap_codec.specs.declared.read.Contents.{Contents}
 use Rattle.cap_codec.specs.declared.read.Contents.TheVariants.{Changes}
+use Rattle.cap_session.specs.declared.session_change.SessionChange.{SessionChange}
 use Rattle.cap_filter.specs.Printed.{quote}
 use Rattle.cap_apply.specs.declared.policy.Answer.{Answer}
 use Rattle.cap_apply.specs.declared.policy.Answer.TheVariants.{Omit, Replace, Abort}
@@ -24,11 +25,13 @@ use Rattle.cap_apply.specs.declared.policy.Policy.{Policy}
 use Rattle.cap_txn.specs.declared.look.Asked.TheVariants as asked
 use Rattle.cap_core.specs.declared.command.Command.{Command}
 use Rattle.cap_core.specs.declared.command.Command.TheVariants as made
+use Rattle.cap_core.specs.declared.session_command.SessionCommand.{SessionCommand}
+use Rattle.cap_core.specs.declared.session_command.SessionCommand.TheVariants as told
 use Rattle.cap_language.specs.Forms.{Words, a_blob, a_word, either, keyword, name, natural, one_of, separated, sign, value, values}
 use Rattle.cap_language.specs.Grammar.{Grammar, done, exceeds, follows, next, read, read_at, unfit}
 use Rattle.cap_language.specs.Tokens.{Blob, Word}
 use Rattle.cap_language.proofs.FormLaws.{eats_keyword, form_keyword, form_name, form_natural, form_value, form_values, goes_44, goes_59}
-use Rattle.cap_script.specs.Language.{alone, answer, application, apply_each, apply_quiet, applying, attach, back, batch, called, cascaded, changeset, columns, commands, commit, commit_at, contents, contents_of, create, delete, diff, drop_database, dump, each_conflict, enable, field, fields, filter_behind, flag, flags_in, get, indirect, insert, key_flags, nth_operation, numbered, numbers, operation, operations, patchset, policy, put, report, restart, rollback, row, row_of, save, scan, schema, spelled_step, update, with_alone, with_numbered}
+use Rattle.cap_script.specs.Language.{alone, answer, application, apply_each, apply_quiet, applying, attach, back, batch, called, captured, capturing, cascaded, columns, commands, commit, commit_at, contents, contents_of, create, delete, diff, drop_database, dump, each_conflict, field, fields, filter_behind, flag, flagged, flags_in, from_diff, from_dump, get, insert, key_flags, nth_operation, numbered, numbering, numbers, operation, operations, policy, put, report, rollback, row, row_of, save, scan, schema, session_flag, session_key_flags, setting, spelled_step, update, with_words}
 use Rattle.cap_script.specs.declared.command.Spelled.{Spelled}
 use Rattle.cap_script.specs.declared.command.Spelled.TheVariants.{Filter, Whole}
 use Rattle.cap_script.specs.declared.line.Detail.{Detail}
@@ -38,7 +41,7 @@ use Rattle.cap_script.specs.declared.line.Show.TheVariants as show
 use Rattle.cap_script.specs.declared.step.Step.{Step}
 use Rattle.cap_script.specs.declared.step.Step.TheVariants as step
 use Rattle.cap_language.proofs.OpenGrammars.{AreOpen, Form, Last, blob_token, eats_follows, eats_map, eats_next, finish_full, form_both, form_map, form_next, form_separated, form_sign, kind_done, kind_either, kind_exceeds, kind_no_blob, kind_one_of, kind_unfit, kind_within, last_both, last_end, last_form, last_map, last_next, last_or, open_limit, sample_fits, sample_then, word_token}
-use Rattle.cap_language.proofs.OpenLaws.{Nothing, Nothings, Open, OpenKind, Tail, Tails, nothing_tail, open_done, open_next, same_tail}
+use Rattle.cap_language.proofs.OpenLaws.{Nothing, Nothings, Open, OpenKind, Tail, Tails, nothing_tail, nothing_tails, open_done, open_next, same_tail}
 
 -- ---- columns and flags
 
@@ -85,6 +88,21 @@ form_places = form_map (keyword (codes "places")) (λ u. Places) (form_keyword 1
 last_key_flags : Last Nothings key_flags
 unfolding key_flags
 last_key_flags = last_end Ones (follows (keyword (codes "places")) (λ u. done Places)) form_places (eats_map (keyword (codes "places")) (λ u. Places) (eats_keyword (codes "places")))
+
+-- ---- what is read of a session
+
+abbrev pair : {X : Type 0} → ℕ → X → ℕ × X
+pair session x = (session, x)
+
+form_session_flag : Form session_flag
+unfolding session_flag
+form_session_flag = form_both natural (λ session. follows flag (λ asked. done (pair session asked))) form_natural (λ session. form_map flag (pair session) form_flag)
+
+last_session_key_flags : Last Nothings session_key_flags
+unfolding session_key_flags
+last_session_key_flags =
+    last_both Nothings nothing_tails natural (λ session. follows key_flags (λ flags. done (pair session flags))) form_natural
+    (λ session. last_map Nothings key_flags (pair session) last_key_flags)
 
 -- ---- how an application ends
 
@@ -259,6 +277,9 @@ module _ {A : Type 0} where
   abbrev plainly : Command A → Spelled A
   plainly command = Whole command show.Plain
 
+  abbrev told_plainly : ℕ → SessionCommand A → Spelled A
+  told_plainly session command = plainly (made.Session session command)
+
   open_create : Open Closing (read (create {A = A}))
   unfolding create
   open_create =
@@ -316,52 +337,28 @@ module _ {A : Type 0} where
   unfolding drop_database
   open_drop_database = closing (follows name (λ database. done (plainly (made.DropDatabase database)))) (form_map name (λ database. plainly (made.DropDatabase database)) form_name)
 
-  open_session : (f : ℕ → Spelled A) → Open Closing (read (follows natural (λ session. done (f session))))
-  open_session f = closing (follows natural (λ session. done (f session))) (form_map natural f form_natural)
+  open_numbered : (f : ℕ → Spelled A) → Open Closing (read (numbering f))
+  open_numbered f = closing (numbering f) (form_map natural f form_natural)
 
   open_attach : Open Closing (read (attach {A = A}))
   unfolding attach
   open_attach =
-      closing (follows natural (λ session. follows name (λ table. done (plainly (made.Attach session table)))))
-      (form_both natural (λ session. follows name (λ table. done (plainly (made.Attach session table)))) form_natural (λ session. form_map name (λ table. plainly (made.Attach session table)) form_name))
+      closing (follows natural (λ session. follows name (λ table. done (told_plainly session (told.Attach table)))))
+      (form_both natural (λ session. follows name (λ table. done (told_plainly session (told.Attach table)))) form_natural (λ session. form_map name (λ table. told_plainly session (told.Attach table)) form_name))
 
-  open_enable : Open Closing (read (enable {A = A}))
-  unfolding enable
-  open_enable =
-      closing (follows natural (λ session. follows flag (λ asked. done (plainly (made.Enable session asked)))))
-      (form_both natural (λ session. follows flag (λ asked. done (plainly (made.Enable session asked)))) form_natural (λ session. form_map flag (λ asked. plainly (made.Enable session asked)) form_flag))
-
-  open_indirect : Open Closing (read (indirect {A = A}))
-  unfolding indirect
-  open_indirect =
-      closing (follows natural (λ session. follows flag (λ asked. done (plainly (made.Indirect session asked)))))
-      (form_both natural (λ session. follows flag (λ asked. done (plainly (made.Indirect session asked)))) form_natural (λ session. form_map flag (λ asked. plainly (made.Indirect session asked)) form_flag))
+  open_setting : (change_to : Option Bool → SessionChange A) → Open Closing (read (setting change_to))
+  open_setting change_to = closing (setting change_to) (form_map session_flag (λ (session, asked). told_plainly session (told.Change (change_to asked))) form_session_flag)
 
   open_diff : Open Closing (read (diff {A = A}))
   unfolding diff
   open_diff =
-      closing (follows natural (λ session. follows name (λ from. follows name (λ table. done (plainly (made.Diff session from table))))))
-      (form_both natural (λ session. follows name (λ from. follows name (λ table. done (plainly (made.Diff session from table))))) form_natural
-      (λ session. form_both name (λ from. follows name (λ table. done (plainly (made.Diff session from table)))) form_name (λ from. form_map name (λ table. plainly (made.Diff session from table)) form_name)))
+      closing (follows natural (λ session. follows name (λ from. follows name (λ table. done (told_plainly session (told.Diff from table))))))
+      (form_both natural (λ session. follows name (λ from. follows name (λ table. done (told_plainly session (told.Diff from table))))) form_natural
+      (λ session. form_both name (λ from. follows name (λ table. done (told_plainly session (told.Diff from table)))) form_name (λ from. form_map name (λ table. told_plainly session (told.Diff from table)) form_name)))
 
-  -- a capture, and how its key flags are written
-  open_capture : (command : ℕ → Command A) (shown : KeyFlags → Show A) → Open Closing (read (follows natural (λ session. follows key_flags (λ flags. done (Whole (command session) (shown flags))))))
-  open_capture command shown =
-      let last = last_both Closing closing_tail natural (λ session. follows key_flags (λ flags. done (Whole (command session) (shown flags)))) form_natural
-      (λ session. last_map Closing key_flags (λ flags. Whole (command session) (shown flags)) last_key_flags) in
-      last.inner
-
-  open_changeset : Open Closing (read (changeset {A = A}))
-  unfolding changeset
-  open_changeset = open_capture made.Capture show.Changeset
-
-  open_patchset : Open Closing (read (patchset {A = A}))
-  unfolding patchset
-  open_patchset = open_capture made.Capture show.Patchset
-
-  open_restart : Open Closing (read (restart {A = A}))
-  unfolding restart
-  open_restart = open_capture made.Restart show.Changeset
+  open_capturing : (what : SessionCommand A × (KeyFlags → Show A)) → Open Closing (read (capturing what))
+  open_capturing (command, shown) =
+      let last = last_map Closing session_key_flags (λ (session, flags). Whole (made.Session session command) (shown flags)) last_session_key_flags in last.inner
 
   open_dump : Open Closing (read (dump {A = A}))
   unfolding dump
@@ -399,13 +396,9 @@ module _ {A : Type 0} where
   unfolding put
   open_put = closing (follows values (λ row. done (spelled_step (step.Put row)))) (form_map values (λ (row : Fields A). spelled_step (step.Put row)) form_values)
 
-  open_numbered : (words : List (List ℕ × (ℕ → Spelled A))) (others : Words (Spelled A)) → AreOpen Closing others → AreOpen Closing (with_numbered words others)
-  open_numbered [] others all = all
-  open_numbered ((w, of_session) ∷ words) others all = (open_session of_session, open_numbered words others all)
-
-  open_alone : (words : List (List ℕ × Spelled A)) (others : Words (Spelled A)) → AreOpen Closing others → AreOpen Closing (with_alone words others)
-  open_alone [] others all = all
-  open_alone ((w, said) ∷ words) others all = (open_done Closing said, open_alone words others all)
+  open_words : {X : Type 0} (grammar : X → Grammar (Spelled A)) → ((x : X) → Open Closing (read (grammar x))) → (words : List (List ℕ × X)) (others : Words (Spelled A)) → AreOpen Closing others → AreOpen Closing (with_words grammar words others)
+  open_words grammar opens [] others all = all
+  open_words grammar opens ((w, x) ∷ words) others all = (opens x, open_words grammar opens words others all)
 
   pub open_commands : (w : List ℕ) → OpenKind Closing (one_of (commands {A = A}) w)
   open_commands = kind_one_of Closing commands (
@@ -430,34 +423,19 @@ module _ {A : Type 0} where
                       open_drop_database,
                       (
                         open_attach,
-                        (
-                          open_enable,
-                          (
-                            open_indirect,
+                        open_words setting open_setting flagged from_diff (
+                          open_diff,
+                          open_words capturing open_capturing captured from_dump (
+                            open_dump,
                             (
-                              open_diff,
+                              open_called (insert Direct) (form_insert Direct),
                               (
-                                open_changeset,
+                                open_called (update Direct) (form_update Direct),
                                 (
-                                  open_patchset,
+                                  open_called (delete Direct) (form_delete Direct),
                                   (
-                                    open_restart,
-                                    (
-                                      open_dump,
-                                      (
-                                        open_called (insert Direct) (form_insert Direct),
-                                        (
-                                          open_called (update Direct) (form_update Direct),
-                                          (
-                                            open_called (delete Direct) (form_delete Direct),
-                                            (
-                                              open_called cascaded form_cascaded,
-                                              (open_rollback, (open_put, open_numbered numbered (with_alone alone []) (open_alone alone [] tt))),
-                                            ),
-                                          ),
-                                        ),
-                                      ),
-                                    ),
+                                    open_called cascaded form_cascaded,
+                                    (open_rollback, (open_put, open_words numbering open_numbered numbered (with_words done alone []) (open_words done (open_done Closing) alone [] tt))),
                                   ),
                                 ),
                               ),

@@ -14,6 +14,8 @@ use Rattle.cap_database.specs.declared.cause.Cause.{Cause}
 use Rattle.cap_database.specs.declared.cause.Cause.TheVariants.{Direct, Cascade}
 use Rattle.cap_database.specs.declared.op.Action.TheVariants.{Insert, Update, Delete}
 use Rattle.cap_database.specs.declared.op.Op.{Op}
+use Rattle.cap_session.specs.declared.session_change.SessionChange.{SessionChange}
+use Rattle.cap_session.specs.declared.session_change.SessionChange.TheVariants as change
 use Rattle.cap_codec.specs.BlobReading.{blob_at}
 use Rattle.cap_field.specs.declared.fault.BlobFault.{BlobFault}
 use Rattle.cap_codec.specs.declared.key_flags.KeyFlags.{KeyFlags}
@@ -26,6 +28,8 @@ use Rattle.cap_txn.specs.Batch.{BatchState}
 use Rattle.cap_txn.specs.declared.look.Asked.TheVariants as asked
 use Rattle.cap_core.specs.declared.command.Command.{Command}
 use Rattle.cap_core.specs.declared.command.Command.TheVariants as made
+use Rattle.cap_core.specs.declared.session_command.SessionCommand.{SessionCommand}
+use Rattle.cap_core.specs.declared.session_command.SessionCommand.TheVariants as told
 use Rattle.cap_language.specs.Forms.{a_blob, a_word, at_end, either, keyword, name, natural, one_of}
 use Rattle.cap_language.specs.Forms.{separated, sign, value}
 use Rattle.cap_language.specs.Forms.{values, within, worker, Words}
@@ -75,6 +79,14 @@ flag = next a_word (one_of (
 -- the key flags: nothing for `01`, or a word for places
 unfoldable pub key_flags : Grammar KeyFlags
 key_flags = where_end (done Ones) (keyword (codes "places") >>= λ _. done Places)
+
+-- a session's number, and a flag's new value or a query for it
+unfoldable pub session_flag : Grammar (ℕ × Option Bool)
+session_flag = do session ← natural; asked ← flag; done (session, asked)
+
+-- a session's number, and the key flags
+unfoldable pub session_key_flags : Grammar (ℕ × KeyFlags)
+session_key_flags = do session ← natural; flags ← key_flags; done (session, flags)
 
 -- the numbers of sessions
 unfoldable pub numbers : Grammar (List ℕ)
@@ -247,34 +259,10 @@ module _ {A : Type 0} where
   drop_database = do database ← name; plain (made.DropDatabase database)
 
   unfoldable pub attach : Grammar (Spelled A)
-  attach = do session ← natural; table ← name; plain (made.Attach session table)
-
-  unfoldable pub enable : Grammar (Spelled A)
-  enable = do session ← natural; asked ← flag; plain (made.Enable session asked)
-
-  unfoldable pub indirect : Grammar (Spelled A)
-  indirect = do session ← natural; asked ← flag; plain (made.Indirect session asked)
+  attach = do session ← natural; table ← name; plain (made.Session session (told.Attach table))
 
   unfoldable pub diff : Grammar (Spelled A)
-  diff = do session ← natural; from ← name; table ← name; plain (made.Diff session from table)
-
-  unfoldable pub changeset : Grammar (Spelled A)
-  changeset = do
-    session ← natural
-    flags ← key_flags
-    done (Whole (made.Capture session) (show.Changeset flags))
-
-  unfoldable pub patchset : Grammar (Spelled A)
-  patchset = do
-    session ← natural
-    flags ← key_flags
-    done (Whole (made.Capture session) (show.Patchset flags))
-
-  unfoldable pub restart : Grammar (Spelled A)
-  restart = do
-    session ← natural
-    flags ← key_flags
-    done (Whole (made.Restart session) (show.Changeset flags))
+  diff = do session ← natural; from ← name; table ← name; plain (made.Session session (told.Diff from table))
 
   unfoldable pub dump : Grammar (Spelled A)
   dump = do flags ← key_flags; done (Whole made.Dump (show.Changeset flags))
@@ -318,13 +306,25 @@ module _ {A : Type 0} where
 
   -- ---- words
 
+  -- the commands that set or query a flag of a session
+  abbrev pub flagged : List (List ℕ × (Option Bool → SessionChange A))
+  flagged = (codes "enable", change.Enable) ∷ (codes "indirect", change.Indirect) ∷ []
+
+  -- the commands that capture a session, and how its changes are printed
+  abbrev pub captured : List (List ℕ × (SessionCommand A × (KeyFlags → Show A)))
+  captured =
+      (codes "changeset", (told.Capture, show.Changeset))
+      ∷ (codes "patchset", (told.Capture, show.Patchset))
+      ∷ (codes "restart", (told.Change change.Restart, show.Changeset))
+      ∷ []
+
   -- the commands that are a word and the number of a session
   abbrev pub numbered : List (List ℕ × (ℕ → Spelled A))
   numbered =
-      (codes "drop", λ session. Whole (made.DropSession session) show.Plain)
-      ∷ (codes "attachall", λ session. Whole (made.AttachAll session) show.Plain)
+      (codes "drop", λ session. Whole (made.Session session told.Delete) show.Plain)
+      ∷ (codes "attachall", λ session. Whole (made.Session session (told.Change change.AttachAll)) show.Plain)
       ∷ (codes "filter", λ session. Filter (Session session))
-      ∷ (codes "isempty", λ session. Whole (made.IsEmpty session) show.Plain)
+      ∷ (codes "isempty", λ session. Whole (made.Session session told.IsEmpty) show.Plain)
       ∷ []
 
   -- the commands that are a word alone
@@ -342,14 +342,38 @@ module _ {A : Type 0} where
       ∷ (codes "abort", spelled_step (step.Answer Abort))
       ∷ []
 
-  abbrev pub with_numbered : List (List ℕ × (ℕ → Spelled A)) → Words (Spelled A) → Words (Spelled A)
-  with_numbered [] words = words
-  with_numbered ((word, of_session) ∷ others) words =
-      (word, natural >>= λ session. done (of_session session)) ∷ with_numbered others words
+  abbrev pub setting : (Option Bool → SessionChange A) → Grammar (Spelled A)
+  setting change_to =
+      session_flag >>= λ (session, asked). plain (made.Session session (told.Change (change_to asked)))
 
-  abbrev pub with_alone : List (List ℕ × Spelled A) → Words (Spelled A) → Words (Spelled A)
-  with_alone [] words = words
-  with_alone ((word, spelled) ∷ others) words = (word, done spelled) ∷ with_alone others words
+  abbrev pub capturing : SessionCommand A × (KeyFlags → Show A) → Grammar (Spelled A)
+  capturing (command, shown) =
+      session_key_flags >>= λ (session, flags). done (Whole (made.Session session command) (shown flags))
+
+  abbrev pub numbering : (ℕ → Spelled A) → Grammar (Spelled A)
+  numbering of_session = natural >>= λ session. done (of_session session)
+
+  -- these words, and what is read behind each, before other words
+  abbrev pub with_words : {X : Type 0} → (X → Grammar (Spelled A)) → List (List ℕ × X) → Words (Spelled A)
+      → Words (Spelled A)
+  with_words grammar [] others = others
+  with_words grammar ((word, x) ∷ words) others = (word, grammar x) ∷ with_words grammar words others
+
+  -- the words from `dump` on
+  abbrev pub from_dump : Words (Spelled A)
+  from_dump =
+      (codes "dump", dump)
+      ∷ (codes "insert", called (insert Direct))
+      ∷ (codes "update", called (update Direct))
+      ∷ (codes "delete", called (delete Direct))
+      ∷ (codes "cascade", called cascaded)
+      ∷ (codes "rollback", rollback)
+      ∷ (codes "put", put)
+      ∷ with_words numbering numbered (with_words done alone [])
+
+  -- the words from `diff` on
+  abbrev pub from_diff : Words (Spelled A)
+  from_diff = (codes "diff", diff) ∷ with_words capturing captured from_dump
 
   -- each command by its first word
   abbrev pub commands : Words (Spelled A)
@@ -365,20 +389,7 @@ module _ {A : Type 0} where
       ∷ (codes "save", save)
       ∷ (codes "dropdatabase", drop_database)
       ∷ (codes "attach", attach)
-      ∷ (codes "enable", enable)
-      ∷ (codes "indirect", indirect)
-      ∷ (codes "diff", diff)
-      ∷ (codes "changeset", changeset)
-      ∷ (codes "patchset", patchset)
-      ∷ (codes "restart", restart)
-      ∷ (codes "dump", dump)
-      ∷ (codes "insert", called (insert Direct))
-      ∷ (codes "update", called (update Direct))
-      ∷ (codes "delete", called (delete Direct))
-      ∷ (codes "cascade", called cascaded)
-      ∷ (codes "rollback", rollback)
-      ∷ (codes "put", put)
-      ∷ with_numbered numbered (with_alone alone [])
+      ∷ with_words setting flagged from_diff
 
   unfoldable pub command : Grammar (Spelled A)
   command = next a_word (one_of commands)

@@ -18,6 +18,7 @@ use Rattle.cap_dump.specs.Dump.{dump_bytes}
 use Rattle.cap_rebase.specs.Buffer.{buffer_of}
 use Rattle.cap_core.specs.declared.command.Command.{Command}
 use Rattle.cap_core.specs.declared.command.Command.TheVariants as command
+use Rattle.cap_core.specs.declared.session_command.SessionCommand.TheVariants.{IsEmpty}
 use Rattle.cap_core.specs.declared.reply.Reply.{Reply}
 use Rattle.cap_core.specs.declared.reply.Reply.TheVariants.{Done, Written, Applied, Session, Snapshot, Flag}
 use Rattle.cap_core.specs.declared.reply.Reply.TheVariants.{Capture, Databases, Dump, Refused, Sessions}
@@ -117,7 +118,7 @@ module _ {A : Type 0} where
 
   -- whether a session is empty is true or false, and a flag is on or off
   abbrev pub flag_text : Command A → Bool → List ℕ
-  flag_text (command.IsEmpty session) flag = true_word flag
+  flag_text (command.Session session IsEmpty) flag = true_word flag
   flag_text _ flag = on_word flag
 
   -- the text of a capture

@@ -5,9 +5,11 @@ use Rattle.std.specs.List.{list_any}
 use Rattle.cap_filter.specs.Grammar.{Spells as SpellsFilter}
 use Rattle.cap_filter.specs.Limits.{is_within_limits}
 use Rattle.cap_filter.specs.Rule.{Rule}
+use Rattle.cap_session.specs.declared.session_change.SessionChange.TheVariants.{SetFilter}
 use Rattle.cap_applier.specs.Chosen.{accepted_in, numbering_in}
 use Rattle.cap_core.specs.declared.command.Command.{Command}
-use Rattle.cap_core.specs.declared.command.Command.TheVariants.{Apply, Read, SetFilter}
+use Rattle.cap_core.specs.declared.command.Command.TheVariants as command
+use Rattle.cap_core.specs.declared.session_command.SessionCommand.TheVariants.{Change}
 use Rattle.cap_language.specs.Grammar.{Spells}
 use Rattle.cap_language.specs.Tokens.{begins, behind_blanks}
 use Rattle.cap_script.specs.Language.{Ended, Filtered, Opening, opening}
@@ -40,10 +42,10 @@ IsCut text line rest =
 module _ {A : Type 0} where
   -- The filter of a session is set. A blob is applied to the tables that its filter accepts.
   abbrev pub filtered_command : Filtering A → Rule → Command A
-  filtered_command (Session session) filter = SetFilter session filter
+  filtered_command (Session session) filter = command.Session session (Change (SetFilter filter))
   filtered_command (Application contents policy quiet detail) filter =
-      Apply (accepted_in filter contents) policy quiet
-  filtered_command (EachConflict contents) filter = Read
+      command.Apply (accepted_in filter contents) policy quiet
+  filtered_command (EachConflict contents) filter = command.Read
 
   -- What is accepted of a blob is printed with its numbers in the whole blob. An application that stops at each
   -- conflict has the filter.

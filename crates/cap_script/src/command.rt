@@ -11,7 +11,7 @@ ghost use Rattle.cap_script.specs.declared.command.Spelled.TheVariants.{Whole};
 ghost use Rattle.cap_script.specs.declared.line.Show.TheVariants.{Plain};
 
 use crate::operation::{batch, row_ref};
-use crate::session_command::{attach, changeset, diff, dump, enable, indirect, patchset, restart};
+use crate::session_command::{attach, diff, dump, session_flag, session_key_flags};
 use crate::step::{Step, by_cascade, deleted, inserted, put, rollback, spelled_step, updated};
 use crate::{Detail, Show};
 use cap_apply::{Answer, Policy};
@@ -154,17 +154,22 @@ fn any_command<A: AllocHandle>(alloc: A, cursor: &mut Cursor<'_>) -> Result<Spel
     } else if word.is("attach") {
         attach(alloc, cursor)
     } else if word.is("enable") {
-        enable(cursor)
+        let (session, asked) = session_flag(cursor)?;
+        Ok(plain(Command::enable(session, asked)))
     } else if word.is("indirect") {
-        indirect(cursor)
+        let (session, asked) = session_flag(cursor)?;
+        Ok(plain(Command::indirect(session, asked)))
     } else if word.is("diff") {
         diff(alloc, cursor)
     } else if word.is("changeset") {
-        changeset(cursor)
+        let (session, flags) = session_key_flags(cursor)?;
+        Ok(Spelled::Whole(Command::capture(session), Show::Changeset(flags)))
     } else if word.is("patchset") {
-        patchset(cursor)
+        let (session, flags) = session_key_flags(cursor)?;
+        Ok(Spelled::Whole(Command::capture(session), Show::Patchset(flags)))
     } else if word.is("restart") {
-        restart(cursor)
+        let (session, flags) = session_key_flags(cursor)?;
+        Ok(Spelled::Whole(Command::restart(session), Show::Changeset(flags)))
     } else if word.is("dump") {
         dump(cursor)
     } else if word.is("insert") {
@@ -181,16 +186,16 @@ fn any_command<A: AllocHandle>(alloc: A, cursor: &mut Cursor<'_>) -> Result<Spel
         put(alloc, cursor)
     } else if word.is("drop") {
         let session = cursor.natural()?;
-        Ok(plain(Command::DropSession { session }))
+        Ok(plain(Command::drop_session(session)))
     } else if word.is("attachall") {
         let session = cursor.natural()?;
-        Ok(plain(Command::AttachAll { session }))
+        Ok(plain(Command::attach_all(session)))
     } else if word.is("filter") {
         let session = cursor.natural()?;
         Ok(Spelled::Filter(Filtering::Session(session)))
     } else if word.is("isempty") {
         let session = cursor.natural()?;
-        Ok(plain(Command::IsEmpty { session }))
+        Ok(plain(Command::is_empty(session)))
     } else if word.is("session") {
         Ok(plain(Command::NewSession))
     } else if word.is("sessions") {

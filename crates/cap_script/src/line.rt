@@ -118,7 +118,7 @@ fn with_filter<A: AllocHandle>(
     match what {
         Filtering::Session(session) => Ok(Line {
             worker,
-            command: Command::SetFilter { session, filter },
+            command: Command::set_filter(session, filter),
             show: Show::Plain,
         }),
         Filtering::Application {

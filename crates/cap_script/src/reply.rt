@@ -18,7 +18,7 @@ use crate::{Detail, Line, Show};
 use cap_applier::Numbering;
 use cap_apply::Report;
 use cap_codec::KeyFlags;
-use cap_core::{Capture, Command, Dump, Reply};
+use cap_core::{Capture, Command, Dump, Reply, SessionCommand};
 use cap_value::{AllocHandle, OutOfMemory};
 use itoa::Buffer;
 
@@ -263,7 +263,10 @@ fn flag_text<A: AllocHandle>(command: &Command<A>, flag: bool) -> &'static str
     ensures { result.now ≡ flag_text command.now flag }
 {
     match command {
-        Command::IsEmpty { .. } => true_word(flag),
+        Command::Session {
+            command: SessionCommand::IsEmpty,
+            ..
+        } => true_word(flag),
         _ => on_word(flag),
     }
 }

@@ -1,7 +1,7 @@
 //! Reads the commands on one session and the dump, behind their first word.
 ghost use Rattle.cap_language.specs.Grammar.{Reads, read};
-ghost use Rattle.cap_script.specs.Language.{attach, changeset, diff, dump, enable, flag, indirect, key_flags};
-ghost use Rattle.cap_script.specs.Language.{patchset, restart};
+ghost use Rattle.cap_script.specs.Language.{attach, diff, dump, flag, key_flags, session_flag};
+ghost use Rattle.cap_script.specs.Language.{session_key_flags};
 
 use crate::Show;
 use crate::command::{Spelled, plain};
@@ -20,27 +20,7 @@ pub(crate) fn attach<A: AllocHandle>(
 {
     let session = cursor.natural()?;
     let table = name(alloc, cursor)?;
-    Ok(plain(Command::Attach { session, table }))
-}
-
-// Reads whether a session records, or the query for it: `N FLAG`.
-#[tactic(auto, unfolding(crate::specs::Language::enable))]
-pub(crate) fn enable<A: AllocHandle>(cursor: &mut Cursor<'_>) -> Result<Spelled<A>, LineFault>
-    ensures reads { Reads result cursor.new.rest.now (read enable cursor.old.rest.now) }
-{
-    let session = cursor.natural()?;
-    let enabled = flag(cursor)?;
-    Ok(plain(Command::Enable { session, enabled }))
-}
-
-// Reads whether touches are indirect, or the query for it: `N FLAG`.
-#[tactic(auto, unfolding(crate::specs::Language::indirect))]
-pub(crate) fn indirect<A: AllocHandle>(cursor: &mut Cursor<'_>) -> Result<Spelled<A>, LineFault>
-    ensures reads { Reads result cursor.new.rest.now (read indirect cursor.old.rest.now) }
-{
-    let session = cursor.natural()?;
-    let indirect = flag(cursor)?;
-    Ok(plain(Command::Indirect { session, indirect }))
+    Ok(plain(Command::attach(session, table)))
 }
 
 // Reads a diff: the session's number, and the names of the saved database and of the table.
@@ -54,41 +34,27 @@ pub(crate) fn diff<A: AllocHandle>(
     let session = cursor.natural()?;
     let from = name(alloc, cursor)?;
     let table = name(alloc, cursor)?;
-    Ok(plain(Command::Diff {
-        session,
-        from,
-        table,
-    }))
+    Ok(plain(Command::diff(session, from, table)))
 }
 
-// Reads a capture that is printed as a changeset: `N`, and how key flags are written.
-#[tactic(auto, unfolding(crate::specs::Language::changeset))]
-pub(crate) fn changeset<A: AllocHandle>(cursor: &mut Cursor<'_>) -> Result<Spelled<A>, LineFault>
-    ensures reads { Reads result cursor.new.rest.now (read changeset cursor.old.rest.now) }
+// Reads a session's number, and how key flags are written: `N`, or `N places`.
+#[tactic(auto, unfolding(crate::specs::Language::session_key_flags))]
+pub(crate) fn session_key_flags(cursor: &mut Cursor<'_>) -> Result<(u64, KeyFlags), LineFault>
+    ensures reads { Reads result cursor.new.rest.now (read session_key_flags cursor.old.rest.now) }
 {
     let session = cursor.natural()?;
     let flags = key_flags(cursor)?;
-    Ok(Spelled::Whole(Command::Capture { session }, Show::Changeset(flags)))
+    Ok((session, flags))
 }
 
-// Reads a capture that is printed as a patchset: `N`, and how key flags are written.
-#[tactic(auto, unfolding(crate::specs::Language::patchset))]
-pub(crate) fn patchset<A: AllocHandle>(cursor: &mut Cursor<'_>) -> Result<Spelled<A>, LineFault>
-    ensures reads { Reads result cursor.new.rest.now (read patchset cursor.old.rest.now) }
+// Reads a session's number, and a flag's new value or the query for it: `N FLAG`.
+#[tactic(auto, unfolding(crate::specs::Language::session_flag))]
+pub(crate) fn session_flag(cursor: &mut Cursor<'_>) -> Result<(u64, Option<bool>), LineFault>
+    ensures reads { Reads result cursor.new.rest.now (read session_flag cursor.old.rest.now) }
 {
     let session = cursor.natural()?;
-    let flags = key_flags(cursor)?;
-    Ok(Spelled::Whole(Command::Capture { session }, Show::Patchset(flags)))
-}
-
-// Reads a capture after which the session begins anew: `N`, and how key flags are written.
-#[tactic(auto, unfolding(crate::specs::Language::restart))]
-pub(crate) fn restart<A: AllocHandle>(cursor: &mut Cursor<'_>) -> Result<Spelled<A>, LineFault>
-    ensures reads { Reads result cursor.new.rest.now (read restart cursor.old.rest.now) }
-{
-    let session = cursor.natural()?;
-    let flags = key_flags(cursor)?;
-    Ok(Spelled::Whole(Command::Restart { session }, Show::Changeset(flags)))
+    let asked = flag(cursor)?;
+    Ok((session, asked))
 }
 
 // Reads a dump of all tables, which is printed as a changeset: how key flags are written.

@@ -1,7 +1,6 @@
 //! The server that threads share: each call is one event of one history.
 #![tactic(auto)]
 
-mod calls;
 mod closed;
 mod fault;
 mod front;

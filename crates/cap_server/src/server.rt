@@ -1,17 +1,23 @@
 //! The server: calls, and opening and closing.
 ghost use Rattle.std.specs.Prelude.{◌≡◌, ◌<◌, ◌≤◌, ⊤, [], IfOk, IfErr, Ok, length};
 ghost use mathlib.Core.List.{IsPrefix};
+ghost use Rattle.cap_core.specs.declared.command.Command.TheVariants.{Commit};
 ghost use Rattle.cap_history.specs.History.{longer};
 ghost use Rattle.cap_history.specs.Seat.{HasCalled, SeesMore, newcomers};
 ghost use Rattle.cap_locked.specs.Fault.{HasCause, LeavesSeat, MatchHookFault};
 ghost use Rattle.cap_locked.specs.Hook.{CanAsk, HasLeft, HasRefused};
 ghost use Rattle.cap_server.specs.Close.{ClosesOvertaken, FirstHasSeen, HasAll, IsClosed, IsMissing};
 ghost use Rattle.cap_server.specs.Close.{MatchCloseFault};
+ghost use Rattle.cap_server.specs.Commit.{CommitsAt};
 
 use crate::{CloseFault, Closed, Front, Locked, Naming, Seat, named};
-use cap_core::{Command, CommitHook, Reply};
+use cap_core::{
+    Command, CommitHook, Reply, fitting_histories_grow, legal_histories_grow,
+    legal_histories_were_legal, rows_stand_under_own_keys, transactions_commit_if_unchanged,
+};
 use cap_history::Opened;
 use cap_locked::{CallFault, HookFault};
+use cap_txn::Batch;
 use cap_value::{AllocHandle, OutOfMemory};
 use std::hint::spin_loop;
 use std::sync::{Mutex, MutexGuard, Wait};
@@ -58,7 +64,31 @@ impl<J: Naming, A: AllocHandle> Server<J, A> {
         self.lock(rt).step(&self.front, seat, command)
     }
 
-    /// The same with a commit hook, which is asked about the reply before the call is an event: where it
+    /// Commits a batch. One that a transaction made is accepted exactly where nothing that the transaction
+    /// looked at has changed since it began. Then its calls, made whole at their place in the history, are
+    /// answered as they were. A batch whose base is a number alone is accepted on that version only, one
+    /// without a base on any, unless an operation is refused.
+    pub fn commit<R: Wait>(
+        &self,
+        rt: &R,
+        seat: &mut Seat<J, A>,
+        batch: Batch<A>,
+    ) -> Result<Reply<A>, CallFault>
+        ensures called { IfOk result (λ reply. HasCalled seat.old seat.new (Commit batch) reply) }
+        ensures judged { IfOk result (CommitsAt seat.new.seen batch) }
+        ensures refused { IfErr result (λ fault. LeavesSeat fault seat.old seat.new) }
+        ensures cause { IfErr result (λ fault. HasCause fault seat.old (Commit batch)) }
+    {
+        legal_histories_grow::<A>();
+        legal_histories_were_legal::<A>();
+        fitting_histories_grow::<A>();
+        rows_stand_under_own_keys::<A>();
+        transactions_commit_if_unchanged::<A>();
+        batch.seen_stands();
+        self.call(rt, seat, &Command::Commit(batch))
+    }
+
+    /// A call with a commit hook, which is asked about the reply before the call is an event: where it
     /// refuses, it is none. Where it allows the reply, the call may still be overtaken. It is asked while the
     /// server is locked.
     pub fn call_with_hook<R: Wait, C: CommitHook<A>>(

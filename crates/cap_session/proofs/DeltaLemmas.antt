@@ -25,7 +25,7 @@ module _ {X : Type 0} where
   changed-beyond make (x ∷ xs) zero le = absurd (omega (arith, le))
   changed-beyond make (x ∷ xs) (suc i) le = ap (λ others. x ∷ others) (changed-beyond make xs i (omega (arith, le)))
 
-  changed-twice : (f g : X → X) (xs : List X) (i : ℕ) → changed_at i f (changed_at i g xs) ≡ changed_at i (λ x. f (g x)) xs
+  pub changed-twice : (f g : X → X) (xs : List X) (i : ℕ) → changed_at i f (changed_at i g xs) ≡ changed_at i (λ x. f (g x)) xs
   changed-twice f g [] i = refl
   changed-twice f g (x ∷ xs) zero = refl
   changed-twice f g (x ∷ xs) (suc i) = ap (λ others. x ∷ others) (changed-twice f g xs i)
@@ -58,6 +58,16 @@ module _ {X P : Type 0} (make : P → X → X) where
   pub parts-last : (xs : List X) (parts : List (ℕ × P)) (last : ℕ × P) → with_parts make (changed_at last.0 (make last.1) xs) parts ≡ with_parts make xs (parts ++ last ∷ [])
   parts-last xs [] last = refl
   parts-last xs (p ∷ ps) last = ap (changed_at p.0 (make p.1)) (parts-last xs ps last)
+
+  pub last-set : (xs : List X) (rest parts : List (ℕ × P)) (last : ℕ × P) (x d : X) → parts ≡ rest ++ last ∷ [] → x ≡ make last.1 (get_or xs last.0 d) → with_parts make (set xs last.0 x) rest ≡ with_parts make xs parts
+  last-set xs rest parts last x d is made = ap (λ ys. with_parts make ys rest) (set-changed (make last.1) xs last.0 x d made) ∙ parts-last xs rest last ∙ ap (with_parts make xs) (sym is)
+
+  pub last-beyond : (xs : List X) (rest parts : List (ℕ × P)) (last : ℕ × P) → parts ≡ rest ++ last ∷ [] → length xs ≤ last.0 → with_parts make xs rest ≡ with_parts make xs parts
+  last-beyond xs rest parts last is le = ap (λ ys. with_parts make ys rest) (sym (changed-beyond (make last.1) xs last.0 le)) ∙ parts-last xs rest last ∙ ap (with_parts make xs) (sym is)
+
+  pub parts-append : (xs : List X) (parts others : List (ℕ × P)) → with_parts make xs (parts ++ others) ≡ with_parts make (with_parts make xs others) parts
+  parts-append xs [] others = refl
+  parts-append xs (p ∷ ps) others = ap (changed_at p.0 (make p.1)) (parts-append xs ps others)
 
   -- parts of other items
   pub parts-other : (f : X → X) (xs : List X) (parts : List (ℕ × P)) (place : ℕ) → NonePass (has_place place) parts → with_parts make (changed_at place f xs) parts ≡ changed_at place f (with_parts make xs parts)

@@ -1,43 +1,59 @@
 -- What a commit adds to each session.
-use Rattle.std.proofs.Common.{◌≡◌, ◌<◌, ℕ, suc, false, true, cond, List, [], ◌∷◌, ◌++◌, map, length, get_or, drop, take, sym, ap, ◌∙◌, nat_eq, arith}
+use Rattle.std.proofs.Common.{◌≡◌, ◌<◌, ◌≤◌, ◌+◌, ℕ, suc, false, true, cond, List, [], ◌∷◌, ◌++◌, add-one, map, length, get_or, drop, take, sym, ap, subst, ◌∙◌, nat_eq, arith}
 use Rattle.std.proofs.lemmas.Bool.Decides.{nat_tests}
+use Rattle.std.proofs.lemmas.List.{append-nil, drop_all, take_all}
 use Rattle.std.specs.List.{AllByRecursion}
 use Rattle.cap_database.specs.declared.change.Change.{Change}
-use Rattle.cap_session.specs.declared.delta.SessionDelta.{SessionDelta}
-use Rattle.cap_session.specs.Delta.{changed_at, numbered_with, session_with, tables_with, with_parts}
+use Rattle.cap_session.specs.Code.Added.{Adds, AreBeside, behind, first_or}
+use Rattle.cap_session.specs.declared.delta.Delta.{Delta}
+use Rattle.cap_session.specs.Delta.{changed_at, published, renewed, with_parts, with_records, with_tables, with_touched}
 use Rattle.cap_session.specs.Recording.{attach_by_rule, record_commit, touch_tables}
+use Rattle.cap_session.specs.Records.{Records}
 use Rattle.cap_session.specs.Session.{AttachedTables, SessionState}
-use Rattle.cap_session.specs.Sessions.{is_one_of}
-use Rattle.cap_session.proofs.DeltaLemmas.{changed-not, changed-step, has_place, parts-last, parts-other}
+use Rattle.cap_session.specs.Sessions.{NumberedSessions, is_one_of, record_commit_each}
+use Rattle.cap_session.proofs.AddedLemmas.{paired}
+use Rattle.cap_session.proofs.DeltaLemmas.{changed-not, changed-step, changed-twice, has_place, parts-append, parts-other}
 use Rattle.cap_session.proofs.PlaceLemmas.{NonePass}
 
-module _ {A : Type 0} (changes : List (Change A)) where
-  -- a session after a commit, unless it is a quiet one
-  abbrev pub recorded : List ℕ → ℕ × SessionState A → ℕ × SessionState A
-  recorded quiet session = (session.0, cond (is_one_of quiet session.0) session.1 (record_commit changes session.1))
+module _ {A : Type 0} (session : ℕ) (before after : SessionState A) where
+  pub adds-nothing : (delta : Delta A) → before ≡ after → Adds session before after delta delta
+  adds-nothing delta same = record {
+    all = [];
+    own = [];
+    renewed_is = sym (append-nil (renewed delta));
+    touched_is = sym (append-nil delta.touched.items);
+    made = same;
+  }
 
-  module _ (session : SessionState A) (delta : SessionDelta A) where
-    after : SessionState A
-    after = record session { tables = touch_tables session.indirect changes (attach_by_rule session.rule changes session.tables) }
+  module _ (old new : Delta A) (tables : AttachedTables A) (made : record before { tables = tables } ≡ after) where
+    pub adds-all : renewed new ≡ renewed old ++ (session, tables) ∷ [] → new.touched.items ≡ old.touched.items → Adds session before after old new
+    adds-all pushed same = record {
+      all = tables ∷ [];
+      own = [];
+      renewed_is = pushed;
+      touched_is = same ∙ sym (append-nil old.touched.items);
+      made = made;
+    }
 
-    -- what is added to a session that is enabled, and to one that is not
-    pub adds : session.enabled ≡ true → tables_with session.tables delta ≡ touch_tables session.indirect changes (attach_by_rule session.rule changes session.tables) → session_with delta session ≡ record_commit changes session
-    unfolding after
-    adds enabled is = ap (λ tables. record session { tables = tables }) is ∙ sym (ap (λ b. cond b after session) enabled)
+    pub adds-own : renewed new ≡ renewed old → AreBeside session before.tables tables old.touched.items new.touched.items → Adds session before after old new
+    adds-own same a = record {
+      all = [];
+      own = a.own;
+      renewed_is = same ∙ sym (append-nil (renewed old));
+      touched_is = a.items;
+      made = ap (λ (ts : AttachedTables A). record before { tables = ts }) a.made ∙ made;
+    }
 
-    pub adds-none : session.enabled ≡ false → tables_with session.tables delta ≡ session.tables → session_with delta session ≡ record_commit changes session
-    unfolding after
-    adds-none disabled is = ap (λ tables. record session { tables = tables }) is ∙ sym (ap (λ b. cond b after session) disabled)
+module _ {A : Type 0} (changes : List (Change A)) (session : SessionState A) where
+  abbrev pub committed : SessionState A
+  committed = record session { tables = touch_tables session.indirect changes (attach_by_rule session.rule changes session.tables) }
 
-  module _ (quiet : List ℕ) (session : ℕ × SessionState A) where
-    pub quiet-stays : is_one_of quiet session.0 ≡ true → session ≡ recorded quiet session
-    quiet-stays is = sym (ap (λ b. (session.0, cond b session.1 (record_commit changes session.1))) is)
+  -- what a commit makes of a session that is enabled, and of one that is not
+  pub commits : session.enabled ≡ true → committed ≡ record_commit changes session
+  commits enabled = sym (ap (λ b. cond b committed session) enabled)
 
-    pub added-one : (delta : SessionDelta A) → is_one_of quiet session.0 ≡ false → session_with delta session.1 ≡ record_commit changes session.1 → numbered_with delta session ≡ recorded quiet session
-    added-one delta not is = ap (λ s. (session.0, s)) is ∙ sym (ap (λ b. (session.0, cond b session.1 (record_commit changes session.1))) not)
-
-    pub nothing-stays : (delta : SessionDelta A) → is_one_of quiet session.0 ≡ false → session_with delta session.1 ≡ record_commit changes session.1 → ((live : AttachedTables A) → tables_with live delta ≡ live) → session ≡ recorded quiet session
-    nothing-stays delta not is none = sym (ap (λ tables. (session.0, record session.1 { tables = tables })) (none session.1.tables)) ∙ added-one delta not is
+  pub passes : session.enabled ≡ false → session ≡ record_commit changes session
+  passes disabled = sym (ap (λ b. cond b committed session) disabled)
 
 -- each part is of an item before this place
 abbrev pub AreBefore : {P : Type 0} → ℕ → List (ℕ × P) → Type 0
@@ -51,22 +67,75 @@ module _ {P : Type 0} where
   none-before place [] before = tt
   none-before place (p ∷ ps) before = (differs place p.0 before.0, none-before place ps before.1)
 
-  pub before-later : (place : ℕ) (parts : List (ℕ × P)) → AreBefore place parts → AreBefore (suc place) parts
-  before-later place [] before = tt
-  before-later place (p ∷ ps) before = (omega (arith, before.0), before-later place ps before.1)
+  before-own : (place : ℕ) (own : List P) → AreBefore (suc place) (paired place own)
+  before-own place [] = tt
+  before-own place (p ∷ ps) = (omega arith, before-own place ps)
 
-  pub before-push : (place : ℕ) (parts : List (ℕ × P)) (own : P) → AreBefore place parts → AreBefore (suc place) (parts ++ (place, own) ∷ [])
-  before-push place [] own before = (omega arith, tt)
-  before-push place (p ∷ ps) own before = (omega (arith, before.0), before-push place ps own before.1)
+  before-behind : (place : ℕ) (parts : List (ℕ × P)) (own : List P) → AreBefore place parts → AreBefore (suc place) (behind place parts own)
+  before-behind place [] own before = before-own place own
+  before-behind place (p ∷ ps) own before = (omega (arith, before.0), before-behind place ps own before.1)
 
-module _ {X : Type 0} (h : X → X) (start : List X) (i : ℕ) (x : X) (lt : i < length start) (at : x ≡ get_or start i x) where
-  -- one item more, to which something is added
-  pub each-more : {P : Type 0} (make : P → X → X) (parts : List (ℕ × P)) (own : P) → make own x ≡ h x → AreBefore i parts → with_parts make start parts ≡ map h (take i start) ++ drop i start
-      → with_parts make start (parts ++ (i, own) ∷ []) ≡ map h (take (suc i) start) ++ drop (suc i) start
-  each-more make parts own same before sofar =
-      sym (parts-last make start parts (i, own)) ∙ parts-other make (make own) start parts i (none-before i parts before)
-      ∙ ap (λ xs. changed_at i (make own) xs) sofar ∙ changed-step h (make own) start i x lt at same
+module _ {A : Type 0} (session : ℕ) where
+  all-own : (all : List (AttachedTables A)) (xs : NumberedSessions A) → with_parts with_tables xs (paired session all) ≡ changed_at session (λ s. with_tables (first_or all s.1.tables) s) xs
+  all-own [] xs = sym (changed-not xs session)
+  all-own (ts ∷ others) xs = ap (changed_at session (with_tables ts)) (all-own others xs) ∙ changed-twice (with_tables ts) (λ s. with_tables (first_or others s.1.tables) s) xs session
 
-  -- one item more, which stays as it is
-  pub each-same : (xs : List X) → x ≡ h x → xs ≡ map h (take i start) ++ drop i start → xs ≡ map h (take (suc i) start) ++ drop (suc i) start
-  each-same xs same sofar = sofar ∙ sym (changed-not (map h (take i start) ++ drop i start) i) ∙ changed-step h (λ y. y) start i x lt at same
+  touched-own : (own : List (ℕ × Records A)) (xs : NumberedSessions A) → with_parts with_touched xs (paired session own) ≡ changed_at session (λ s. with_tables (with_parts with_records s.1.tables own) s) xs
+  touched-own [] xs = sym (changed-not xs session)
+  touched-own (p ∷ ps) xs = ap (changed_at session (with_touched p)) (touched-own ps xs) ∙ changed-twice (with_touched p) (λ s. with_tables (with_parts with_records s.1.tables ps) s) xs session
+
+  -- the sessions, with what is added to one more
+  published-own : (xs : NumberedSessions A) (before after : SessionState A) (old new : Delta A) (a : Adds session before after old new) → AreBefore session (renewed old) → AreBefore session old.touched.items
+      → published new xs ≡ changed_at session (λ s. with_tables (with_parts with_records (first_or a.all s.1.tables) a.own) s) (published old xs)
+  published-own xs before after old new a all own =
+      let make_all : ℕ × SessionState A → ℕ × SessionState A = λ s. with_tables (first_or a.all s.1.tables) s in
+      let make_own : ℕ × SessionState A → ℕ × SessionState A = λ s. with_tables (with_parts with_records s.1.tables a.own) s in
+      let was : NumberedSessions A = with_parts with_tables xs (renewed old) in
+      let first : with_parts with_tables xs (renewed new) ≡ changed_at session make_all was =
+      ap (with_parts with_tables xs) a.renewed_is ∙ parts-append with_tables xs (renewed old) (paired session a.all)
+      ∙ ap (λ ys. with_parts with_tables ys (renewed old)) (all-own a.all xs) ∙ parts-other with_tables make_all xs (renewed old) session (none-before session (renewed old) all) in
+      ap (λ ys. with_parts with_touched ys new.touched.items) first
+      ∙ ap (with_parts with_touched (changed_at session make_all was)) a.touched_is ∙ parts-append with_touched (changed_at session make_all was) old.touched.items (paired session a.own)
+      ∙ ap (λ ys. with_parts with_touched ys old.touched.items) (touched-own a.own (changed_at session make_all was) ∙ changed-twice make_own make_all was session)
+      ∙ parts-other with_touched (λ s. make_own (make_all s)) was old.touched.items session (none-before session old.touched.items own)
+
+module _ {A : Type 0} (delta : Delta A) (sessions : NumberedSessions A) (own : delta.touched.items ≡ []) where
+  pub published-none : renewed delta ≡ [] → published delta sessions ≡ sessions
+  published-none all = ap (with_parts with_touched (with_parts with_tables sessions (renewed delta))) own ∙ ap (with_parts with_tables sessions) all
+
+  pub published-one : (place : ℕ) (tables : AttachedTables A) → renewed delta ≡ (place, tables) ∷ [] → published delta sessions ≡ changed_at place (with_tables tables) sessions
+  published-one place tables all = ap (with_parts with_touched (with_parts with_tables sessions (renewed delta))) own ∙ ap (with_parts with_tables sessions) all
+
+module _ {A : Type 0} (changes : List (Change A)) (quiet : List ℕ) where
+  -- a session after a commit, unless it is a quiet one
+  abbrev recorded : ℕ × SessionState A → ℕ × SessionState A
+  recorded session = (session.0, cond (is_one_of quiet session.0) session.1 (record_commit changes session.1))
+
+  module _ (start : NumberedSessions A) where
+    -- what is added to the sessions before this place
+    pub record AreAdded (place : ℕ) (delta : Delta A) : Type 0 where
+      pub published_is : published delta start ≡ map recorded (take place start) ++ drop place start
+      pub all : AreBefore place (renewed delta)
+      pub own : AreBefore place delta.touched.items
+
+    pub none-added : (delta : Delta A) → renewed delta ≡ [] → delta.touched.items ≡ [] → AreAdded 0 delta
+    none-added delta all own = record {
+      published_is = published-none delta start own all;
+      all = subst (AreBefore 0) (sym all) tt;
+      own = subst (AreBefore 0) (sym own) tt;
+    }
+
+    pub one-added : (i : ℕ) (x : ℕ × SessionState A) (old new : Delta A) → i < length start → x ≡ get_or start i x
+        → Adds i x.1 (cond (is_one_of quiet x.0) x.1 (record_commit changes x.1)) old new → AreAdded i old → AreAdded (i + 1) new
+    one-added i x old new lt at a sofar = subst (λ n. AreAdded n new) (sym (add-one i)) (record {
+      published_is =
+          published-own i start x.1 (cond (is_one_of quiet x.0) x.1 (record_commit changes x.1)) old new a sofar.all sofar.own
+          ∙ ap (changed_at i (λ s. with_tables (with_parts with_records (first_or a.all s.1.tables) a.own) s)) sofar.published_is
+          ∙ changed-step recorded (λ s. with_tables (with_parts with_records (first_or a.all s.1.tables) a.own) s) start i x lt at (ap (λ s. (x.0, s)) a.made);
+      all = subst (AreBefore (suc i)) (sym a.renewed_is) (before-behind i (renewed old) a.all sofar.all);
+      own = subst (AreBefore (suc i)) (sym a.touched_is) (before-behind i old.touched.items a.own sofar.own);
+    })
+
+    pub all-added : (i : ℕ) (delta : Delta A) → length start ≤ i → AreAdded i delta → published delta start ≡ record_commit_each changes quiet start
+    all-added i delta all sofar =
+        sofar.published_is ∙ ap (λ rest. map recorded (take i start) ++ rest) (drop_all i start all) ∙ append-nil (map recorded (take i start)) ∙ ap (map recorded) (take_all i start all)

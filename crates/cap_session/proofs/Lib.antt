@@ -1,3 +1,4 @@
+mod AddedLemmas
 mod CommitLemmas
 pub mod Crossing
 mod DeltaLemmas

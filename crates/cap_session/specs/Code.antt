@@ -1,2 +1,3 @@
 -- The state in the code, for its own contracts. No rule is defined here.
+pub mod Added
 pub mod Latest

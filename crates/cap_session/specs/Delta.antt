@@ -1,8 +1,6 @@
 -- What is added to sessions before it is published, and the sessions with it.
-use Rattle.std.specs.Prelude.{ℕ, zero, suc, List, [], ◌∷◌}
+use Rattle.std.specs.Prelude.{ℕ, zero, suc, List, [], ◌∷◌, map}
 use Rattle.cap_session.specs.declared.delta.Delta.{Delta}
-use Rattle.cap_session.specs.declared.delta.SessionDelta.{SessionDelta}
-use Rattle.cap_session.specs.declared.delta.SessionDelta.TheVariants as added
 use Rattle.cap_session.specs.Records.{Records}
 use Rattle.cap_session.specs.Session.{AttachedTables, SessionState}
 use Rattle.cap_session.specs.Sessions.{NumberedSessions}
@@ -23,18 +21,20 @@ module _ {A : Type 0} where
   abbrev pub with_records : Records A → List ℕ × Records A → List ℕ × Records A
   with_records records table = (table.0, records)
 
-  -- the attached tables with what is added
-  abbrev pub tables_with : AttachedTables A → SessionDelta A → AttachedTables A
-  tables_with tables (added.Records touched) = with_parts with_records tables touched.items
-  tables_with tables (added.Tables all) = all.entries
+  -- a session with these tables in place of its own
+  abbrev pub with_tables : AttachedTables A → ℕ × SessionState A → ℕ × SessionState A
+  with_tables tables session = (session.0, record session.1 { tables = tables })
 
-  -- a session with what is added
-  abbrev pub session_with : SessionDelta A → SessionState A → SessionState A
-  session_with delta session = record session { tables = tables_with session.tables delta }
+  -- a session with these records in place of those of the table at the index
+  abbrev pub with_touched : ℕ × Records A → ℕ × SessionState A → ℕ × SessionState A
+  with_touched touched session =
+      with_tables (changed_at touched.0 (with_records touched.1) session.1.tables) session
 
-  abbrev pub numbered_with : SessionDelta A → ℕ × SessionState A → ℕ × SessionState A
-  numbered_with delta session = (session.0, session_with delta session.1)
+  -- the tables of each session that gets all anew
+  abbrev pub renewed : Delta A → List (ℕ × AttachedTables A)
+  renewed delta = map (λ own. (own.0, own.1.entries)) delta.renewed.items
 
   -- the sessions once what is added is published
   abbrev pub published : Delta A → NumberedSessions A → NumberedSessions A
-  published delta sessions = with_parts numbered_with sessions delta.sessions.items
+  published delta sessions =
+      with_parts with_touched (with_parts with_tables sessions (renewed delta)) delta.touched.items

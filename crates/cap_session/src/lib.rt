@@ -11,6 +11,7 @@ mod rule;
 mod session;
 mod session_change;
 mod sessions;
+mod tables;
 mod touch;
 
 pub use attached::Attached;

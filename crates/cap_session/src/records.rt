@@ -113,7 +113,17 @@ impl<A: AllocHandle> Records<A> {
         })
     }
 
+    // Puts a record at its key.
+    pub(crate) fn put(&mut self, key: Key<A>, kept: Record<A>) -> Result<(), OutOfMemory>
+        ensures { OnOk result (self.new ≡ put_entry fields_cmp self.old key kept) }
+    {
+        move_latest(&mut self.tree, &mut self.latest)?;
+        self.latest = Some((key, kept));
+        Ok(())
+    }
+
     // These records with one more put at its key, which share the nodes of the tree.
+    #[inline(always)]
     pub(crate) fn with(&mut self, key: Key<A>, kept: Record<A>) -> Result<Self, OutOfMemory>
         ensures kept { self.new ≡ self.old }
         ensures put { IfOk result (λ after. after ≡ put_entry fields_cmp self.old key kept) }

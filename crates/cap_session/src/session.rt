@@ -1,14 +1,18 @@
 //! One session.
 ghost use Rattle.std.specs.Prelude.{◌≡◌, ◌<◌, ◌^◌, length, nat_eq, IfOk, OnOk, OnErr};
 ghost use Rattle.std.specs.Option.{option_copied};
-ghost use Rattle.cap_session.specs.Delta.{session_with};
-ghost use Rattle.cap_session.specs.Recording.{record_commit, record_diff};
+ghost use Rattle.cap_session.specs.Code.Added.{Adds};
+ghost use Rattle.cap_session.specs.Delta.{changed_at, with_records};
+ghost use Rattle.cap_session.specs.Recording.{attach_by_rule, record_commit, record_diff, touch_tables};
 ghost use Rattle.cap_session.specs.Session.{attach_all, attached, changed_by, enabled_as, forget};
 ghost use Rattle.cap_session.specs.Session.{indirect_as, new_session, record_of, records_of, restart};
 ghost use Rattle.cap_session.specs.Session.{set_filter, stored};
 
 use crate::attached::Attached;
-use crate::delta::{SessionDelta, Tables, attached_by, attached_by_rule, copy_of, publish};
+use crate::delta::{Delta, touch_beside};
+use crate::tables::{
+    Tables, attach_by, attach_by_rule, copy_of, is_any_new, touch_changed, touch_found,
+};
 use crate::{AutomaticRule, Record, Records, SessionChange};
 use cap_compare::Difference;
 use cap_database::Change;
@@ -158,8 +162,9 @@ impl<A: AllocHandle> Session<A> {
         ensures recorded { OnOk result (self.new ≡ record_commit changes.now self.old) }
         ensures err { OnErr result (self.new ≡ self.old) }
     {
-        let delta = self.reserve(changes)?;
-        self.publish(delta);
+        if self.enabled {
+            self.tables = self.committed(changes)?;
+        }
         Ok(())
     }
 
@@ -173,47 +178,83 @@ impl<A: AllocHandle> Session<A> {
         ensures recorded { OnOk result (self.new ≡ record_diff name.now differences.now self.old) }
         ensures err { OnErr result (self.new ≡ self.old) }
     {
-        let delta = self.reserve_diff(name, differences)?;
-        self.publish(delta);
+        self.tables = self.compared(name, differences)?;
         Ok(())
     }
 
-    // What the changes of one commit add.
-    pub(crate) fn reserve(&mut self, changes: &[Change<A>]) -> Result<SessionDelta<A>, OutOfMemory>
+    // Adds what the changes of one commit make of the session at this index.
+    pub(crate) fn reserve(
+        &mut self,
+        place: usize,
+        room: usize,
+        changes: &[Change<A>],
+        delta: &mut Delta<A>,
+    ) -> Result<(), OutOfMemory>
         ensures kept { self.new ≡ self.old }
-        ensures added { IfOk result (λ delta. session_with delta self.old
-            ≡ record_commit changes.now self.old) }
+        ensures added { OnOk result (Adds place self.old (record_commit changes.now self.old) delta.old
+            delta.new) }
     {
         if !self.enabled {
-            return Ok(SessionDelta::of(self.alloc, None));
+            return Ok(());
         }
-        let attached = attached_by_rule(self.alloc, &self.tables, &self.rule, changes)?;
-        let mut delta = SessionDelta::of(self.alloc, attached);
-        delta.touch_changed(&mut self.tables, self.indirect, changes)?;
-        Ok(delta)
+        if is_any_new(&self.tables, &self.rule, changes) {
+            delta.renewed.push((place, self.committed(changes)?))?;
+            return Ok(());
+        }
+        let touched = &mut delta.touched;
+        touch_beside(
+            touched,
+            place,
+            room,
+            &mut self.tables,
+            self.indirect,
+            changes,
+        )
     }
 
-    // What a diff of a table adds.
-    pub(crate) fn reserve_diff(
-        &mut self,
+    // All tables after the changes of one commit.
+    #[inline(never)]
+    fn committed(&self, changes: &[Change<A>]) -> Result<Tables<A>, OutOfMemory>
+        ensures { IfOk result (λ tables. tables.entries ≡ touch_tables self.now.indirect changes.now
+            (attach_by_rule self.now.rule changes.now self.now.tables)) }
+    {
+        let mut tables = copy_of(self.alloc, &self.tables)?;
+        attach_by_rule(self.alloc, &mut tables, &self.rule, changes)?;
+        touch_changed(&mut tables, self.indirect, changes)?;
+        Ok(tables)
+    }
+
+    // All tables after a diff of a table.
+    pub(crate) fn compared(
+        &self,
         name: &Name<A>,
         differences: &[Difference<A>],
-    ) -> Result<SessionDelta<A>, OutOfMemory>
-        ensures kept { self.new ≡ self.old }
-        ensures added { IfOk result (λ delta. session_with delta self.old
-            ≡ record_diff name.now differences.now self.old) }
+    ) -> Result<Tables<A>, OutOfMemory>
+        ensures { IfOk result (λ tables. record self.now { tables = tables.entries }
+            ≡ record_diff name.now differences.now self.now) }
     {
-        let attached = attached_by(self.alloc, &self.tables, None, &AutomaticRule::All, name)?;
-        let mut delta = SessionDelta::of(self.alloc, attached);
-        delta.touch_found(&mut self.tables, self.indirect, name, differences)?;
-        Ok(delta)
+        let mut tables = copy_of(self.alloc, &self.tables)?;
+        attach_by(self.alloc, &mut tables, &AutomaticRule::All, name)?;
+        touch_found(&mut tables, self.indirect, name, differences)?;
+        Ok(tables)
     }
 
-    // Publishes what is added.
-    pub(crate) fn publish(&mut self, delta: SessionDelta<A>)
-        ensures { self.new ≡ session_with delta self.old }
+    // Puts all tables in place.
+    pub(crate) fn renew(&mut self, tables: Tables<A>)
+        ensures { self.new ≡ record self.old { tables = tables.entries } }
     {
-        publish(&mut self.tables, delta);
+        self.tables = tables;
+    }
+
+    // Puts the records of the table at this index in place.
+    pub(crate) fn replace(&mut self, table: usize, records: Records<A>)
+        ensures { self.new ≡ record self.old {
+          tables = changed_at table (with_records records) self.old.tables;
+        } }
+    {
+        if table < self.tables.len() {
+            self.tables[table] = records;
+        }
     }
 
     /// Whether there is no record (SQLite's sqlite3session_isempty). The row of a record may be unchanged.

@@ -1,16 +1,17 @@
 //! All sessions of a core, by number.
-ghost use Rattle.std.specs.Prelude.{◌≡◌, ◌<◌, [], ◌∷◌, ◌++◌, Ok, Err, Some, None, IfOk, IfErr, OnOk, OnErr};
-ghost use Rattle.std.specs.Prelude.{length, nat_eq, if◌then◌else◌};
+ghost use Rattle.std.specs.Prelude.{◌≡◌, [], ◌∷◌, ◌++◌, Ok, Err, Some, None, IfOk, IfErr, OnOk, OnErr};
+ghost use Rattle.std.specs.Prelude.{length, map, nat_eq, if◌then◌else◌};
 ghost use Rattle.std.specs.List.{position};
-ghost use Rattle.std.specs.Option.{option_copied, option_map, unwrap_or};
+ghost use Rattle.std.specs.Option.{option_copied, option_map};
 ghost use Rattle.cap_value.specs.Memory.{MatchFault};
-ghost use Rattle.cap_session.specs.Delta.{changed_at, numbered_with, published, with_parts};
+ghost use Rattle.cap_session.specs.Code.Added.{Adds};
+ghost use Rattle.cap_session.specs.Delta.{published, with_parts, with_tables, with_touched};
 ghost use Rattle.cap_session.specs.Recording.{record_commit, record_diff};
 ghost use Rattle.cap_session.specs.Session.{attached, changed_by, new_session};
 ghost use Rattle.cap_session.specs.Sessions.{is_one_of, record_commit_each, session_numbered};
 ghost use Rattle.cap_session.specs.Sessions.{with_session_if, without_session};
 
-use crate::delta::{Delta, SessionDelta};
+use crate::delta::{Delta, Renewed, Touched};
 use crate::{Session, SessionChange};
 use cap_compare::Difference;
 use cap_database::Change;
@@ -121,9 +122,9 @@ impl<A: AllocHandle> Sessions<A> {
         ensures added { IfOk result (λ delta. published delta self.old
             ≡ record_commit_each changes.now quiet.now self.old) }
     {
-        let mut sessions = Vec::new(self.alloc);
-        reserve_each(&mut self.sessions, changes, quiet, &mut sessions)?;
-        Ok(Delta { sessions })
+        let mut delta = Delta::nothing(self.alloc);
+        reserve_each(&mut self.sessions, changes, quiet, &mut delta)?;
+        Ok(delta)
     }
 
     /// What attaching a table adds to the session with this number, if any.
@@ -147,19 +148,23 @@ impl<A: AllocHandle> Sessions<A> {
         ensures added { IfOk result (λ delta. published delta self.old ≡ with_session_if self.old number
             (option_map (record_diff name.now differences.now) (session_numbered self.old number))) }
     {
-        let mut sessions = Vec::new(self.alloc);
+        let mut delta = Delta::nothing(self.alloc);
         if let Some(place) = place_of(&self.sessions, number) {
-            let delta = reserve_diff_at(&mut self.sessions, place, name, differences)?;
-            sessions.push((place, delta))?;
+            let (_, session) = &self.sessions[place];
+            delta
+                .renewed
+                .push((place, session.compared(name, differences)?))?;
         }
-        Ok(Delta { sessions })
+        Ok(delta)
     }
 
     /// Publishes what was made for these sessions. Takes no memory.
     pub fn publish(&mut self, delta: Delta<A>)
         ensures { self.new ≡ published delta self.old }
     {
-        publish_each(&mut self.sessions, delta.into_sessions());
+        let (renewed, touched) = delta.into_parts();
+        publish_renewed(&mut self.sessions, renewed);
+        publish_touched(&mut self.sessions, touched);
     }
 
     /// Changes the session with this number, if any.
@@ -208,68 +213,44 @@ fn place_of<A: AllocHandle>(sessions: &[(u64, Session<A>)], number: u64) -> Opti
     sessions.iter().position(|session| number == session.0)
 }
 
-// What a diff of a table adds to the session at this index.
-fn reserve_diff_at<A: AllocHandle>(
-    sessions: &mut Vec<(u64, Session<A>), A>,
-    place: usize,
-    name: &Name<A>,
-    differences: &[Difference<A>],
-) -> Result<SessionDelta<A>, OutOfMemory>
-    requires there { place < length sessions.old.items }
-    ensures kept { sessions.new.items ≡ sessions.old.items }
-    ensures added { IfOk result (λ delta. changed_at place (numbered_with delta) sessions.old.items
-        ≡ changed_at place (λ session. (
-          session.0,
-          record_diff name.now differences.now session.1,
-        )) sessions.old.items) }
-{
-    let (_, session) = &mut sessions[place];
-    session.reserve_diff(name, differences)
-}
-
 // What the changes of one commit add to each session but the quiet ones.
 fn reserve_each<A: AllocHandle>(
     sessions: &mut Vec<(u64, Session<A>), A>,
     changes: &[Change<A>],
     quiet: &[u64],
-    added: &mut Vec<(usize, SessionDelta<A>), A>,
+    delta: &mut Delta<A>,
 ) -> Result<(), OutOfMemory>
-    requires none { added.old.items ≡ [] }
+    requires none { (delta.old.renewed.items ≡ []) × (delta.old.touched.items ≡ []) }
     ensures kept { sessions.new.items ≡ sessions.old.items }
-    ensures added { OnOk result (with_parts numbered_with sessions.old.items added.new.items
+    ensures added { OnOk result (published delta.new sessions.old.items
         ≡ record_commit_each changes.now quiet.now sessions.old.items) }
 {
-    for place in 0..sessions.len() {
-        if let Some(delta) = reserve_unless(&mut sessions[place], changes, quiet)? {
-            added.push((place, delta))?;
-        }
+    let count = sessions.len();
+    for place in 0..count {
+        let session = &mut sessions[place];
+        reserve_unless(session, place, count - place, changes, quiet, delta)?;
     }
     Ok(())
 }
 
-// What the changes of one commit add to a session, unless it is a quiet one, or none where it stays as it is.
+// What the changes of one commit add to the session at this index, unless it is a quiet one.
 fn reserve_unless<A: AllocHandle>(
     numbered: &mut (u64, Session<A>),
+    place: usize,
+    room: usize,
     changes: &[Change<A>],
     quiet: &[u64],
-) -> Result<Option<SessionDelta<A>>, OutOfMemory>
+    delta: &mut Delta<A>,
+) -> Result<(), OutOfMemory>
     ensures kept { numbered.new ≡ numbered.old }
-    ensures added { IfOk result (λ delta. unwrap_or (option_map (λ own. numbered_with own numbered.old) delta)
-        numbered.old ≡ (
-          numbered.old.0,
-          if is_one_of quiet.now numbered.old.0 then numbered.old.1
-              else record_commit changes.now numbered.old.1,
-        )) }
+    ensures added { OnOk result (Adds place numbered.old.1 (if is_one_of quiet.now numbered.old.0
+        then numbered.old.1 else record_commit changes.now numbered.old.1) delta.old delta.new) }
 {
     let (number, session) = numbered;
     if is_one_of(quiet, *number) {
-        return Ok(None);
+        return Ok(());
     }
-    let delta = session.reserve(changes)?;
-    if delta.is_nothing() {
-        return Ok(None);
-    }
-    Ok(Some(delta))
+    session.reserve(place, room, changes, delta)
 }
 
 fn is_one_of(numbers: &[u64], number: u64) -> bool
@@ -278,18 +259,29 @@ fn is_one_of(numbers: &[u64], number: u64) -> bool
     numbers.iter().any(|other| number == *other)
 }
 
-// Publishes what is added to each of these sessions.
-fn publish_each<A: AllocHandle>(
-    sessions: &mut Vec<(u64, Session<A>), A>,
-    added: Vec<(usize, SessionDelta<A>), A>,
-)
-    ensures { sessions.new.items ≡ with_parts numbered_with sessions.old.items added.items }
+// Puts all tables of each of these sessions in place.
+fn publish_renewed<A: AllocHandle>(sessions: &mut Vec<(u64, Session<A>), A>, renewed: Renewed<A>)
+    ensures { sessions.new.items ≡ with_parts with_tables sessions.old.items
+        (map (λ own. (own.0, own.1.entries)) renewed.items) }
 {
-    let mut added = added;
-    while let Some((place, delta)) = added.pop() {
+    let mut renewed = renewed;
+    while let Some((place, tables)) = renewed.pop() {
         if place < sessions.len() {
             let (_, session) = &mut sessions[place];
-            session.publish(delta);
+            session.renew(tables);
+        }
+    }
+}
+
+// Puts the records of each of these tables in place.
+fn publish_touched<A: AllocHandle>(sessions: &mut Vec<(u64, Session<A>), A>, touched: Touched<A>)
+    ensures { sessions.new.items ≡ with_parts with_touched sessions.old.items touched.items }
+{
+    let mut touched = touched;
+    while let Some((place, (table, records))) = touched.pop() {
+        if place < sessions.len() {
+            let (_, session) = &mut sessions[place];
+            session.replace(table, records);
         }
     }
 }

@@ -1,8 +1,8 @@
 //! The records after a touch.
 ghost use Rattle.std.specs.Prelude.{◌≡◌, IsTrue, IfOk, OnOk};
-ghost use Rattle.std.specs.Option.{option_copied, unwrap_or};
+ghost use Rattle.std.specs.Option.{option_copied, option_map, unwrap_or};
 ghost use Rattle.cap_row.specs.Key.{fields_cmp};
-ghost use Rattle.cap_tree.specs.Tree.{IsOrdered, get};
+ghost use Rattle.cap_tree.specs.Tree.{IsOrdered, get, put_entry};
 ghost use Rattle.cap_session.specs.Records.{Records, Touch, record_after, touch};
 
 use crate::{Record, Records};
@@ -22,33 +22,34 @@ pub(crate) fn touch<A: AllocHandle>(
       indirect = indirect;
     })) }
 {
-    if let Some(after) = touched(records, key, image, indirect)? {
-        *records = after;
+    if let Some(record) = new_record(records, key, image, indirect)? {
+        records.put(key.copy()?, record)?;
     }
     Ok(())
 }
 
-// The records after a touch of a key, with the row before it, or none where they stay as they are. The key is
+// The record of a key after a touch, with the row before it, or none where it stays as it is. The key is
 // searched once.
-pub(crate) fn touched<A: AllocHandle>(
-    records: &mut Records<A>,
+#[inline(always)]
+pub(crate) fn new_record<A: AllocHandle>(
+    records: &Records<A>,
     key: &Key<A>,
     image: Option<&Row<A>>,
     indirect: bool,
-) -> Result<Option<Records<A>>, OutOfMemory>
-    ensures kept { records.new ≡ records.old }
-    ensures touched { IfOk result (λ after. unwrap_or after records.old ≡ touch records.old (record {
-      key = key.now;
-      image = option_copied image.entry;
-      indirect = indirect;
-    })) }
+) -> Result<Option<Record<A>>, OutOfMemory>
+    ensures { IfOk result (λ record_new. unwrap_or
+        (option_map (put_entry fields_cmp records.now key.now) record_new) records.now
+        ≡ touch records.now (record {
+          key = key.now;
+          image = option_copied image.entry;
+          indirect = indirect;
+        })) }
 {
     let found = records.get(key);
     if changes_nothing(found, indirect) {
         return Ok(None);
     }
-    let record = record_after(found, image, indirect)?;
-    Ok(Some(records.with(key.copy()?, record)?))
+    Ok(Some(record_after(found, image, indirect)?))
 }
 
 // Whether a touch of a key with this record leaves the records as they are, whatever its image: the record is

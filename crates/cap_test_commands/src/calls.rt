@@ -1,4 +1,4 @@
-//! Each of the twenty-one calls of a server, and what becomes of it with each request for memory refused.
+//! A call of each of the twenty-one commands, and what becomes of it with each request for memory refused.
 ghost use Rattle.std.specs.Prelude.{◌≡◌};
 
 use crate::carried::push_line;
@@ -13,7 +13,7 @@ use std::alloc::Global;
 use std::marker::Brand;
 use std::sync::Wait;
 
-// Each of the twenty-one commands, an application with a filter, and a step of a transaction, which no call has.
+// Each of the twenty-one commands, an application with a filter, and a step of a transaction.
 pub(crate) const WORKLOAD: &str = "create t kv\n\
      commit insert t (1,'x')\n\
      session\n\
@@ -85,105 +85,16 @@ pub(crate) const REPLIES: &str = "ok version 1\n\
 // What a call is answered.
 type Called = Result<Reply<Global>, CallFault>;
 
-// The calls that are named after the commands to tables, and take parts of them.
-fn call_tables<J: Naming>(
-    rt: &impl Wait,
-    server: &Server<J, Global>,
-    seat: &mut Seat<J, Global>,
-    command: Command<Global>,
-) -> Called {
-    match command {
-        Command::CreateTable { table, schema } => server.create_table(rt, seat, table, schema),
-        Command::Commit(batch) => server.commit(rt, seat, batch),
-        Command::Apply {
-            blob,
-            policy,
-            quiet,
-        } => server.apply(rt, seat, blob, policy, quiet),
-        Command::SaveAs { database } => server.save_as(rt, seat, database),
-        Command::DropDatabase { database } => server.drop_database(rt, seat, database),
-        _ => Err(CallFault::OutOfMemory),
-    }
-}
-
-// The calls that are named after the commands to a session, and take parts of them.
-fn call_sessions<J: Naming>(
-    rt: &impl Wait,
-    server: &Server<J, Global>,
-    seat: &mut Seat<J, Global>,
-    command: Command<Global>,
-) -> Called {
-    match command {
-        Command::Attach { session, table } => server.attach(rt, seat, session, table),
-        Command::SetFilter { session, filter } => server.set_filter(rt, seat, session, filter),
-        Command::Diff {
-            session,
-            from,
-            table,
-        } => server.diff(rt, seat, session, from, table),
-        _ => Err(CallFault::OutOfMemory),
-    }
-}
-
-// The calls that are named after the other commands which may change a session.
-fn call_changes<J: Naming>(
-    rt: &impl Wait,
-    server: &Server<J, Global>,
-    seat: &mut Seat<J, Global>,
-    command: &Command<Global>,
-) -> Called {
-    match command {
-        Command::NewSession => server.new_session(rt, seat),
-        Command::AttachAll { session } => server.attach_all(rt, seat, *session),
-        Command::Enable { session, enabled } => server.enable(rt, seat, *session, *enabled),
-        Command::Indirect { session, indirect } => server.indirect(rt, seat, *session, *indirect),
-        Command::DropSession { session } => server.drop_session(rt, seat, *session),
-        _ => Err(CallFault::OutOfMemory),
-    }
-}
-
-// The calls that are named after the commands which ask for something.
-fn call_asks<J: Naming>(
-    rt: &impl Wait,
-    server: &Server<J, Global>,
-    seat: &mut Seat<J, Global>,
-    command: &Command<Global>,
-) -> Called {
-    match command {
-        Command::Read => server.read(rt, seat),
-        Command::Databases => server.databases(rt, seat),
-        Command::Sessions => server.sessions(rt, seat),
-        Command::Tables => server.tables(rt, seat),
-        Command::Dump => server.dump(rt, seat),
-        Command::IsEmpty { session } => server.is_empty(rt, seat, *session),
-        Command::Capture { session } => server.capture(rt, seat, *session),
-        Command::Restart { session } => server.restart(rt, seat, *session),
-        _ => Err(CallFault::OutOfMemory),
-    }
-}
-
-// Makes the call that is named after the command.
+// Makes the call. A commit takes its batch.
 fn call<J: Naming>(
     rt: &impl Wait,
     server: &Server<J, Global>,
     seat: &mut Seat<J, Global>,
     command: Command<Global>,
 ) -> Called {
-    match &command {
-        Command::CreateTable { .. }
-        | Command::Commit(_)
-        | Command::Apply { .. }
-        | Command::SaveAs { .. }
-        | Command::DropDatabase { .. } => call_tables(rt, server, seat, command),
-        Command::Attach { .. } | Command::SetFilter { .. } | Command::Diff { .. } => {
-            call_sessions(rt, server, seat, command)
-        }
-        Command::NewSession
-        | Command::AttachAll { .. }
-        | Command::Enable { .. }
-        | Command::Indirect { .. }
-        | Command::DropSession { .. } => call_changes(rt, server, seat, &command),
-        _ => call_asks(rt, server, seat, &command),
+    match command {
+        Command::Commit(batch) => server.commit(rt, seat, batch),
+        command => server.call(rt, seat, &command),
     }
 }
 
@@ -198,8 +109,8 @@ fn push_reply<A: AllocHandle>(
     push_line(texts, text.as_str())
 }
 
-// Makes each call of the workload, and adds the texts of the replies. A call takes its command's parts, so
-// that the lines are read twice.
+// Makes each call of the workload, and adds the texts of the replies. A call takes its command, so that the
+// lines are read twice.
 fn answers<J: Naming>(
     rt: &impl Wait,
     alloc: Global,

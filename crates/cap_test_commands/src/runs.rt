@@ -32,9 +32,9 @@ fn session_and_row(alloc: Global) -> Option<Vec<Command<Global>>> {
             schema: Schema::new(alloc, &[true, false]).ok()?
         },
         Command::NewSession,
-        Command::Attach { session: 1, table },
+        Command::attach(1, table),
         Command::Commit(batch),
-        Command::Capture { session: 1 },
+        Command::capture(1),
     ];
     commands.ok()
 }
@@ -188,7 +188,7 @@ fn captured(core: &mut Core<Global>) -> Option<Capture<Global>> {
     if core.events() >= EVENTS_MAX {
         return None;
     }
-    match core.step(&Command::Capture { session: 1 }, &mut NoHook) {
+    match core.step(&Command::capture(1), &mut NoHook) {
         Ok(reply) => capture_in(reply),
         Err(_) => None,
     }

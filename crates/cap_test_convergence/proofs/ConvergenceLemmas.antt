@@ -1,8 +1,7 @@
 -- A client and a hub have the same rows after the steps of a synchronisation.
-use Rattle.std.proofs.Common.{◌≡◌, ℕ, Bool, true, cond, Some, None, Result, Ok, IfOk, List, [], ◌∷◌, ◌++◌, refl, sym, ap, subst, ◌∙◌, nat_eq, arith}
+use Rattle.std.proofs.Common.{◌≡◌, ℕ, Bool, cond, Some, None, Result, Ok, IfOk, List, [], ◌∷◌, ◌++◌, refl, sym, ap, subst, ◌∙◌}
 use Rattle.std.specs.Prelude.{reverse}
 use Rattle.std.specs.Option.{unwrap_or}
-use Rattle.std.proofs.lemmas.Bool.Decides.{nat_tests}
 use Rattle.std.proofs.lemmas.List.{reverse-append}
 use Rattle.cap_value.specs.declared.refusal.Refusal.{Refusal}
 use Rattle.cap_row.specs.Fields.{Fields}
@@ -22,7 +21,9 @@ use Rattle.cap_apply.specs.Report.{ReportState}
 use Rattle.cap_apply.specs.declared.policy.Policy.{Policy}
 use Rattle.cap_rebase.specs.Buffer.{buffer_of}
 use Rattle.cap_rebase.specs.Rebaser.{Buffers, rebase}
+use Rattle.cap_session.specs.declared.session_change.SessionChange.TheVariants.{Restart}
 use Rattle.cap_core.specs.declared.command.Command.TheVariants as command
+use Rattle.cap_core.specs.declared.session_command.SessionCommand.TheVariants.{Change}
 use Rattle.cap_core.specs.declared.event.Event.{Event}
 use Rattle.cap_core.specs.declared.reply.Reply.TheVariants as reply
 use Rattle.cap_core.specs.Answer.{State, answer, event_by, state_after}
@@ -32,9 +33,10 @@ use Rattle.cap_core.specs.Past.{Past}
 use Rattle.cap_core.specs.Restarts.{first_touched}
 use Rattle.cap_core.specs.Session.{session_of}
 use Rattle.cap_core.specs.Table.{BlobsFitPast}
-use Rattle.cap_core.specs.Touch.{event_touches, touches}
+use Rattle.cap_core.specs.Touch.{event_touches, restarts, touches}
 use Rattle.cap_core.proofs.AppliedCaptureLemmas.{captured}
-use Rattle.cap_captures.specs.Parts.{IsLeftBy}
+use Rattle.cap_core.proofs.ToldLemmas.{to_itself}
+use Rattle.cap_captures.specs.Parts.{IsLeftBy, capturing, restarting}
 use Rattle.cap_captures.specs.Rows.{AreInARow}
 use Rattle.cap_convergence.specs.Convergence.{AreAppliedInTurn, Columns, HasOneChangeEach, HasTables, HaveSameRows, IsAppliedWhole, LeadsFrom, RemoteChangeset, Rows}
 use Rattle.cap_test_convergence.specs.declared.synchronisation.Synchronised.{Synchronised}
@@ -64,11 +66,8 @@ Converges A = (columns : Columns) (base hub : Rows A) (client last tables : Tabl
 
 -- the bytes of a capture are read as its changes
 abbrev pub Reads : Type 0 → Type 0
-Reads A = (past : Past A) (session : ℕ) (capture : CaptureState A) → answer (state_after past) (command.Capture session) ≡ reply.Capture capture → IsWritable (Changes capture.changes)
+Reads A = (past : Past A) (session : ℕ) (capture : CaptureState A) → answer (state_after past) (capturing session) ≡ reply.Capture capture → IsWritable (Changes capture.changes)
     → blob_at (list_bytes capture.changes) ≡ Ok (Changes capture.changes)
-
-same_number : (n : ℕ) → nat_eq n n ≡ true
-same_number n = grind (arith, nat_tests)
 
 module _ {A : Type 0} where
   -- ---- one side
@@ -77,23 +76,23 @@ module _ {A : Type 0} where
   pub record IsDone (session : ℕ) (side : Exchange A) (before after : State A) : Type 0 where
     pub told : State A
     pub middle : State A
-    pub capture : IsCarriedOut before (command.Capture session) (reply.Capture side.captured) told
+    pub capture : IsCarriedOut before (capturing session) (reply.Capture side.captured) told
     pub application : IsCarriedOut told (command.Apply (Changes side.changes) side.policy []) (reply.Applied side.version side.report) middle
-    pub restart : IsCarriedOut middle (command.Restart session) (reply.Capture side.echo) after
+    pub restart : IsCarriedOut middle (restarting session) (reply.Capture side.echo) after
 
   -- its events, the newest one first
   abbrev pub later : Past A → ℕ → Exchange A → Past A
   later past session side =
-      event_by 0 (command.Restart session) (reply.Capture side.echo)
+      event_by 0 (restarting session) (reply.Capture side.echo)
       ∷ event_by 0 (command.Apply (Changes side.changes) side.policy []) (reply.Applied side.version side.report)
-      ∷ event_by 0 (command.Capture session) (reply.Capture side.captured) ∷ past
+      ∷ event_by 0 (capturing session) (reply.Capture side.captured) ∷ past
 
   module _ (past : Past A) (session : ℕ) (side : Exchange A) (before after : State A) (at : Leaves past before) (done : IsDone session side before after) where
     pub done-leaves : Leaves (later past session side) after
     done-leaves =
-        let one = leaves-more past before done.told (command.Capture session) (reply.Capture side.captured) at done.capture in
+        let one = leaves-more past before done.told (capturing session) (reply.Capture side.captured) at done.capture in
         let two = leaves-more _ done.told done.middle (command.Apply (Changes side.changes) side.policy []) (reply.Applied side.version side.report) one done.application in
-        leaves-more _ done.middle after (command.Restart session) (reply.Capture side.echo) two done.restart
+        leaves-more _ done.middle after (restarting session) (reply.Capture side.echo) two done.restart
 
     -- the application, to the tables of before
     pub record Application : Type 0 where
@@ -118,16 +117,16 @@ module _ {A : Type 0} where
     pub done-base : (name : List ℕ) (key : Fields A) → base_row session (later past session side) name key ≡ row_at after.main name key
     done-base name key =
         let tables : main (later past session side) ≡ after.main = ap (λ (s : State A). s.main) done-leaves.is in
-        ap (λ b. unwrap_or (first_touched (cond b [] (touches session (earlier) ++ event_touches session (newest) (earlier))) name key) (row_at (main (later past session side)) name key)) (same_number session)
+        ap (λ t. unwrap_or (first_touched (cond (restarts t) [] (touches session (earlier) ++ event_touches session (newest) (earlier))) name key) (row_at (main (later past session side)) name key)) (to_itself session (Change Restart))
         ∙ ap (λ tables. row_at tables name key) tables
       where
         newest : Event A
-        newest = event_by 0 (command.Restart session) (reply.Capture side.echo)
+        newest = event_by 0 (restarting session) (reply.Capture side.echo)
 
         earlier : Past A
         earlier =
             event_by 0 (command.Apply (Changes side.changes) side.policy []) (reply.Applied side.version side.report)
-            ∷ event_by 0 (command.Capture session) (reply.Capture side.captured) ∷ past
+            ∷ event_by 0 (capturing session) (reply.Capture side.captured) ∷ past
 
     -- the columns stay
     pub done-columns : AppliesKeep A → (name : List ℕ) → schema_of after.main name ≡ schema_of (main past) name
@@ -137,7 +136,7 @@ module _ {A : Type 0} where
         ∙ subst (λ r. IfOk r (λ left. (name : List ℕ) → schema_of left.database name ≡ schema_of (main past) name)) how.is (keep (main past) (Changes side.changes) side.policy) name
 
     pub done-captured : side.captured.changes ≡ session_changes (main past) (session_of past session)
-    done-captured = captured past session side.captured (ap (λ s. answer s (command.Capture session)) at.is ∙ sym done.capture.replied)
+    done-captured = captured past session side.captured (ap (λ s. answer s (capturing session)) at.is ∙ sym done.capture.replied)
 
   -- ---- both sides
 
@@ -366,7 +365,7 @@ module _ {A : Type 0} where
       → HaveOneBase client_session (reverse c) hub_session (reverse h) → IsSynchronised c client_session h hub_session policy client_left hub_left made
   synchronises runs_keep creates_keep applies_keep converges rises reads c h client hub client_left hub_left client_session hub_session policy made steps c_left h_left one =
       let q_at = leaves-of h hub h_left in
-      let is_read = reads (reverse h) hub_session steps.remote (ap (λ s. answer s (command.Capture hub_session)) q_at.is ∙ sym steps.hub_captures.replied) steps.writable in
+      let is_read = reads (reverse h) hub_session steps.remote (ap (λ s. answer s (capturing hub_session)) q_at.is ∙ sym steps.hub_captures.replied) steps.writable in
       synchronised runs_keep creates_keep applies_keep converges rises c h client_session hub_session policy
       (at_client client hub client_left hub_left client_session hub_session policy made steps is_read) (at_hub client hub client_left hub_left client_session hub_session policy made steps is_read)
       client hub client_left hub_left made c_left h_left one

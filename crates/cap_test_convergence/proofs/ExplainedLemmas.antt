@@ -25,6 +25,7 @@ use Rattle.cap_session.specs.Session.{SessionState}
 use Rattle.cap_session.specs.Sessions.{NumberedSessions, record_commit_each, session_numbered, with_session}
 use Rattle.cap_session.specs.Recording.{record_commit}
 use Rattle.cap_core.specs.declared.command.Command.TheVariants as command
+use Rattle.cap_core.specs.declared.session_command.SessionCommand.TheVariants as to_session
 use Rattle.cap_core.specs.declared.event.Event.{Event}
 use Rattle.cap_core.specs.declared.reply.Reply.{Reply}
 use Rattle.cap_core.specs.declared.reply.Reply.TheVariants as reply
@@ -37,7 +38,7 @@ use Rattle.cap_core.specs.Session.{session_of}
 use Rattle.cap_core.specs.Table.{BlobsFitPast}
 use Rattle.cap_core.specs.Transition.{after_session, after_write, next, session_left}
 use Rattle.cap_core.proofs.AppliedCaptureLemmas.{captured}
-use Rattle.cap_captures.specs.Parts.{IsLeftBy}
+use Rattle.cap_captures.specs.Parts.{IsLeftBy, capturing, restarting}
 use Rattle.cap_captures.proofs.AcceptedLemmas.{restarts, there-captured}
 use Rattle.cap_test_convergence.specs.declared.synchronisation.NotSynchronised.{NotSynchronised}
 use Rattle.cap_test_convergence.specs.declared.synchronisation.NotSynchronised.TheVariants as why
@@ -177,9 +178,9 @@ module _ {A : Type 0} where
   abbrev is_live : State A → ℕ → Bool
   is_live s number = is_some (session_numbered s.sessions number)
 
-  live-captured : (s : State A) (number : ℕ) → is_live s number ≡ true → is_live (next s (command.Capture number)) number ≡ true
+  live-captured : (s : State A) (number : ℕ) → is_live s number ≡ true → is_live (next s (capturing number)) number ≡ true
   live-captured s number there =
-      elim (session_numbered s.sessions number) as (λ o. is_live (after_session s number o (session_left s.main s.saved (command.Capture number))) number ≡ true) [
+      elim (session_numbered s.sessions number) as (λ o. is_live (after_session s number o (session_left s.main s.saved to_session.Capture)) number ≡ true) [
         | None ↦ there
         | Some session ↦ numbered-with s.sessions number session ∙ there
       ]
@@ -193,15 +194,15 @@ module _ {A : Type 0} where
 
   -- ---- the number of events
 
-  events-captured : (s : State A) (number : ℕ) → (next s (command.Capture number)).events ≡ s.events + 1
+  events-captured : (s : State A) (number : ℕ) → (next s (capturing number)).events ≡ s.events + 1
   events-captured s number =
-      elim (session_numbered s.sessions number) as (λ o. (after_session s number o (session_left s.main s.saved (command.Capture number))).events ≡ s.events + 1) [ None ↦ refl | Some session ↦ refl ]
+      elim (session_numbered s.sessions number) as (λ o. (after_session s number o (session_left s.main s.saved to_session.Capture)).events ≡ s.events + 1) [ None ↦ refl | Some session ↦ refl ]
 
   events-applied : (s : State A) (blob : Contents A) (policy : Policy) → (next s (command.Apply blob policy [])).events ≡ s.events + 1
   events-applied s blob policy =
       elim (apply s.main blob policy) as (λ r. (after_write s [] (applied r)).events ≡ s.events + 1) [ Ok left ↦ refl | Err reason ↦ refl ]
 
-  module _ (before told : State A) (session : ℕ) (capture : CaptureState A) (captures : IsCarriedOut before (command.Capture session) (reply.Capture capture) told) where
+  module _ (before told : State A) (session : ℕ) (capture : CaptureState A) (captures : IsCarriedOut before (capturing session) (reply.Capture capture) told) where
     told-events : told.events ≡ before.events + 1
     told-events = ap (λ (s : State A). s.events) captures.left ∙ events-captured before session
 
@@ -215,7 +216,7 @@ module _ {A : Type 0} where
           let more : middle.events ≡ told.events + 1 = ap (λ (s : State A). s.events) applies.left ∙ events-applied told blob policy in
           none (omega arith)
 
-      pub still-live : IsNoCapture middle (command.Restart session) → ⊥
+      pub still-live : IsNoCapture middle (restarting session) → ⊥
       still-live none =
           let there : is_live before session ≡ true = there-captured before session (ap is_accepted (sym captures.replied)) in
           let told_live : is_live told session ≡ true = subst (λ (s : State A). is_live s session ≡ true) (sym captures.left) (live-captured before session there) in
@@ -229,10 +230,10 @@ module _ {A : Type 0} where
   pub record HaveCaptured (client : State A) (client_session : ℕ) (hub : State A) (hub_session : ℕ) : Type 0 where
     pub local : CaptureState A
     pub client_told : State A
-    pub client_captures : IsCarriedOut client (command.Capture client_session) (reply.Capture local) client_told
+    pub client_captures : IsCarriedOut client (capturing client_session) (reply.Capture local) client_told
     pub remote : CaptureState A
     pub hub_told : State A
-    pub hub_captures : IsCarriedOut hub (command.Capture hub_session) (reply.Capture remote) hub_told
+    pub hub_captures : IsCarriedOut hub (capturing hub_session) (reply.Capture remote) hub_told
     pub writable : IsWritable (Changes remote.changes)
 
   not-both : (left : AppliedState A) (reason : Refusal) → (let made : Result (AppliedState A) Refusal = Ok left in made) ≡ Err reason → ⊥
@@ -260,17 +261,17 @@ module _ {A : Type 0} where
     q_at = leaves-of h hub h_left
 
     is_read : blob_at (list_bytes remote) ≡ Ok (Changes remote)
-    is_read = reads q hub_session both.remote (ap (λ s. answer s (command.Capture hub_session)) q_at.is ∙ sym both.hub_captures.replied) both.writable
+    is_read = reads q hub_session both.remote (ap (λ s. answer s (capturing hub_session)) q_at.is ∙ sym both.hub_captures.replied) both.writable
 
     -- the hub's bytes are read
     pub remote-read : IsUnreadable A (list_bytes remote) → ⊥
     remote-read none = none remote is_read
 
     local_is : local ≡ session_changes (main p) (session_of p client_session)
-    local_is = captured p client_session both.local (ap (λ s. answer s (command.Capture client_session)) p_at.is ∙ sym both.client_captures.replied)
+    local_is = captured p client_session both.local (ap (λ s. answer s (capturing client_session)) p_at.is ∙ sym both.client_captures.replied)
 
     remote_is : remote ≡ session_changes (main q) (session_of q hub_session)
-    remote_is = captured q hub_session both.remote (ap (λ s. answer s (command.Capture hub_session)) q_at.is ∙ sym both.hub_captures.replied)
+    remote_is = captured q hub_session both.remote (ap (λ s. answer s (capturing hub_session)) q_at.is ∙ sym both.hub_captures.replied)
 
     client_main : both.client_told.main ≡ client.main
     client_main = ap (λ (s : State A). s.main) both.client_captures.left ∙ main-captured client client_session

@@ -1,5 +1,5 @@
 -- The image of each touch of a session is a row of its table, under the key, or there is none.
-use Rattle.std.proofs.Common.{◌≡◌, ℕ, Bool, true, false, cond, Option, Some, None, Result, Ok, Err, List, [], ◌∷◌, ◌++◌, ◌&&◌, ◌||◌, length, IfOk, refl, sym, ap, subst, ◌∙◌, nat_eq}
+use Rattle.std.proofs.Common.{◌≡◌, ℕ, Bool, true, false, cond, Option, Some, None, Result, Ok, Err, List, [], ◌∷◌, ◌++◌, ◌&&◌, ◌||◌, length, IfOk, refl, sym, ap, subst, ◌∙◌}
 use Rattle.std.specs.Prelude.{filter, map, option_and_then}
 use Rattle.std.specs.List.{AllByRecursion, cons_option, filter_map, list_all}
 use Rattle.std.specs.Option.{option_map}
@@ -21,12 +21,12 @@ use Rattle.cap_database.specs.declared.change.Change.{Change}
 use Rattle.cap_database.specs.declared.op.Op.{Op}
 use Rattle.cap_session.specs.Recording.{is_cascade}
 use Rattle.cap_group.specs.Rows.{IsRowUnder}
-use Rattle.cap_core.specs.declared.command.Command.{Command}
-use Rattle.cap_core.specs.declared.command.Command.TheVariants as command
+use Rattle.cap_core.specs.declared.session_command.SessionCommand.{SessionCommand}
+use Rattle.cap_core.specs.declared.session_command.SessionCommand.TheVariants as to_session
 use Rattle.cap_core.specs.declared.event.Event.{Event}
 use Rattle.cap_core.specs.CanCapture.{image_stands}
 use Rattle.cap_core.specs.Diff.{compared, diff, diff_from, diff_to}
-use Rattle.cap_core.specs.Flags.{is_enabled, is_indirect}
+use Rattle.cap_core.specs.Flags.{command_to, is_enabled, is_indirect}
 use Rattle.cap_core.specs.History.{main, saved, snapshot}
 use Rattle.cap_core.specs.Past.{Past, is_accepted}
 use Rattle.cap_core.specs.Restarts.{first_touched}
@@ -194,19 +194,15 @@ module _ {A : Type 0} where
       found-stand from name (Ok (Some ds)) is = diff-stands from name ds is
       found-stand from name (Err why) is = tt
 
-      by-stand : (c : Command A) → AreFound (diff_by session c past)
-      by-stand (command.Diff number from name) =
-          elim (nat_eq number session) as (λ b. AreFound (cond b (found_in name (diff (main past) (saved past) from name)) None)) [
-            | true ↦ found-stand from name (diff (main past) (saved past) from name) refl
-            | false ↦ tt
-          ]
+      by-stand : (c : Option (SessionCommand A)) → AreFound (diff_by c past)
+      by-stand (Some (to_session.Diff from name)) = found-stand from name (diff (main past) (saved past) from name) refl
       by-stand _ = tt
 
       event-stands : (event : Event A) → AllStand (main past) (event_touches session event past)
       event-stands event =
           all-append (Stands (main past)) (changes_touch session event past) (diff_touches session past (event_diff session event past)) (changes-stand event)
-          (elim (is_accepted event.reply) as (λ b. AreFound (cond b (diff_by session event.command past) None)) [
-            | true ↦ by-stand event.command
+          (elim (is_accepted event.reply) as (λ b. AreFound (cond b (diff_by (command_to session event.command) past) None)) [
+            | true ↦ by-stand (command_to session event.command)
             | false ↦ tt
           ])
 
@@ -216,7 +212,7 @@ module _ {A : Type 0} where
     touches-stand session [] fits = tt
     touches-stand session (event ∷ past) fits =
         let before = touches session past ++ event_touches session event past in
-        elim (is_accepted event.reply && restarts session event.command) as (λ b. AllStand (main (event ∷ past)) (cond b [] before)) [
+        elim (is_accepted event.reply && restarts (command_to session event.command)) as (λ b. AllStand (main (event ∷ past)) (cond b [] before)) [
           | true ↦ tt
           | false ↦ all-turn (Stands (main past)) (Stands (main (event ∷ past))) (kept event past) before
               (all-append (Stands (main past)) (touches session past) (event_touches session event past) (touches-stand session past fits.1) (event-stands session past fits.1 event))

@@ -14,8 +14,10 @@ use Rattle.cap_apply.specs.declared.policy.Policy.{Policy}
 use Rattle.cap_rebase.specs.Rebaser.{Buffers, configured, rebase, rebased_group, rebased_list, refused, unless}
 use Rattle.cap_rebase.specs.declared.refusal.RebaseRefusal.{RebaseRefusal}
 use Rattle.cap_session.specs.Sessions.{session_numbered}
+use Rattle.cap_session.specs.declared.session_change.SessionChange.TheVariants as change
 use Rattle.cap_core.specs.declared.command.Command.{Command}
 use Rattle.cap_core.specs.declared.command.Command.TheVariants as command
+use Rattle.cap_core.specs.declared.session_command.SessionCommand.TheVariants as to_session
 use Rattle.cap_core.specs.declared.event.Event.{Event}
 use Rattle.cap_core.specs.declared.reply.Reply.{Reply}
 use Rattle.cap_core.specs.declared.reply.Reply.TheVariants as reply
@@ -25,7 +27,7 @@ use Rattle.cap_core.specs.Past.{Past}
 use Rattle.cap_core.specs.Table.{BlobsFit, BlobsFitPast}
 use Rattle.cap_core.specs.Transition.{after_session, after_write, next, session_left}
 use Rattle.cap_core.proofs.NextLemmas.{next-is}
-use Rattle.cap_captures.specs.Parts.{IsLeftBy}
+use Rattle.cap_captures.specs.Parts.{IsLeftBy, capturing, restarting}
 use Rattle.cap_test_convergence.specs.Steps.{IsCarriedOut}
 
 module _ {A : Type 0} where
@@ -60,13 +62,13 @@ module _ {A : Type 0} where
 
   -- ---- tables
 
-  pub main-captured : (s : State A) (number : ℕ) → (next s (command.Capture number)).main ≡ s.main
+  pub main-captured : (s : State A) (number : ℕ) → (next s (capturing number)).main ≡ s.main
   main-captured s number =
-      elim (session_numbered s.sessions number) as (λ o. (after_session s number o (session_left s.main s.saved (command.Capture number))).main ≡ s.main) [ None ↦ refl | Some session ↦ refl ]
+      elim (session_numbered s.sessions number) as (λ o. (after_session s number o (session_left s.main s.saved to_session.Capture)).main ≡ s.main) [ None ↦ refl | Some session ↦ refl ]
 
-  pub main-restarted : (s : State A) (number : ℕ) → (next s (command.Restart number)).main ≡ s.main
+  pub main-restarted : (s : State A) (number : ℕ) → (next s (restarting number)).main ≡ s.main
   main-restarted s number =
-      elim (session_numbered s.sessions number) as (λ o. (after_session s number o (session_left s.main s.saved (command.Restart number))).main ≡ s.main) [ None ↦ refl | Some session ↦ refl ]
+      elim (session_numbered s.sessions number) as (λ o. (after_session s number o (session_left s.main s.saved (to_session.Change change.Restart))).main ≡ s.main) [ None ↦ refl | Some session ↦ refl ]
 
   -- a blob that was applied
   pub record WasApplied (s t : State A) (blob : Contents A) (policy : Policy) (report : ReportState) : Type 0 where

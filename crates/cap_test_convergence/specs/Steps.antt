@@ -19,6 +19,7 @@ use Rattle.cap_core.specs.Answer.{State, answer}
 use Rattle.cap_core.specs.Capture.{CaptureState}
 use Rattle.cap_core.specs.Table.{BlobFits}
 use Rattle.cap_core.specs.Transition.{next}
+use Rattle.cap_captures.specs.Parts.{capturing, restarting}
 use Rattle.cap_test_convergence.specs.declared.synchronisation.NotSynchronised.{NotSynchronised}
 use Rattle.cap_test_convergence.specs.declared.synchronisation.NotSynchronised.TheVariants as why
 use Rattle.cap_test_convergence.specs.declared.synchronisation.Synchronised.{Synchronised}
@@ -78,10 +79,10 @@ module _ {A : Type 0} where
     pub local : CaptureState A
     pub client_told : State A
     pub client_captures :
-        IsCarriedOut client (command.Capture client_session) (reply.Capture local) client_told
+        IsCarriedOut client (capturing client_session) (reply.Capture local) client_told
     pub remote : CaptureState A
     pub hub_told : State A
-    pub hub_captures : IsCarriedOut hub (command.Capture hub_session) (reply.Capture remote) hub_told
+    pub hub_captures : IsCarriedOut hub (capturing hub_session) (reply.Capture remote) hub_told
     pub writable : IsWritable (Changes remote.changes)
     pub received : List (TableChanges A)
     pub read : blob_at (list_bytes remote.changes) ≡ Ok (Changes received)
@@ -100,8 +101,8 @@ module _ {A : Type 0} where
     pub hub_applies : IsCarriedOut hub_told (command.Apply (Changes sent) hub_policy [])
         (reply.Applied hub_version hub_report) hub_middle
     pub client_echo : CaptureState A
-    pub client_restarts : IsCarriedOut client_middle (command.Restart client_session)
+    pub client_restarts : IsCarriedOut client_middle (restarting client_session)
         (reply.Capture client_echo) client_left
     pub hub_echo : CaptureState A
     pub hub_restarts :
-        IsCarriedOut hub_middle (command.Restart hub_session) (reply.Capture hub_echo) hub_left
+        IsCarriedOut hub_middle (restarting hub_session) (reply.Capture hub_echo) hub_left

@@ -12,7 +12,7 @@ use Rattle.cap_apply.specs.Report.{ReportState}
 use Rattle.cap_apply.specs.declared.policy.Policy.{Policy}
 use Rattle.cap_rebase.specs.Buffer.{buffer_of}
 use Rattle.cap_rebase.specs.Rebaser.{rebase}
-use Rattle.cap_core.specs.declared.command.Command.TheVariants.{Apply, Capture, Restart}
+use Rattle.cap_core.specs.declared.command.Command.TheVariants.{Apply}
 use Rattle.cap_core.specs.declared.event.Event.{Event}
 use Rattle.cap_core.specs.declared.reply.Reply.TheVariants as reply
 use Rattle.cap_core.specs.Answer.{State, answer, event_by}
@@ -21,7 +21,7 @@ use Rattle.cap_core.specs.History.{main}
 use Rattle.cap_core.specs.Past.{Past}
 use Rattle.cap_core.specs.Restarts.{first_touched}
 use Rattle.cap_core.specs.Touch.{touches}
-use Rattle.cap_captures.specs.Parts.{IsLeftBy}
+use Rattle.cap_captures.specs.Parts.{IsLeftBy, capturing, restarting}
 use Rattle.cap_test_convergence.specs.Steps.{IsNoCapture}
 use Rattle.cap_test_convergence.specs.declared.synchronisation.NotSynchronised.{NotSynchronised}
 use Rattle.cap_test_convergence.specs.declared.synchronisation.NotSynchronised.TheVariants as why
@@ -52,10 +52,10 @@ module _ {A : Type 0} where
   -- its events, the first one first
   abbrev pub events_of : ℕ → Exchange A → List (Event A)
   events_of session exchange =
-      event_by 0 (Capture session) (reply.Capture exchange.captured)
+      event_by 0 (capturing session) (reply.Capture exchange.captured)
       ∷ event_by 0 (Apply (Changes exchange.changes) exchange.policy [])
       (reply.Applied exchange.version exchange.report)
-      ∷ event_by 0 (Restart session) (reply.Capture exchange.echo) ∷ []
+      ∷ event_by 0 (restarting session) (reply.Capture exchange.echo) ∷ []
 
   -- After their histories both sides exchange the changes of their sessions. The client applies those of the
   -- hub under the policy, and the hub those of the client, rebased over the ones that met a conflict. At the
@@ -84,11 +84,11 @@ module _ {A : Type 0} where
   -- differ is never the answer.
   abbrev pub Explains : NotSynchronised → State A → ℕ → State A → ℕ → Policy → Type 0
   Explains why.NoClientSession client client_session hub hub_session policy =
-      IsNoCapture client (Capture client_session)
+      IsNoCapture client (capturing client_session)
   Explains why.NoHubSession client client_session hub hub_session policy =
-      IsNoCapture hub (Capture hub_session)
+      IsNoCapture hub (capturing hub_session)
   Explains (why.NotApplied reason) client client_session hub hub_session policy =
-      (capture : CaptureState A) × (answer hub (Capture hub_session) ≡ reply.Capture capture)
+      (capture : CaptureState A) × (answer hub (capturing hub_session) ≡ reply.Capture capture)
       × (apply client.main (Changes capture.changes) policy ≡ Err reason)
   Explains why.OtherBase client client_session hub hub_session policy = ⊥
   Explains why.Full client client_session hub hub_session policy =

@@ -11,7 +11,7 @@ ghost use Rattle.cap_core.specs.declared.command.Command.TheVariants as command;
 ghost use Rattle.cap_core.specs.declared.event.Event.{Event};
 ghost use Rattle.cap_core.specs.declared.reply.Reply.TheVariants as reply;
 ghost use Rattle.cap_core.specs.Past.{HasRoom};
-ghost use Rattle.cap_captures.specs.Parts.{IsLeftBy};
+ghost use Rattle.cap_captures.specs.Parts.{IsLeftBy, capturing, restarting};
 ghost use Rattle.cap_test_convergence.specs.Steps.{Hinders, IsCarriedOut, IsExchanged, IsNoCapture, IsNotRebased};
 ghost use Rattle.cap_test_convergence.specs.Steps.{IsRebased, IsUnreadable};
 ghost use Rattle.cap_test_convergence.specs.Synchronised.{Explains, HaveOneBase, IsSynchronised};
@@ -21,10 +21,12 @@ use cap_changes::ChangeList;
 use cap_codec::{Contents, changes_are_writable, read_blob, write_changes};
 use cap_convergence::a_rebased_changeset_leads_from_the_hub_to_the_client;
 use cap_core::{
-    Capture, Command, Core, EVENTS_MAX, QuietSessions, Reply, bytes_of_a_capture_give_the_rows_now,
+    Capture, Command, Core, EVENTS_MAX, QuietSessions, Reply, SessionCommand,
+    bytes_of_a_capture_give_the_rows_now,
 };
 use cap_database::{tables_keep_columns, tables_keep_order};
 use cap_rebase::{Rebaser, buffer_of};
+use cap_session::SessionChange;
 use cap_value::{AllocHandle, Fault, OutOfMemory, Refusal};
 
 /// What a client and a hub exchanged.
@@ -210,12 +212,12 @@ fn captured<A: AllocHandle>(
     core: &Core<A>,
     session: u64,
 ) -> Result<Option<CaptureTaken<A>>, NotSynchronised>
-    ensures step { IfOk result (λ made. MatchOption made (IsNoCapture core.now (command.Capture session))
-        (λ taken. IsCarriedOut core.now (command.Capture session) (reply.Capture taken.capture)
-        taken.core)) }
+    ensures step { IfOk result (λ made. MatchOption made (IsNoCapture core.now (capturing session))
+        (λ taken. IsCarriedOut core.now (capturing session) (reply.Capture taken.capture) taken.core)) }
     ensures hindered { IfErr result (Hinders (HasRoom core.now.events → ⊥) (λ _. ⊥) ⊥) }
 {
-    captured_by(core, Command::Capture { session })
+    let command = SessionCommand::Capture;
+    captured_by(core, Command::Session { session, command })
 }
 
 fn restarted<A: AllocHandle>(
@@ -223,11 +225,12 @@ fn restarted<A: AllocHandle>(
     session: u64,
 ) -> Result<CaptureTaken<A>, NotSynchronised>
     ensures step { IfOk result (λ taken.
-        IsCarriedOut core.now (command.Restart session) (reply.Capture taken.capture) taken.core) }
+        IsCarriedOut core.now (restarting session) (reply.Capture taken.capture) taken.core) }
     ensures hindered { IfErr result (Hinders (HasRoom core.now.events → ⊥) (λ _. ⊥)
-        (IsNoCapture core.now (command.Restart session))) }
+        (IsNoCapture core.now (restarting session))) }
 {
-    match captured_by(core, Command::Restart { session })? {
+    let command = SessionCommand::Change(SessionChange::Restart);
+    match captured_by(core, Command::Session { session, command })? {
         Some(taken) => Ok(taken),
         None => Err(NotSynchronised::OtherBase),
     }

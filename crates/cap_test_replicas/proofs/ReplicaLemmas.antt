@@ -18,7 +18,8 @@ use Rattle.cap_apply.specs.declared.policy.Policy.{Policy}
 use Rattle.cap_session.specs.Session.{SessionState}
 use Rattle.cap_session.specs.Sessions.{session_numbered}
 use Rattle.cap_core.specs.declared.command.Command.{Command}
-use Rattle.cap_core.specs.declared.command.Command.TheVariants.{Capture}
+use Rattle.cap_core.specs.declared.command.Command.TheVariants.{Session}
+use Rattle.cap_core.specs.declared.session_command.SessionCommand.TheVariants.{Capture}
 use Rattle.cap_core.specs.declared.event.Event.{Event}
 use Rattle.cap_core.specs.declared.reply.Reply.{Reply}
 use Rattle.cap_core.specs.declared.reply.Reply.TheVariants as reply
@@ -51,13 +52,13 @@ PastFits A = (h : List (Event A)) → BlobsFit h → BlobsFitPast (reverse h)
 module _ {A : Type 0} where
   -- the bytes of a capture are read
   abbrev pub Reads : (List (TableChanges A) → List ℕ) → Type 0
-  Reads bytes = (past : Past A) (session : ℕ) (capture : CaptureState A) → answer (state_after past) (Capture session) ≡ reply.Capture capture
+  Reads bytes = (past : Past A) (session : ℕ) (capture : CaptureState A) → answer (state_after past) (Session session Capture) ≡ reply.Capture capture
       → IsWritable (Changes capture.changes) → (blob : Contents A) × (blob_at (bytes capture.changes) ≡ Ok blob)
 
   -- and what is read gives the rows
   abbrev pub Gives : (List (TableChanges A) → List ℕ) → Type 0
   Gives bytes = (past : Past A) (session : ℕ) (capture : CaptureState A) (database : Tables A) (policy : Policy) (blob : Contents A)
-      → answer (state_after past) (Capture session) ≡ reply.Capture capture → IsWritable (Changes capture.changes) → AreRising database → BlobsFitPast past
+      → answer (state_after past) (Session session Capture) ≡ reply.Capture capture → IsWritable (Changes capture.changes) → AreRising database → BlobsFitPast past
       → HoldsImages database (main past) (session_of past session).tables → blob_at (bytes capture.changes) ≡ Ok blob
       → AppliesWhole policy blob (changes_in capture.changes) database (main past) (session_of past session).tables
 
@@ -76,35 +77,35 @@ module _ {A : Type 0} where
   state-is h = refl
 
   -- the reply at the call's place
-  answered : Replied A → Answers A → (old new : SeatState A) (session : ℕ) (r : Reply A) → HasCalled old new (Capture session) r → (before : List (Event A))
-      → new.seen ≡ before ++ event_by old.number (Capture session) r ∷ [] → answer (state_after (reverse before)) (Capture session) ≡ r
+  answered : Replied A → Answers A → (old new : SeatState A) (session : ℕ) (r : Reply A) → HasCalled old new (Session session Capture) r → (before : List (Event A))
+      → new.seen ≡ before ++ event_by old.number (Session session Capture) r ∷ [] → answer (state_after (reverse before)) (Session session Capture) ≡ r
   answered replied answers old new session r called before is =
-      let was : IsLegal (before ++ event_by old.number (Capture session) r ∷ []) = subst IsLegal is called.legal in
-      sym (replied before old.number (Capture session) r was ∙ answers before (Capture session) ∙ ap (λ s. answer s (Capture session)) (state-is before))
+      let was : IsLegal (before ++ event_by old.number (Session session Capture) r ∷ []) = subst IsLegal is called.legal in
+      sym (replied before old.number (Session session Capture) r was ∙ answers before (Session session Capture) ∙ ap (λ s. answer s (Session session Capture)) (state-is before))
 
   -- the call has a place
-  place-of : (old new : SeatState A) (session : ℕ) (r : Reply A) → HasCalled old new (Capture session) r
-      → (before : List (Event A)) × (new.seen ≡ before ++ event_by old.number (Capture session) r ∷ [])
+  place-of : (old new : SeatState A) (session : ℕ) (r : Reply A) → HasCalled old new (Session session Capture) r
+      → (before : List (Event A)) × (new.seen ≡ before ++ event_by old.number (Session session Capture) r ∷ [])
   place-of old new session r called =
       (old.seen ++ called.seen.0, called.seen.1)
 
-  fitting : Begins A → PastFits A → (old new : SeatState A) (session : ℕ) (r : Reply A) → HasCalled old new (Capture session) r → (before : List (Event A))
-      → new.seen ≡ before ++ event_by old.number (Capture session) r ∷ [] → BlobsFitPast (reverse before)
+  fitting : Begins A → PastFits A → (old new : SeatState A) (session : ℕ) (r : Reply A) → HasCalled old new (Session session Capture) r → (before : List (Event A))
+      → new.seen ≡ before ++ event_by old.number (Session session Capture) r ∷ [] → BlobsFitPast (reverse before)
   fitting begins past old new session r called before is =
-      past before (begins before (event_by old.number (Capture session) r ∷ []) (subst BlobsFit is called.blobs))
+      past before (begins before (event_by old.number (Session session Capture) r ∷ []) (subst BlobsFit is called.blobs))
 
   -- ---- what is read
 
   pub is-read : (form : Form) → Reads (bytes_in form) → Replied A → Answers A → (old new : SeatState A) (session : ℕ) (capture : CaptureState A)
-      → HasCalled old new (Capture session) (reply.Capture capture) → IsWritable (Changes capture.changes) → (blob : Contents A) × (blob_at (bytes_in form capture.changes) ≡ Ok blob)
+      → HasCalled old new (Session session Capture) (reply.Capture capture) → IsWritable (Changes capture.changes) → (blob : Contents A) × (blob_at (bytes_in form capture.changes) ≡ Ok blob)
   is-read form reads replied answers old new session capture called writable =
       let place = place-of old new session (reply.Capture capture) called in
       reads (reverse place.0) session capture (answered replied answers old new session (reply.Capture capture) called place.0 place.1) writable
 
   module _ (form : Form) (policy : Policy) (gives : Gives (bytes_in form)) (replied : Replied A) (answers : Answers A) (begins : Begins A) (past : PastFits A)
       (old new : SeatState A) (session : ℕ) (capture : CaptureState A) (replica : Tables A) (rises : AreRising replica) (writable : IsWritable (Changes capture.changes))
-      (called : HasCalled old new (Capture session) (reply.Capture capture)) (blob : Contents A) (is_read : blob_at (bytes_in form capture.changes) ≡ Ok blob) where
-    whole : (before : List (Event A)) → new.seen ≡ before ++ event_by old.number (Capture session) (reply.Capture capture) ∷ [] → HoldsFirst session before replica
+      (called : HasCalled old new (Session session Capture) (reply.Capture capture)) (blob : Contents A) (is_read : blob_at (bytes_in form capture.changes) ≡ Ok blob) where
+    whole : (before : List (Event A)) → new.seen ≡ before ++ event_by old.number (Session session Capture) (reply.Capture capture) ∷ [] → HoldsFirst session before replica
         → AppliesWhole policy blob (changes_in capture.changes) replica (tables_after before) (records_after session before)
     whole before is holds =
         gives (reverse before) session capture replica policy blob (answered replied answers old new session (reply.Capture capture) called before is) writable rises
@@ -123,7 +124,7 @@ module _ {A : Type 0} where
     }
 
     pub never-refused : (why : Refusal) → apply replica blob policy ≡ Err why → (before : List (Event A))
-        → new.seen ≡ before ++ event_by old.number (Capture session) (reply.Capture capture) ∷ [] → HoldsFirst session before replica → ⊥
+        → new.seen ≡ before ++ event_by old.number (Session session Capture) (reply.Capture capture) ∷ [] → HoldsFirst session before replica → ⊥
     never-refused why refused before is holds =
         let all = whole before is holds in
         let clash : Ok all.0 ≡ Err why = sym all.1 ∙ refused in
@@ -136,11 +137,11 @@ module _ {A : Type 0} where
   no-capture version tables None none = refl
   no-capture version tables (Some session) none = absurd none
 
-  pub no-session : Replied A → Answers A → (old new : SeatState A) (session : ℕ) (r : Reply A) → HasCalled old new (Capture session) r → IsNoCapture r
-      → HasCalled old new (Capture session) (refusal NoSession)
+  pub no-session : Replied A → Answers A → (old new : SeatState A) (session : ℕ) (r : Reply A) → HasCalled old new (Session session Capture) r → IsNoCapture r
+      → HasCalled old new (Session session Capture) (refusal NoSession)
   no-session replied answers old new session r called none =
       let place = place-of old new session r called in
       let is = answered replied answers old new session r called place.0 place.1 in
       let now = state_after (reverse place.0) in
-      let missing : answer now (Capture session) ≡ refusal NoSession = no-capture now.version now.main (session_numbered now.sessions session) (subst IsNoCapture (sym is) none) in
-      subst (λ (x : Reply A). HasCalled old new (Capture session) x) (sym is ∙ missing) called
+      let missing : answer now (Session session Capture) ≡ refusal NoSession = no-capture now.version now.main (session_numbered now.sessions session) (subst IsNoCapture (sym is) none) in
+      subst (λ (x : Reply A). HasCalled old new (Session session Capture) x) (sym is ∙ missing) called

@@ -8,7 +8,8 @@ use Rattle.cap_codec.specs.Changeset.{list_bytes}
 use Rattle.cap_codec.specs.Patchset.{patch_list_bytes}
 use Rattle.cap_apply.specs.Applied.{AppliedState}
 use Rattle.cap_session.specs.Session.{AttachedTables}
-use Rattle.cap_core.specs.declared.command.Command.TheVariants.{Capture}
+use Rattle.cap_core.specs.declared.command.Command.TheVariants.{Session}
+use Rattle.cap_core.specs.declared.session_command.SessionCommand.TheVariants.{Capture}
 use Rattle.cap_core.specs.declared.event.Event.{Event}
 use Rattle.cap_core.specs.declared.reply.Reply.{Reply}
 use Rattle.cap_core.specs.declared.reply.Reply.TheVariants as reply
@@ -54,9 +55,9 @@ module _ {A : Type 0} where
   pub record IsReplicated (old new : SeatState A) (session : ℕ) (replica : Tables A) (left : AppliedState A)
       : Type 0 where
     pub capture : CaptureState A
-    pub called : HasCalled old new (Capture session) (reply.Capture capture)
+    pub called : HasCalled old new (Session session Capture) (reply.Capture capture)
     pub rows : (before : List (Event A))
-        → new.seen ≡ before ++ event_by old.number (Capture session) (reply.Capture capture) ∷ []
+        → new.seen ≡ before ++ event_by old.number (Session session Capture) (reply.Capture capture) ∷ []
         → HoldsFirst session before replica
         → GivesRows replica (tables_after before) left.database (records_after session before)
         × (left.report
@@ -66,10 +67,10 @@ module _ {A : Type 0} where
   -- hold the first images.
   abbrev pub Explains : NotReplicated → SeatState A → SeatState A → ℕ → Tables A → Type 0
   Explains (Call fault) old new session replica = LeavesSeat fault old new
-  Explains NoCapture old new session replica = HasCalled old new (Capture session) (refusal NoSession)
+  Explains NoCapture old new session replica = HasCalled old new (Session session Capture) (refusal NoSession)
   Explains (NotApplied why) old new session replica =
-      (capture : CaptureState A) × HasCalled old new (Capture session) (reply.Capture capture)
+      (capture : CaptureState A) × HasCalled old new (Session session Capture) (reply.Capture capture)
       × ((before : List (Event A))
-      → new.seen ≡ before ++ event_by old.number (Capture session) (reply.Capture capture) ∷ []
+      → new.seen ≡ before ++ event_by old.number (Session session Capture) (reply.Capture capture) ∷ []
       → HoldsFirst session before replica → ⊥)
   Explains OutOfMemory old new session replica = Unit {0}

@@ -10,8 +10,8 @@ ghost use Rattle.cap_test_replicas.specs.Replica.{Explains, IsNoCapture, IsRepli
 use cap_apply::{Applied, Policy, apply};
 use cap_codec::read_blob;
 use cap_core::{
-    Capture, Reply, bytes_of_a_capture_give_the_rows_now, database_rises, fitting_histories_grow,
-    legal_histories_grow, legal_histories_were_legal,
+    Capture, Command, Reply, SessionCommand, bytes_of_a_capture_give_the_rows_now, database_rises,
+    fitting_histories_grow, legal_histories_grow, legal_histories_were_legal,
 };
 use cap_database::Database;
 use cap_locked::CallFault;
@@ -63,7 +63,11 @@ pub fn replicate<J: Naming, A: AllocHandle, R: Wait>(
     fitting_histories_grow::<A>();
     bytes_of_a_capture_give_the_rows_now::<A>();
     database_rises(replica);
-    let reply = match server.capture(rt, seat, session) {
+    let command = Command::Session {
+        session,
+        command: SessionCommand::Capture,
+    };
+    let reply = match server.call(rt, seat, &command) {
         Ok(reply) => reply,
         Err(fault) => return Err(NotReplicated::Call(fault)),
     };

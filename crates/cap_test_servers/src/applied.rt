@@ -4,7 +4,7 @@ ghost use Rattle.std.specs.Prelude.{◌≡◌};
 use crate::seats::{changed, have_same_rows, is_answered, snapshot};
 use cap_apply::{Answer, Applied, Policy, apply};
 use cap_codec::read_blob;
-use cap_core::{QuietSessions, Reply};
+use cap_core::{Command, QuietSessions, Reply};
 use cap_database::{Database, Snapshot};
 use cap_history::Opened;
 use cap_server::{Naming, Seat, Server};
@@ -44,7 +44,7 @@ fn changeset<J: Naming>(
     server: &Server<J, Global>,
     seat: &mut Seat<J, Global>,
 ) -> Option<Vec<u8>> {
-    match server.capture(rt, seat, 1) {
+    match server.call(rt, seat, &Command::capture(1)) {
         Ok(reply) => bytes_in(alloc, &reply),
         Err(_) => None,
     }
@@ -156,8 +156,12 @@ fn apply_through_seat<J: Naming, R: Wait>(
         changeset,
     } = job;
     let blob = read_blob(alloc, changeset).ok()?;
-    let quiet = QuietSessions::none(alloc);
-    let reply = server.apply(rt, &mut seat, blob, REPLACE, quiet).ok()?;
+    let command = Command::Apply {
+        blob,
+        policy: REPLACE,
+        quiet: QuietSessions::none(alloc),
+    };
+    let reply = server.call(rt, &mut seat, &command).ok()?;
     Some((seat, reply))
 }
 

@@ -1,6 +1,6 @@
 //! What the tests of servers share: calls from a seat, and the rows of two databases side by side.
 use cap_compare::compare;
-use cap_core::Reply;
+use cap_core::{Command, Reply};
 use cap_database::{Database, Snapshot};
 use cap_script::{Line, parse, print_reply, read_line};
 use cap_server::{Naming, Seat, Server};
@@ -88,7 +88,7 @@ pub(crate) fn snapshot<J: Naming>(
     server: &Server<J, Global>,
     seat: &mut Seat<J, Global>,
 ) -> Option<Snapshot<Global>> {
-    match server.read(rt, seat) {
+    match server.call(rt, seat, &Command::Read) {
         Ok(reply) => tables_in(reply),
         Err(_) => None,
     }

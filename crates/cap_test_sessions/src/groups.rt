@@ -119,6 +119,25 @@ fn a_kind_stays(rt: HostRuntime) -> Result<(), Fail> {
     Ok(())
 }
 
+// An update of u, and one that takes it back.
+const THERE: &str = "54020100750017000100000000000000010301790003017a";
+
+const BACK: &str = "540201007500170001000000000000000103017a00030179";
+
+// The changes are more than a thousand on the way, and are made one for each row.
+#[test]
+fn a_row_that_changes_often(rt: HostRuntime) -> Result<(), Fail> {
+    let alloc = rt.alloc();
+    let mut group = ChangeGroup::new(alloc);
+    assert!(rt; add(alloc, &mut group, FIRST) == Some(Ok(())));
+    for _ in 0..600u32 {
+        assert!(rt; add(alloc, &mut group, THERE) == Some(Ok(())));
+        assert!(rt; add(alloc, &mut group, BACK) == Some(Ok(())));
+    }
+    assert!(rt; has(alloc, &group, FIRST_ALONE));
+    Ok(())
+}
+
 // Adds the blob with this request for memory refused: whether it is added, or else the call is out of memory
 // and the changegroup as before. None where anything else comes of it.
 fn add_with_a_request_refused<A: AllocHandle>(

@@ -1,12 +1,13 @@
 -- The last entries of a list become a node.
-use Rattle.std.proofs.Common.{◌≡◌, ℕ, zero, suc, ◌+◌, ◌-◌, ◌*◌, ◌^◌, ◌<◌, ◌≤◌, List, [], ◌∷◌, ◌++◌, length, take, drop, refl, sym, ap, ◌∙◌, arith, append_assoc, length-append}
+use Rattle.std.proofs.Common.{◌≡◌, ℕ, zero, suc, ◌+◌, ◌-◌, ◌*◌, ◌^◌, ◌<◌, ◌≤◌, List, [], ◌∷◌, ◌++◌, length, take, drop, refl, ap, ◌∙◌, arith, append_assoc, length-append}
 use Rattle.std.proofs.Math.Nat.{lt_of_mul-lt-mul_right, mul-le-mul_right, pow-suc}
 use Rattle.std.specs.declared.cmp.Ordering.{Ordering}
 use Rattle.std.specs.declared.cmp.Ordering.TheVariants.{Greater}
 use Rattle.std.specs.List.{AllByRecursion}
 use Rattle.std.specs.Map.{keys_of}
 use Rattle.cap_tree.specs.declared.node.Child.{Child}
-use Rattle.cap_tree.specs.Shape.{seen, entries_of, EachBelow}
+use Rattle.cap_tree.specs.Subtree.{Branch}
+use Rattle.cap_tree.specs.Shape.{branches, entries_of, EachBelow}
 
 -- ---- how many entries each child gets
 
@@ -45,21 +46,17 @@ cut_is [] back (suc i) is = absurd (omega arith)
 cut_is (x ∷ xs) back zero is = absurd (omega arith)
 cut_is (x ∷ xs) back (suc i) is = let rest = cut_is xs back i (omega arith) in (ap (λ t. x ∷ t) rest.0, rest.1)
 
-pub nothing_left : {X : Type 0} (whole front back : List X) → whole ≡ front ++ back → length back ≡ length whole → back ≡ whole
-nothing_left whole [] back is all = sym is
-nothing_left whole (x ∷ xs) back is all = absurd (let count = ap length is in omega (arith, count, length-append xs back))
-
 module _ {K V : Type 0} where
   keys_split : (P : K → Type 0) (front back : List (K × V)) → AllByRecursion P (keys_of (front ++ back)) → AllByRecursion P (keys_of front) × AllByRecursion P (keys_of back)
   keys_split P [] back h = (tt, h)
   keys_split P (e ∷ es) back h = let rest = keys_split P es back h.1 in ((h.0, rest.0), rest.1)
 
   -- the entries are below each child
-  abbrev pub AreAbove : (K → K → Ordering) → List (K × V) → List (K × (List (K × V) × ℕ × ℕ)) → Type 0
+  abbrev pub AreAbove : (K → K → Ordering) → List (K × V) → List (Branch K V) → Type 0
   AreAbove cmp es ps = AllByRecursion (λ q. EachBelow cmp q.0 es) ps
 
   -- what is below each child is so in both parts
-  pub below_both : (cmp : K → K → Ordering) (ps : List (K × (List (K × V) × ℕ × ℕ))) (front back : List (K × V)) → AreAbove cmp (front ++ back) ps → AreAbove cmp front ps × AreAbove cmp back ps
+  pub below_both : (cmp : K → K → Ordering) (ps : List (Branch K V)) (front back : List (K × V)) → AreAbove cmp (front ++ back) ps → AreAbove cmp front ps × AreAbove cmp back ps
   below_both cmp [] front back h = (tt, tt)
   below_both cmp (x ∷ xs) front back h =
       let here = keys_split (λ y. cmp x.0 y ≡ Greater) front back h.0 in
@@ -67,8 +64,8 @@ module _ {K V : Type 0} where
       ((here.0, rest.0), (here.1, rest.1))
 
   -- a child more in front
-  pub more_entries : {Z : Type 0} (children : List (Child K V Z)) (child : Child K V Z) (whole old front : List (K × V)) → whole ≡ old ++ entries_of (seen children) → old ≡ front ++ child.node.value.0 → whole ≡ front ++ entries_of (seen (child ∷ children))
-  more_entries children child whole old front all is = all ∙ ap (λ l. l ++ entries_of (seen children)) is ∙ append_assoc front child.node.value.0 (entries_of (seen children))
+  pub more_entries : {Z : Type 0} (children : List (Child K V Z)) (child : Child K V Z) (whole old front : List (K × V)) → whole ≡ old ++ entries_of (branches children) → old ≡ front ++ child.node.value.entries → whole ≡ front ++ entries_of (branches (child ∷ children))
+  more_entries children child whole old front all is = all ∙ ap (λ l. l ++ entries_of (branches children)) is ∙ append_assoc front child.node.value.entries (entries_of (branches children))
 
-  pub more_count : {Z : Type 0} (children : List (Child K V Z)) (child : Child K V Z) (size : ℕ) → length child.node.value.0 ≡ size → length (entries_of (seen (child ∷ children))) ≡ size + length (entries_of (seen children))
-  more_count children child size is = rw (← is) (length-append child.node.value.0 (entries_of (seen children)))
+  pub more_count : {Z : Type 0} (children : List (Child K V Z)) (child : Child K V Z) (size : ℕ) → length child.node.value.entries ≡ size → length (entries_of (branches (child ∷ children))) ≡ size + length (entries_of (branches children))
+  more_count children child size is = rw (← is) (length-append child.node.value.entries (entries_of (branches children)))

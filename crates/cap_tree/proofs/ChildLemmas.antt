@@ -1,4 +1,4 @@
--- Parts as their parent sees them.
+-- Children as their parent sees them.
 use Rattle.std.proofs.Common.{◌≡◌, ℕ, zero, suc, add-one, ◌+◌, ◌-◌, ◌<◌, ◌≤◌, List, [], ◌∷◌, ◌++◌, length, take, drop, get_or, set, refl, sym, ap, subst, ◌∙◌, arith, length-append}
 use Rattle.std.proofs.lemmas.List.{append-nil, take_more, map-append, map-set, get_or-map, length-map}
 use Rattle.std.proofs.lemmas.Option.{get_or_from_slice_get}
@@ -8,81 +8,82 @@ use Rattle.std.specs.declared.cmp.Ordering.TheVariants.{Less, Equal, Greater}
 use Rattle.std.specs.Ordering.{match_ordering}
 use Rattle.std.specs.Cmp.{IsTotalOrder}
 use Rattle.cap_tree.specs.declared.node.Child.{Child}
-use Rattle.cap_tree.specs.Shape.{seen, entries_of, AreFit, AreChildren, place}
+use Rattle.cap_tree.specs.Subtree.{Branch}
+use Rattle.cap_tree.specs.Shape.{branches, entries_of, AreFit, AreChildren, place}
 use Rattle.cap_tree.proofs.PlaceLemmas.{place_last}
 
 module _ {K V Z : Type 0} where
-  -- one more part that is seen as the part at i
-  pub seen_push : (copies : List (Child K V Z)) (new : Child K V Z) (children : List (Child K V Z)) (i : ℕ) (d : Child K V Z) → i < length children → seen copies ≡ take i (seen children) → d ≡ get_or children i d → new.least ≡ d.least → new.node.value ≡ d.node.value → seen (copies ++ new ∷ []) ≡ take (i + 1) (seen children)
-  seen_push copies new children i d within so_far is least value =
-      let at = get_or-map {Y = K × (List (K × V) × ℕ × ℕ)} (λ (p : Child K V Z). (p.least, p.node.value)) children i d (d.least, d.node.value) within in
-      let same : (new.least, new.node.value) ≡ get_or (seen children) i (d.least, d.node.value) = rw (at, ← is, least, value) in
-      let more = take_more (seen children) i (d.least, d.node.value) (rw length-map within) in
+  -- one more child that is seen as the child at i
+  pub branches_push : (copies : List (Child K V Z)) (new : Child K V Z) (children : List (Child K V Z)) (i : ℕ) (d : Child K V Z) → i < length children → branches copies ≡ take i (branches children) → d ≡ get_or children i d → new.least ≡ d.least → new.node.value ≡ d.node.value → branches (copies ++ new ∷ []) ≡ take (i + 1) (branches children)
+  branches_push copies new children i d within so_far is least value =
+      let at = get_or-map {Y = Branch K V} (λ (p : Child K V Z). (p.least, p.node.value)) children i d (d.least, d.node.value) within in
+      let same : (new.least, new.node.value) ≡ get_or (branches children) i (d.least, d.node.value) = rw (at, ← is, least, value) in
+      let more = take_more (branches children) i (d.least, d.node.value) (rw length-map within) in
       rw (map-append, so_far, more, same)
 
-  -- a part as its parent sees it
-  pub at_seen : (children : List (Child K V Z)) (j : ℕ) (d : Child K V Z) → j < length children → d ≡ get_or children j d → get_or (seen children) j (d.least, d.node.value) ≡ (d.least, d.node.value)
-  at_seen children j d within is =
-      let at = get_or-map {Y = K × (List (K × V) × ℕ × ℕ)} (λ (p : Child K V Z). (p.least, p.node.value)) children j d (d.least, d.node.value) within in
+  -- a child as its parent sees it
+  pub at_branches : (children : List (Child K V Z)) (j : ℕ) (d : Child K V Z) → j < length children → d ≡ get_or children j d → get_or (branches children) j (d.least, d.node.value) ≡ (d.least, d.node.value)
+  at_branches children j d within is =
+      let at = get_or-map {Y = Branch K V} (λ (p : Child K V Z). (p.least, p.node.value)) children j d (d.least, d.node.value) within in
       rw (at, ← is)
 
-  pub seen_set : (children : List (Child K V Z)) (j : ℕ) (x : Child K V Z) → seen (set children j x) ≡ set (seen children) j (x.least, x.node.value)
-  seen_set children j x = map-set (λ (p : Child K V Z). (p.least, p.node.value)) children j x
+  pub branches_set : (children : List (Child K V Z)) (j : ℕ) (x : Child K V Z) → branches (set children j x) ≡ set (branches children) j (x.least, x.node.value)
+  branches_set children j x = map-set (λ (p : Child K V Z). (p.least, p.node.value)) children j x
 
-  pub length_seen : (children : List (Child K V Z)) → length (seen children) ≡ length children
-  length_seen children = rw length-map refl
+  pub length_branches : (children : List (Child K V Z)) → length (branches children) ≡ length children
+  length_branches children = rw length-map refl
 
-  -- the first part gets another least key
-  pub lowered : (children : List (Child K V Z)) (d x : Child K V Z) (k : K) → 0 < length children → d ≡ get_or children 0 d → x.least ≡ k → x.node.value ≡ d.node.value → seen (set children 0 x) ≡ set (seen children) 0 (k, (get_or (seen children) 0 (d.least, d.node.value)).1)
-  lowered children d x k some is least node = rw (seen_set, at_seen children 0 d some is, least, node)
+  -- the first child gets another least key
+  pub lowered : (children : List (Child K V Z)) (d x : Child K V Z) (k : K) → 0 < length children → d ≡ get_or children 0 d → x.least ≡ k → x.node.value ≡ d.node.value → branches (set children 0 x) ≡ set (branches children) 0 (k, (get_or (branches children) 0 (d.least, d.node.value)).1)
+  lowered children d x k some is least node = rw (branches_set, at_branches children 0 d some is, least, node)
 
-  -- the entries from the part at i on are its own and those of the parts behind it
-  pub rest_count : (children : List (Child K V Z)) (i : ℕ) (d : Child K V Z) → i < length children → d ≡ get_or children i d → length (entries_of (seen (drop i children))) ≡ length d.node.value.0 + length (entries_of (seen (drop (i + 1) children)))
+  -- the entries from the child at i on are its own and those of the children behind it
+  pub rest_count : (children : List (Child K V Z)) (i : ℕ) (d : Child K V Z) → i < length children → d ≡ get_or children i d → length (entries_of (branches (drop i children))) ≡ length d.node.value.entries + length (entries_of (branches (drop (i + 1) children)))
   rest_count children i d within is = rw add-one (step children i within is)
     where
-      step : (children : List (Child K V Z)) (i : ℕ) → i < length children → d ≡ get_or children i d → length (entries_of (seen (drop i children))) ≡ length d.node.value.0 + length (entries_of (seen (drop (suc i) children)))
+      step : (children : List (Child K V Z)) (i : ℕ) → i < length children → d ≡ get_or children i d → length (entries_of (branches (drop i children))) ≡ length d.node.value.entries + length (entries_of (branches (drop (suc i) children)))
       step [] i within is = absurd (omega arith)
-      step (p ∷ ps) zero within is = rw is (length-append p.node.value.0 (entries_of (seen ps)))
+      step (p ∷ ps) zero within is = rw is (length-append p.node.value.entries (entries_of (branches ps)))
       step (p ∷ ps) (suc i) within is = step ps i (omega arith) is
 
-  -- a key that is not below the last part's least key is below no part's
-  pub last_place : (cmp : K → K → Ordering) → IsTotalOrder cmp → (k : K) (height : ℕ) (children : List (Child K V Z)) (x : Child K V Z) → AreChildren cmp height (seen children) → slice_get children (length children - 1) ≡ Some x → cmp k x.least ≢ Less → place cmp k (seen children) ≡ length children
+  -- a key that is not below the last child's least key is below no child's
+  pub last_place : (cmp : K → K → Ordering) → IsTotalOrder cmp → (k : K) (height : ℕ) (children : List (Child K V Z)) (x : Child K V Z) → AreChildren cmp height (branches children) → slice_get children (length children - 1) ≡ Some x → cmp k x.least ≢ Less → place cmp k (branches children) ≡ length children
   last_place cmp o k height [] x h is not = refl
   last_place cmp o k height (p ∷ ps) x h is not =
       let within : length (p ∷ ps) - 1 < length (p ∷ ps) = omega arith in
-      let there = at_seen (p ∷ ps) (length (p ∷ ps) - 1) x within (sym (get_or_from_slice_get (p ∷ ps) (length (p ∷ ps) - 1) x x is)) in
-      place_last cmp o k height (seen (p ∷ ps)) (length (p ∷ ps) - 1) (x.least, x.node.value) h (omega (arith, length_seen (p ∷ ps))) (rw there not) ∙ length_seen (p ∷ ps)
+      let there = at_branches (p ∷ ps) (length (p ∷ ps) - 1) x within (sym (get_or_from_slice_get (p ∷ ps) (length (p ∷ ps) - 1) x x is)) in
+      place_last cmp o k height (branches (p ∷ ps)) (length (p ∷ ps) - 1) (x.least, x.node.value) h (omega (arith, length_branches (p ∷ ps))) (rw there not) ∙ length_branches (p ∷ ps)
 
-  -- how many of the parts from the one at i on are not above k
+  -- how many of the children from the one at i on are not above k
   module _ (cmp : K → K → Ordering) (k : K) where
-    pub place_above : (children : List (Child K V Z)) (i : ℕ) (d : Child K V Z) → i < length children → cmp k (get_or children i d).least ≡ Less → place cmp k (seen (drop i children)) ≡ 0
+    pub place_above : (children : List (Child K V Z)) (i : ℕ) (d : Child K V Z) → i < length children → cmp k (get_or children i d).least ≡ Less → place cmp k (branches (drop i children)) ≡ 0
     place_above [] i d within less = absurd (omega arith)
     place_above (p ∷ ps) zero d within less = rw less refl
     place_above (p ∷ ps) (suc i) d within less = place_above ps i d (omega arith) less
 
-    pub place_from : (children : List (Child K V Z)) (i : ℕ) (d : Child K V Z) → i < length children → cmp k (get_or children i d).least ≢ Less → place cmp k (seen (drop i children)) ≡ place cmp k (seen (drop (i + 1) children)) + 1
+    pub place_from : (children : List (Child K V Z)) (i : ℕ) (d : Child K V Z) → i < length children → cmp k (get_or children i d).least ≢ Less → place cmp k (branches (drop i children)) ≡ place cmp k (branches (drop (i + 1) children)) + 1
     place_from children i d within not =
         let next : i + 1 ≡ suc i = omega arith in
         rw next (step children i within not)
       where
-        step : (children : List (Child K V Z)) (i : ℕ) → i < length children → cmp k (get_or children i d).least ≢ Less → place cmp k (seen (drop i children)) ≡ place cmp k (seen (drop (suc i) children)) + 1
+        step : (children : List (Child K V Z)) (i : ℕ) → i < length children → cmp k (get_or children i d).least ≢ Less → place cmp k (branches (drop i children)) ≡ place cmp k (branches (drop (suc i) children)) + 1
         step [] i within not = absurd (omega arith)
         step (p ∷ ps) zero within not =
-            elim (cmp k p.least) as (λ r. r ≢ Less → match_ordering r 0 (place cmp k (seen ps) + 1) (place cmp k (seen ps) + 1) ≡ place cmp k (seen ps) + 1) [
+            elim (cmp k p.least) as (λ r. r ≢ Less → match_ordering r 0 (place cmp k (branches ps) + 1) (place cmp k (branches ps) + 1) ≡ place cmp k (branches ps) + 1) [
               | Less ↦ λ n. absurd (n refl)
               | Equal ↦ λ n. refl
               | Greater ↦ λ n. refl
             ] not
         step (p ∷ ps) (suc i) within not = step ps i (omega arith) not
 
-    pub place_end : (children : List (Child K V Z)) (i : ℕ) → length children ≤ i → place cmp k (seen (drop i children)) ≡ 0
+    pub place_end : (children : List (Child K V Z)) (i : ℕ) → length children ≤ i → place cmp k (branches (drop i children)) ≡ 0
     place_end [] zero past = refl
     place_end [] (suc i) past = refl
     place_end (p ∷ ps) zero past = absurd (omega arith)
     place_end (p ∷ ps) (suc i) past = place_end ps i (omega arith)
 
   -- a node with children is no leaf
-  pub high : (cmp : K → K → Ordering) (height : ℕ) (children : List (Child K V Z)) → 0 < length children → AreChildren cmp height (seen children) → 0 < height
+  pub high : (cmp : K → K → Ordering) (height : ℕ) (children : List (Child K V Z)) → 0 < length children → AreChildren cmp height (branches children) → 0 < height
   high cmp height [] some h = absurd (omega arith)
   high cmp height (p ∷ ps) some h = omega (arith, h.0.0)
 
@@ -98,8 +99,8 @@ module _ {K V Z : Type 0} (all rest : List (Child K V Z)) (p : Child K V Z) (is 
   alone : all ≡ p ∷ []
   alone = is ∙ ap (λ l. l ++ p ∷ []) none_else
 
-  pub only_entries : p.node.value.0 ≡ entries_of (seen all)
-  only_entries = sym (append-nil p.node.value.0) ∙ ap (λ l. entries_of (seen l)) (sym alone)
+  pub only_entries : p.node.value.entries ≡ entries_of (branches all)
+  only_entries = sym (append-nil p.node.value.entries) ∙ ap (λ l. entries_of (branches l)) (sym alone)
 
-  pub only_fit : AreFit (seen all) → 4 ≤ p.node.value.2
-  only_fit fit = (subst (λ l. AreFit (seen l)) alone fit).0.0
+  pub only_fit : AreFit (branches all) → 4 ≤ p.node.value.items
+  only_fit fit = (subst (λ l. AreFit (branches l)) alone fit).0.0

@@ -1,12 +1,11 @@
 -- Entries in order, around one of them: what a look-up, a put and a take do on its side of it.
-use Rattle.std.proofs.Common.{◌≡◌, ◌+◌, suc, inl, inr, Bool, true, false, cond, List, [], ◌∷◌, ◌++◌, length, ◌<◌, length-append, refl, ap, ◌∙◌, subst, arith}
+use Rattle.std.proofs.Common.{◌≡◌, ◌+◌, suc, inl, inr, Bool, true, false, cond, List, [], ◌∷◌, ◌++◌, length, refl, ap, ◌∙◌, subst, arith}
 use Rattle.std.specs.Prelude.{Option, Some, None, ◌↔◌, ◌⊎◌}
 use Rattle.std.specs.declared.cmp.Ordering.{Ordering}
 use Rattle.std.specs.declared.cmp.Ordering.TheVariants.{Less, Equal, Greater}
 use Rattle.std.specs.Ordering.{is_eq, is_le, is_gt, match_ordering, ordering_reverse}
 use Rattle.std.specs.Cmp.{IsTotalOrder, eq_by_cmp_equiv, alike_right, Equal-is}
-use Rattle.std.specs.Option.{is_some, option_copied}
-use Rattle.std.specs.Borrow.{Bor}
+use Rattle.std.specs.Option.{is_some}
 use Rattle.std.proofs.lemmas.Map.{lookup-remove_entry}
 use Rattle.std.proofs.lemmas.Map.Keys.{IsDistinct-from_sorted}
 use Rattle.std.specs.List.{All, AllByRecursion}
@@ -16,7 +15,7 @@ use Rattle.std.proofs.lemmas.Option.{slice_get-get_or}
 use Rattle.std.specs.Map.{keys_of}
 use Rattle.std.specs.BTreeMap.{is_at}
 use Rattle.std.specs.BTreeMap.Range.{entries_below, entries_from}
-use Rattle.cap_tree.specs.Tree.{IsOrdered, get, put_each, put_entry, take_entry, Updates}
+use Rattle.cap_tree.specs.Tree.{IsOrdered, get, put_entry, take_entry, Updates}
 
 -- the other way round
 pub reversed : {K : Type 0} {cmp : K → K → Ordering} → IsTotalOrder cmp → (x y : K) (r : Ordering) → cmp x y ≡ r → cmp y x ≡ ordering_reverse r
@@ -29,11 +28,6 @@ same_test o q k = (eq_by_cmp_equiv o).symm q k
 -- a key that is equal to e is not equal to one that is above it
 apart : {K : Type 0} {cmp : K → K → Ordering} → IsTotalOrder cmp → (q k e : K) → cmp k e ≡ Greater → is_eq (cmp q e) ≡ true → is_eq (cmp k q) ≡ false
 apart {cmp = cmp} o q k e h t = ap is_eq (alike_right o q e k ((Equal-is (cmp q e)).0 t)) ∙ ap is_eq h
-
--- what a reference leads to is there just where the reference is
-pub is_some-option_copied : {X : Type 0} (r : Option (Bor X)) → is_some (option_copied r) ≡ is_some r
-is_some-option_copied None = refl
-is_some-option_copied (Some x) = refl
 
 -- no keys are in order
 pub sorted_nil : {K : Type 0} (cmp : K → K → Ordering) → IsStrictlySortedBy cmp []
@@ -75,13 +69,14 @@ module _ {K V : Type 0} (cmp : K → K → Ordering) where
 
   -- ---- k is below the entries behind
 
-  pub put_entry-before : (k : K) (v : V) (front : List (K × V)) (e : K × V) (back : List (K × V)) → cmp k e.0 ≡ Less → put_entry cmp (front ++ e ∷ back) k v ≡ put_entry cmp front k v ++ e ∷ back
-  put_entry-before k v [] e back h = rw h
-  put_entry-before k v (x ∷ xs) e back h =
-      elim (cmp k x.0) as (λ r. match_ordering r ((k, v) ∷ x ∷ (xs ++ e ∷ back)) ((k, v) ∷ (xs ++ e ∷ back)) (x ∷ put_entry cmp (xs ++ e ∷ back) k v) ≡ match_ordering r ((k, v) ∷ x ∷ xs) ((k, v) ∷ xs) (x ∷ put_entry cmp xs k v) ++ e ∷ back) [
+  pub put_entry-before : (k : K) (v : V) (front back : List (K × V)) → Each Less k back → put_entry cmp (front ++ back) k v ≡ put_entry cmp front k v ++ back
+  put_entry-before k v [] [] h = refl
+  put_entry-before k v [] (b ∷ bs) h = rw h.0
+  put_entry-before k v (x ∷ xs) back h =
+      elim (cmp k x.0) as (λ r. match_ordering r ((k, v) ∷ x ∷ (xs ++ back)) ((k, v) ∷ (xs ++ back)) (x ∷ put_entry cmp (xs ++ back) k v) ≡ match_ordering r ((k, v) ∷ x ∷ xs) ((k, v) ∷ xs) (x ∷ put_entry cmp xs k v) ++ back) [
         | Less ↦ refl
         | Equal ↦ refl
-        | Greater ↦ ap (λ t. x ∷ t) (put_entry-before k v xs e back h)
+        | Greater ↦ ap (λ t. x ∷ t) (put_entry-before k v xs back h)
       ]
 
   pub get-below : (k : K) (es : List (K × V)) → Each Less k es → get cmp es k ≡ None
@@ -118,10 +113,6 @@ module _ {K V : Type 0} (cmp : K → K → Ordering) where
 
   -- ---- parts of entries in order
 
-  -- either side of an entry is shorter than the whole
-  pub sides_shorter : (whole front : List (K × V)) (e : K × V) (back : List (K × V)) → whole ≡ front ++ e ∷ back → (length front < length whole) × (length back < length whole)
-  sides_shorter whole front e back is = rw is (omega (arith, length-append front (e ∷ back)))
-
   each_front : (P : K → Type 0) (front back : List (K × V)) → AllByRecursion P (keys_of (front ++ back)) → AllByRecursion P (keys_of front)
   each_front P [] back h = tt
   each_front P (e ∷ es) back h = (h.0, each_front P es back h.1)
@@ -140,12 +131,12 @@ module _ {K V : Type 0} (cmp : K → K → Ordering) where
   ordered_back [] e back s = s.1
   ordered_back (x ∷ xs) e back s = ordered_back xs e back s.1
 
-  below_middle : (front : List (K × V)) (e : K × V) (back : List (K × V)) → IsOrdered cmp (front ++ e ∷ back) → AllByRecursion (λ y. cmp y e.0 ≡ Less) (keys_of front)
+  pub below_middle : (front : List (K × V)) (e : K × V) (back : List (K × V)) → IsOrdered cmp (front ++ e ∷ back) → AllByRecursion (λ y. cmp y e.0 ≡ Less) (keys_of front)
   unfolding IsStrictlySortedBy
   below_middle [] e back s = tt
   below_middle (x ∷ xs) e back s = (each_middle (λ y. cmp x.0 y ≡ Less) xs e back s.0, below_middle xs e back s.1)
 
-  above_middle : (front : List (K × V)) (e : K × V) (back : List (K × V)) → IsOrdered cmp (front ++ e ∷ back) → AllByRecursion (λ y. cmp e.0 y ≡ Less) (keys_of back)
+  pub above_middle : (front : List (K × V)) (e : K × V) (back : List (K × V)) → IsOrdered cmp (front ++ e ∷ back) → AllByRecursion (λ y. cmp e.0 y ≡ Less) (keys_of back)
   unfolding IsStrictlySortedBy
   above_middle [] e back s = s.0
   above_middle (x ∷ xs) e back s = above_middle xs e back s.1
@@ -155,16 +146,6 @@ module _ {K V : Type 0} (cmp : K → K → Ordering) where
   each_turn P Q f (e ∷ es) h = (f e.0 h.0, each_turn P Q f es h.1)
 
   module _ (o : IsTotalOrder cmp) where
-    -- ---- what the answer at one entry says of the entries on its other side
-
-    pub greater_than_front : (k : K) (front : List (K × V)) (e : K × V) (back : List (K × V)) → IsOrdered cmp (front ++ e ∷ back) → cmp k e.0 ≡ Greater → Each Greater k front
-    greater_than_front k front e back s h =
-        each_turn (λ y. cmp y e.0 ≡ Less) (λ y. cmp k y ≡ Greater) (λ y below. reversed o y k Less (o.trans y e.0 k below (reversed o k e.0 Greater h))) front (below_middle front e back s)
-
-    pub equal_past_front : (k : K) (front : List (K × V)) (e : K × V) (back : List (K × V)) → IsOrdered cmp (front ++ e ∷ back) → cmp k e.0 ≡ Equal → Each Greater k front
-    equal_past_front k front e back s h =
-        each_turn (λ y. cmp y e.0 ≡ Less) (λ y. cmp k y ≡ Greater) (λ y below. o.congr k e.0 y h ∙ reversed o y e.0 Less below) front (below_middle front e back s)
-
     pub less_than_back : (k : K) (front : List (K × V)) (e : K × V) (back : List (K × V)) → IsOrdered cmp (front ++ e ∷ back) → cmp k e.0 ≡ Less → Each Less k back
     less_than_back k front e back s h =
         each_turn (λ y. cmp e.0 y ≡ Less) (λ y. cmp k y ≡ Less) (λ y above. o.trans k e.0 y h above) back (above_middle front e back s)
@@ -173,41 +154,10 @@ module _ {K V : Type 0} (cmp : K → K → Ordering) where
     equal_before_back k front e back s h =
         each_turn (λ y. cmp e.0 y ≡ Less) (λ y. cmp k y ≡ Less) (λ y above. o.congr k e.0 y h ∙ above) back (above_middle front e back s)
 
-    -- ---- at a node: the left side, its entry, and the right side
-
-    module _ (k : K) (left : List (K × V)) (e : K × V) (right : List (K × V)) (s : IsOrdered cmp (left ++ e ∷ right)) where
-      pub get-left : cmp k e.0 ≡ Less → get cmp (left ++ e ∷ right) k ≡ get cmp left k
-      get-left h = get-before k left (e ∷ right) (h, less_than_back k left e right s h)
-
-      pub get-here : cmp k e.0 ≡ Equal → get cmp (left ++ e ∷ right) k ≡ Some e.1
-      get-here h = get-past k left (e ∷ right) (equal_past_front k left e right s h) ∙ rw h
-
-      pub get-right : cmp k e.0 ≡ Greater → get cmp (left ++ e ∷ right) k ≡ get cmp right k
-      get-right h = get-past k left (e ∷ right) (greater_than_front k left e right s h) ∙ rw h
-
-      pub put_entry-here : (v : V) → cmp k e.0 ≡ Equal → put_entry cmp (left ++ e ∷ right) k v ≡ left ++ (k, v) ∷ right
-      put_entry-here v h = put_entry-past k v left (e ∷ right) (equal_past_front k left e right s h) ∙ rw h
-
-      pub put_entry-right : (v : V) → cmp k e.0 ≡ Greater → put_entry cmp (left ++ e ∷ right) k v ≡ left ++ e ∷ put_entry cmp right k v
-      put_entry-right v h = put_entry-past k v left (e ∷ right) (greater_than_front k left e right s h) ∙ rw h
-
-      pub take_entry-left : cmp k e.0 ≡ Less → take_entry cmp (left ++ e ∷ right) k ≡ take_entry cmp left k ++ e ∷ right
-      take_entry-left h = take_entry-before k left (e ∷ right) (h, less_than_back k left e right s h)
-
-      pub take_entry-here : cmp k e.0 ≡ Equal → take_entry cmp (left ++ e ∷ right) k ≡ left ++ right
-      take_entry-here h = take_entry-past k left (e ∷ right) (equal_past_front k left e right s h) ∙ rw h
-
-      pub take_entry-right : cmp k e.0 ≡ Greater → take_entry cmp (left ++ e ∷ right) k ≡ left ++ e ∷ take_entry cmp right k
-      take_entry-right h = take_entry-past k left (e ∷ right) (greater_than_front k left e right s h) ∙ rw h
-
-      pub entries_from-left : cmp k e.0 ≡ Less → entries_from (cmp k) (left ++ e ∷ right) ≡ entries_from (cmp k) left ++ e ∷ right
-      entries_from-left h = entries_from-before k left (e ∷ right) (h, less_than_back k left e right s h)
-
-      pub entries_from-here : cmp k e.0 ≡ Equal → entries_from (cmp k) (left ++ e ∷ right) ≡ e ∷ right
-      entries_from-here h = entries_from-past k left (e ∷ right) (equal_past_front k left e right s h) ∙ rw h (ap (λ t. e ∷ t) (entries_from-below k right (equal_before_back k left e right s h)))
-
-      pub entries_from-right : cmp k e.0 ≡ Greater → entries_from (cmp k) (left ++ e ∷ right) ≡ entries_from (cmp k) right
-      entries_from-right h = entries_from-past k left (e ∷ right) (greater_than_front k left e right s h) ∙ rw h
+    -- the first entry whose key is not below k, and all behind it
+    pub entries_from-here : (k : K) (e : K × V) (back : List (K × V)) → IsOrdered cmp (e ∷ back) → (cmp k e.0 ≡ Less) ⊎ (cmp k e.0 ≡ Equal) → entries_from (cmp k) (e ∷ back) ≡ e ∷ back
+    entries_from-here k e back s (inl h) = entries_from-below k (e ∷ back) (h, less_than_back k [] e back s h)
+    entries_from-here k e back s (inr h) = rw h (ap (λ t. e ∷ t) (entries_from-below k back (equal_before_back k [] e back s h)))
 
     -- ---- after a put or a take
 
@@ -297,11 +247,6 @@ module _ {K V : Type 0} (cmp : K → K → Ordering) where
         | false ↦ omega (arith, length-take_entry k es)
       ]
 
-  -- where an entry is found there is one
-  pub get-some-length : (k : K) (es : List (K × V)) → is_some (get cmp es k) ≡ true → 0 < length es
-  get-some-length k [] found = cc
-  get-some-length k (e ∷ es) found = omega arith
-
   entries_below-none : (k : K) (es : List (K × V)) → Each Less k es → entries_below (cmp k) es ≡ []
   entries_below-none k [] h = refl
   entries_below-none k (e ∷ es) h = rw h.0 (entries_below-none k es h.1)
@@ -350,9 +295,3 @@ module _ {K V : Type 0} (cmp : K → K → Ordering) where
   pub ordered_none : (es : List (K × V)) → length es ≡ 0 → IsOrdered cmp es
   ordered_none [] none = sorted_nil cmp
   ordered_none (e ∷ es) none = absurd (omega (arith, none))
-
--- trees that get no entry stay
-pub put_each-none : {K V : Type 0} (cmp : K → K → Ordering) (trees : List (List (K × V))) (added : List (K × V)) → length added ≡ 0 → put_each cmp trees added ≡ trees
-put_each-none cmp [] added none = refl
-put_each-none cmp (t ∷ ts) [] none = refl
-put_each-none cmp (t ∷ ts) (e ∷ es) none = absurd (omega (arith, none))

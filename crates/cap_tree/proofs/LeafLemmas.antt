@@ -1,5 +1,5 @@
 -- The place of a key among entries in order.
-use Rattle.std.proofs.Common.{◌≡◌, ℕ, zero, suc, ◌+◌, ◌<◌, List, [], ◌∷◌, ◌++◌, length, take, drop, get_or, set, refl, ap, arith, add-one}
+use Rattle.std.proofs.Common.{◌≡◌, ℕ, zero, suc, ◌+◌, ◌<◌, List, [], ◌∷◌, ◌++◌, length, take, drop, get_or, set, refl, ap, arith}
 use Rattle.std.specs.Prelude.{Some, None, slice_get, ◌-◌}
 use Rattle.std.specs.List.{AllByRecursion}
 use Rattle.std.specs.Map.{keys_of}
@@ -13,17 +13,6 @@ use Rattle.cap_tree.specs.Tree.{IsOrdered, get, put_entry, take_entry}
 use Rattle.cap_tree.proofs.EntryLemmas.{Each, reversed, get-below, less_than_back}
 
 module _ {K V : Type 0} (cmp : K → K → Ordering) where
-  pub past_none : (k : K) (es : List (K × V)) → Each cmp Greater k (take 0 es)
-  past_none k es = tt
-
-  pub past_more : (k : K) (es : List (K × V)) (i : ℕ) (d : K × V) → i < length es → Each cmp Greater k (take i es) → cmp k (get_or es i d).0 ≡ Greater → Each cmp Greater k (take (i + 1) es)
-  past_more k es i d within h here = rw add-one (step es i within h here)
-    where
-      step : (es : List (K × V)) (i : ℕ) → i < length es → Each cmp Greater k (take i es) → cmp k (get_or es i d).0 ≡ Greater → Each cmp Greater k (take (suc i) es)
-      step [] i within h here = absurd (omega arith)
-      step (e ∷ es) zero within h here = (here, tt)
-      step (e ∷ es) (suc i) within h here = (h.0, step es i (omega arith) h.1 here)
-
   pub put_less : (k : K) (v : V) (es : List (K × V)) (i : ℕ) (d : K × V) → i < length es → Each cmp Greater k (take i es) → cmp k (get_or es i d).0 ≡ Less → put_entry cmp es k v ≡ insert es i (k, v)
   put_less k v [] i d within h here = absurd (omega arith)
   put_less k v (e ∷ es) zero d within h here = rw here

@@ -1,17 +1,14 @@
+mod BranchLemmas
 mod BuildLemmas
+mod ChangeLemmas
 mod CutLemmas
 pub mod Crossing
 pub mod EntryLemmas
 mod HeightLemmas
-mod MergeLemmas
 mod LeafLemmas
-mod PairLemmas
 mod ChildLemmas
 mod PathLemmas
 mod PlaceLemmas
-mod PutLemmas
 mod RootLemmas
-mod SplitLemmas
-mod TreeLemmas
+mod SiblingLemmas
 mod WayLemmas
-pub mod ReplaceLemmas

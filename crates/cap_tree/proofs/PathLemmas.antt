@@ -1,5 +1,5 @@
 -- A path with the children of one more node at its end.
-use Rattle.std.proofs.Common.{◌≡◌, ℕ, ◌+◌, ◌-◌, ◌<◌, ◌≤◌, suc, zero, List, [], ◌∷◌, ◌++◌, length, drop, Bor, refl, ap, ◌∙◌, sym, subst, append_assoc, length-append, get_or, cond, true, false, add-one, lit<, ◌*◌, ◌^◌, arith}
+use Rattle.std.proofs.Common.{◌≡◌, ℕ, ◌+◌, ◌-◌, ◌<◌, ◌≤◌, suc, zero, List, [], ◌∷◌, ◌++◌, length, drop, Bor, refl, ap, ◌∙◌, sym, subst, append_assoc, length-append, get_or, cond, true, false, add-one, ◌*◌, ◌^◌, arith, lit<}
 use Rattle.std.proofs.lemmas.List.{append-nil}
 use Rattle.std.specs.declared.cmp.Ordering.{Ordering}
 use Rattle.std.specs.Ordering.{is_le}
@@ -10,9 +10,10 @@ use Rattle.std.proofs.Math.Nat.{mul-le-mul_right, pow-le-pow_right, pow-suc}
 use Rattle.cap_tree.specs.declared.node.Link.{Link}
 use Rattle.cap_tree.specs.declared.node.Link.TheVariants.{Leaf, Inner}
 use Rattle.cap_tree.proofs.HeightLemmas.{children_filled}
-use Rattle.cap_tree.proofs.ChildLemmas.{length_seen}
+use Rattle.cap_tree.proofs.ChildLemmas.{length_branches}
+use Rattle.cap_tree.specs.Subtree.{Subtree}
 use Rattle.cap_tree.specs.Path.{pending, FitInto, IsPath}
-use Rattle.cap_tree.specs.Shape.{seen, shape, entries_of, IsNode, AreChildren, place}
+use Rattle.cap_tree.specs.Shape.{branches, shape, entries_of, IsNode, AreChildren, place}
 use Rattle.cap_tree.proofs.WayLemmas.{child_and_behind, from_child}
 
 -- the lesser power has the lesser exponent
@@ -38,9 +39,9 @@ all_room : (room : ℕ) → room - 0 ≡ room
 all_room room = omega arith
 
 module _ {K V Z : Type 0} where
-  pub pending-push : (path : List (Bor (List (Child K V Z)))) (children : Bor (List (Child K V Z))) → pending (path ++ children ∷ []) ≡ entries_of (seen children.now) ++ pending path
-  pending-push [] children = sym (append-nil (entries_of (seen children.now)))
-  pending-push (x ∷ xs) children = ap (λ t. t ++ entries_of (seen x.now)) (pending-push xs children) ∙ append_assoc (entries_of (seen children.now)) (pending xs) (entries_of (seen x.now))
+  pub pending-push : (path : List (Bor (List (Child K V Z)))) (children : Bor (List (Child K V Z))) → pending (path ++ children ∷ []) ≡ entries_of (branches children.now) ++ pending path
+  pending-push [] children = sym (append-nil (entries_of (branches children.now)))
+  pending-push (x ∷ xs) children = ap (λ t. t ++ entries_of (branches x.now)) (pending-push xs children) ∙ append_assoc (entries_of (branches children.now)) (pending xs) (entries_of (branches x.now))
 
   less_room : (room : ℕ) (xs : List (Bor (List (Child K V Z)))) → room - suc (length xs) ≡ room - 1 - length xs
   less_room room xs = omega arith
@@ -58,20 +59,20 @@ module _ {K V Z : Type 0} where
   path_last room (x ∷ xs) children p = subst (λ r. FitInto r children.now) (sym (less_room room xs)) (path_last (room - 1) xs children p.1)
 
   -- children of a node that is no higher than the room fit
-  pub children_fit : (cmp : K → K → Ordering) (height room : ℕ) (children : List (Child K V Z)) → AreChildren cmp height (seen children) → height ≤ room → FitInto room children
+  pub children_fit : (cmp : K → K → Ordering) (height room : ℕ) (children : List (Child K V Z)) → AreChildren cmp height (branches children) → height ≤ room → FitInto room children
   children_fit cmp height room [] h low = tt
   children_fit cmp height room (x ∷ xs) h low = ((h.0.1, omega (arith, h.0.0)), children_fit cmp height room xs h.3 low)
 
-  all_entries : (path : List (Bor (List (Child K V Z)))) (behind : Bor (List (Child K V Z))) (front : List (K × V)) → front ++ pending (path ++ behind ∷ []) ≡ (front ++ entries_of (seen behind.now)) ++ pending path
-  all_entries path behind front = ap (λ t. front ++ t) (pending-push path behind) ∙ sym (append_assoc front (entries_of (seen behind.now)) (pending path))
+  all_entries : (path : List (Bor (List (Child K V Z)))) (behind : Bor (List (Child K V Z))) (front : List (K × V)) → front ++ pending (path ++ behind ∷ []) ≡ (front ++ entries_of (branches behind.now)) ++ pending path
+  all_entries path behind front = ap (λ t. front ++ t) (pending-push path behind) ∙ sym (append_assoc front (entries_of (branches behind.now)) (pending path))
 
   -- ---- from a node that stands so far down into one of its children
 
-  module _ (cmp : K → K → Ordering) (height : ℕ) (children : List (Child K V Z)) (n : ℕ) (child : Child K V Z) (behind : Bor (List (Child K V Z))) (there : drop n children ≡ child ∷ behind.now) (h : AreChildren cmp height (seen children)) (path : List (Bor (List (Child K V Z)))) (fits : length path + height ≤ 32) where
-    those : AreChildren cmp height (seen (child ∷ behind.now))
+  module _ (cmp : K → K → Ordering) (height : ℕ) (children : List (Child K V Z)) (n : ℕ) (child : Child K V Z) (behind : Bor (List (Child K V Z))) (there : drop n children ≡ child ∷ behind.now) (h : AreChildren cmp height (branches children)) (path : List (Bor (List (Child K V Z)))) (fits : length path + height ≤ 32) where
+    those : AreChildren cmp height (branches (child ∷ behind.now))
     those = child_and_behind cmp children n child behind.now there height h
 
-    pub down_lower : child.node.value.1 < height
+    pub down_lower : child.node.value.height < height
     down_lower = let t = those in omega (arith, t.0.0)
 
     pub down_room : length path < 32
@@ -80,21 +81,21 @@ module _ {K V Z : Type 0} where
     pub down_path : IsPath 32 path → IsPath 32 (path ++ behind ∷ [])
     down_path p = path_push 32 path behind p (children_fit cmp height (32 - length path) behind.now those.3 (omega arith))
 
-    pub down_fits : length (path ++ behind ∷ []) + child.node.value.1 ≤ 32
+    pub down_fits : length (path ++ behind ∷ []) + child.node.value.height ≤ 32
     down_fits = let t = those in omega (arith, t.0.0, length-append path (behind ∷ []))
 
-    pub down_some : (leaf : List (K × V)) → (0 < length child.node.value.0 → 0 < length leaf) → 0 < length leaf
+    pub down_some : (leaf : List (K × V)) → (0 < length child.node.value.entries → 0 < length leaf) → 0 < length leaf
     down_some leaf some = some those.0.1
 
   -- to the first child
-  pub down_first : (children : List (Child K V Z)) (child : Child K V Z) (behind : Bor (List (Child K V Z))) → children ≡ child ∷ behind.now → (path : List (Bor (List (Child K V Z)))) → child.node.value.0 ++ pending (path ++ behind ∷ []) ≡ entries_of (seen children) ++ pending path
-  down_first children child behind is path = all_entries path behind child.node.value.0 ∙ ap (λ l. entries_of (seen l) ++ pending path) (sym is)
+  pub down_first : (children : List (Child K V Z)) (child : Child K V Z) (behind : Bor (List (Child K V Z))) → children ≡ child ∷ behind.now → (path : List (Bor (List (Child K V Z)))) → child.node.value.entries ++ pending (path ++ behind ∷ []) ≡ entries_of (branches children) ++ pending path
+  down_first children child behind is path = all_entries path behind child.node.value.entries ∙ ap (λ l. entries_of (branches l) ++ pending path) (sym is)
 
   -- to the child among whose entries the key belongs
-  pub down_key : (cmp : K → K → Ordering) → IsTotalOrder cmp → (k : K) (height : ℕ) (children : List (Child K V Z)) (child : Child K V Z) (behind : Bor (List (Child K V Z))) → drop (place cmp k (seen children) - 1) children ≡ child ∷ behind.now → AreChildren cmp height (seen children) → (path : List (Bor (List (Child K V Z)))) → entries_from (cmp k) child.node.value.0 ++ pending (path ++ behind ∷ []) ≡ entries_from (cmp k) (entries_of (seen children)) ++ pending path
+  pub down_key : (cmp : K → K → Ordering) → IsTotalOrder cmp → (k : K) (height : ℕ) (children : List (Child K V Z)) (child : Child K V Z) (behind : Bor (List (Child K V Z))) → drop (place cmp k (branches children) - 1) children ≡ child ∷ behind.now → AreChildren cmp height (branches children) → (path : List (Bor (List (Child K V Z)))) → entries_from (cmp k) child.node.value.entries ++ pending (path ++ behind ∷ []) ≡ entries_from (cmp k) (entries_of (branches children)) ++ pending path
   down_key cmp o k height children child behind there h path =
-      all_entries path behind (entries_from (cmp k) child.node.value.0)
-      ∙ ap (λ t. t ++ pending path) (sym (from_child cmp children (place cmp k (seen children) - 1) child behind.now there o k height h refl))
+      all_entries path behind (entries_from (cmp k) child.node.value.entries)
+      ∙ ap (λ t. t ++ pending path) (sym (from_child cmp children (place cmp k (branches children) - 1) child behind.now there o k height h refl))
 
   -- ---- to the first child of the node that comes last on the path
 
@@ -104,9 +105,6 @@ module _ {K V Z : Type 0} where
 
     pub next_path : IsPath 32 path
     next_path = path_front 32 path children here
-
-    pub next_shorter : length path < length whole
-    next_shorter = rw is (omega (arith, length-append path (children ∷ [])))
 
     pub next_none : length children.now ≡ 0 → pending path ≡ pending whole
     next_none none = sym (ap pending is ∙ pending-push path children ∙ rw (none_left children.now none))
@@ -125,33 +123,33 @@ module _ {K V Z : Type 0} where
       pub next_down : IsPath 32 (path ++ behind ∷ [])
       next_down = path_push 32 path behind next_path fit.1
 
-      pub next_fits : length (path ++ behind ∷ []) + child.node.value.1 ≤ 32
+      pub next_fits : length (path ++ behind ∷ []) + child.node.value.height ≤ 32
       next_fits = let f = fit in omega (arith, f.0.1, length-append path (behind ∷ []))
 
-      pub next_some : (leaf : List (K × V)) → (0 < length child.node.value.0 → 0 < length leaf) → 0 < length leaf
+      pub next_some : (leaf : List (K × V)) → (0 < length child.node.value.entries → 0 < length leaf) → 0 < length leaf
       next_some leaf some = some fit.0.0
 
-      pub next_pending : child.node.value.0 ++ pending (path ++ behind ∷ []) ≡ pending whole
+      pub next_pending : child.node.value.entries ++ pending (path ++ behind ∷ []) ≡ pending whole
       next_pending = down_first children.now child behind first path ∙ sym (ap pending is ∙ pending-push path children)
 
   -- ---- how high a node is whose entries can be counted
 
-  pub is_low : (cmp : K → K → Ordering) (link : Link K V Z) (node : List (K × V) × ℕ × ℕ) → shape link ≡ node → IsNode cmp link → length node.0 < 2 ^ 64 → node.1 < 32
-  is_low cmp (Leaf entries) node seen_as h fits = rw (← seen_as) (lit< tt)
-  is_low cmp (Inner height count children) node seen_as h fits =
-      let filled = (children_filled cmp height (seen children.items) h.2 h.3).0 in
-      let some : 1 * 4 ^ height ≤ length (seen children.items) * 4 ^ height = mul-le-mul_right (4 ^ height) (omega (arith, h.0, children.ok.0, length_seen children.items)) in
-      let all : length (entries_of (seen children.items)) < 2 ^ 64 = rw (← ap (λ n. n.0) seen_as) at fits in
+  pub is_low : (cmp : K → K → Ordering) (link : Link K V Z) (node : Subtree K V) → shape link ≡ node → IsNode cmp link → length node.entries < 2 ^ 64 → node.height < 32
+  is_low cmp (Leaf entries) node is h fits = rw (← is) (lit< tt)
+  is_low cmp (Inner height count children) node is h fits =
+      let filled = (children_filled cmp height (branches children.items) h.children h.fit).0 in
+      let some : 1 * 4 ^ height ≤ length (branches children.items) * 4 ^ height = mul-le-mul_right (4 ^ height) (omega (arith, h.some, children.ok.0, length_branches children.items)) in
+      let all : length (entries_of (branches children.items)) < 2 ^ 64 = rw (← ap (λ n. n.entries) is) at fits in
       let low : height < 32 = lower height 32 (omega (arith, filled, some, all)) in
-      rw (← ap (λ n. n.1) seen_as) low
+      rw (← ap (λ n. n.height) is) low
 
   -- the entries to come from the item at i on are its own and those of the items behind it
-  pub path_count : (path : List (Bor (List (Child K V Z)))) (i : ℕ) (d : Bor (List (Child K V Z))) → i < length path → d ≡ get_or path i d → length (pending (drop i path)) ≡ length (entries_of (seen d.now)) + length (pending (drop (i + 1) path))
+  pub path_count : (path : List (Bor (List (Child K V Z)))) (i : ℕ) (d : Bor (List (Child K V Z))) → i < length path → d ≡ get_or path i d → length (pending (drop i path)) ≡ length (entries_of (branches d.now)) + length (pending (drop (i + 1) path))
   path_count path i d within is = rw add-one (step path i within is)
     where
-      step : (path : List (Bor (List (Child K V Z)))) (i : ℕ) → i < length path → d ≡ get_or path i d → length (pending (drop i path)) ≡ length (entries_of (seen d.now)) + length (pending (drop (suc i) path))
+      step : (path : List (Bor (List (Child K V Z)))) (i : ℕ) → i < length path → d ≡ get_or path i d → length (pending (drop i path)) ≡ length (entries_of (branches d.now)) + length (pending (drop (suc i) path))
       step [] i within is = absurd (omega arith)
-      step (p ∷ ps) zero within is = rw is (omega (arith, length-append (pending ps) (entries_of (seen p.now))))
+      step (p ∷ ps) zero within is = rw is (omega (arith, length-append (pending ps) (entries_of (branches p.now))))
       step (p ∷ ps) (suc i) within is = step ps i (omega arith) is
 
   -- where the leaf is at its end, the path leads to all that is still to come

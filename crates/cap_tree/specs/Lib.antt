@@ -1,7 +1,10 @@
 pub mod Tree
+pub mod Subtree
 pub mod Shape
 pub mod Cut
 pub mod Falls
 pub mod Path
 pub mod Root
 pub mod Replace
+pub mod Change
+pub mod Siblings

@@ -2,7 +2,8 @@
 ghost use Rattle.std.specs.Prelude.{◌≡◌, ℕ, ◌+◌, ◌-◌, ◌*◌, ◌^◌, ◌<◌, ◌≤◌, ◌++◌, length, vec_len, IsTrue};
 ghost use Rattle.std.specs.Prelude.{IfOk, ◌↔◌};
 ghost use Rattle.std.specs.Arc.{arc_value};
-ghost use Rattle.cap_tree.specs.Shape.{seen, entries_of, AreChildren, IsFit, AreFit, EachBelow, NoneBelow};
+ghost use Rattle.cap_tree.specs.Shape.{branches, entries_of, AreChildren, IsFit, AreFit};
+ghost use Rattle.cap_tree.specs.Shape.{EachBelow, NoneBelow};
 ghost use Rattle.cap_tree.specs.Root.{root_entries, IsRoot};
 ghost use Rattle.cap_tree.specs.Tree.{IsOrdered};
 
@@ -60,10 +61,10 @@ fn last_leaf<K: Ord + Drop, V: Drop, A: AllocHandle>(
 ) -> Result<Node<K, V, A>, OutOfMemory>
     requires within { count ≤ vec_len entries.old }
     requires most { count ≤ 16 }
-    ensures entries { IfOk result (λ n. entries.old.items ≡ entries.new.items ++ n.0) }
-    ensures count { IfOk result (λ n. length n.0 ≡ count) }
-    ensures height { IfOk result (λ n. n.1 ≡ 0) }
-    ensures items { IfOk result (λ n. n.2 ≡ count) }
+    ensures entries { IfOk result (λ n. entries.old.items ≡ entries.new.items ++ n.entries) }
+    ensures count { IfOk result (λ n. length n.entries ≡ count) }
+    ensures height { IfOk result (λ n. n.height ≡ 0) }
+    ensures items { IfOk result (λ n. n.items ≡ count) }
 {
     let mut leaf = Vec::with_capacity(alloc, MOST)?;
     let at = entries.len() - count;
@@ -88,10 +89,10 @@ fn last_node<K: Ord + Exact + Drop, V: Drop, A: AllocHandle>(
     requires most { count ≤ 16 * share }
     requires within { count ≤ vec_len entries.old }
     requires ordered { IsOrdered K.cmp entries.old.items }
-    ensures entries { IfOk result (λ n. entries.old.items ≡ entries.new.items ++ n.0) }
-    ensures count { IfOk result (λ n. length n.0 ≡ count) }
-    ensures height { IfOk result (λ n. n.1 ≡ height) }
-    ensures items { IfOk result (λ n. count ≤ n.2 * share) }
+    ensures entries { IfOk result (λ n. entries.old.items ≡ entries.new.items ++ n.entries) }
+    ensures count { IfOk result (λ n. length n.entries ≡ count) }
+    ensures height { IfOk result (λ n. n.height ≡ height) }
+    ensures items { IfOk result (λ n. count ≤ n.items * share) }
 {
     if height == 0 {
         return last_leaf(alloc, entries, count);
@@ -119,10 +120,10 @@ fn last_children<K: Ord + Exact + Drop, V: Drop, A: AllocHandle>(
     requires within { count ≤ vec_len entries.old }
     requires ordered { IsOrdered K.cmp entries.old.items }
     ensures entries { IfOk result (λ ps. entries.old.items
-        ≡ entries.new.items ++ entries_of (seen ps.items)) }
-    ensures count { IfOk result (λ ps. length (entries_of (seen ps.items)) ≡ count) }
-    ensures children { IfOk result (λ ps. AreChildren K.cmp height (seen ps.items)) }
-    ensures fit { IfOk result (λ ps. AreFit (seen ps.items)) }
+        ≡ entries.new.items ++ entries_of (branches ps.items)) }
+    ensures count { IfOk result (λ ps. length (entries_of (branches ps.items)) ≡ count) }
+    ensures children { IfOk result (λ ps. AreChildren K.cmp height (branches ps.items)) }
+    ensures fit { IfOk result (λ ps. AreFit (branches ps.items)) }
     ensures most { IfOk result (λ ps. vec_len ps ≤ 16) }
     ensures items { IfOk result (λ ps. count ≤ vec_len ps * share) }
 {
@@ -152,12 +153,12 @@ fn last_child<K: Ord + Exact + Drop, V: Drop, A: AllocHandle>(
     requires most { count ≤ 16 * share }
     requires within { count ≤ vec_len entries.old }
     requires ordered { IsOrdered K.cmp entries.old.items }
-    ensures entries { IfOk result (λ p. entries.old.items ≡ entries.new.items ++ (arc_value p.node).0) }
-    ensures count { IfOk result (λ p. length (arc_value p.node).0 ≡ count) }
-    ensures height { IfOk result (λ p. (arc_value p.node).1 ≡ height) }
+    ensures entries { IfOk result (λ p. entries.old.items ≡ entries.new.items ++ (arc_value p.node).entries) }
+    ensures count { IfOk result (λ p. length (arc_value p.node).entries ≡ count) }
+    ensures height { IfOk result (λ p. (arc_value p.node).height ≡ height) }
     ensures fit { IfOk result (λ p. IsFit (arc_value p.node)) }
     ensures below { IfOk result (λ p. EachBelow K.cmp p.least entries.new.items) }
-    ensures not_below { IfOk result (λ p. NoneBelow K.cmp p.least (arc_value p.node).0) }
+    ensures not_below { IfOk result (λ p. NoneBelow K.cmp p.least (arc_value p.node).entries) }
 {
     let least = entries[entries.len() - count].0.clone()?;
     let node = last_node(alloc, entries, height, share, count)?;

@@ -2,7 +2,7 @@
 ghost use Rattle.std.specs.Prelude.{◌≡◌, ℕ, ◌-◌, ◌<◌, [], ◌∷◌, drop, length, Some, slice_get, IfNone, IfSome};
 ghost use Rattle.std.specs.Option.{option_copied};
 ghost use Rattle.cap_tree.specs.Tree.{IsOrdered, get};
-ghost use Rattle.cap_tree.specs.Shape.{seen, place, AreChildren};
+ghost use Rattle.cap_tree.specs.Shape.{branches, place, AreChildren};
 
 use crate::child::count_up_to;
 use crate::leaf::search;
@@ -17,8 +17,8 @@ pub(crate) fn child_for<'a, K: Ord, V, A: AllocHandle>(
     key: &K,
 ) -> (&'a Child<K, V, A>, &'a [Child<K, V, A>])
     requires { 0 < length children.now }
-    ensures { (h : ℕ) → AreChildren K.cmp h (seen children.now)
-        → drop (place K.cmp key.now (seen children.now) - 1) children.now ≡ result.0.now ∷ result.1.now }
+    ensures { (h : ℕ) → AreChildren K.cmp h (branches children.now)
+        → drop (place K.cmp key.now (branches children.now) - 1) children.now ≡ result.0.now ∷ result.1.now }
 {
     let (_, from) = children.split_at(count_up_to(children, key).saturating_sub(1));
     let Some((child, behind)) = from.split_first() else {
@@ -29,8 +29,8 @@ pub(crate) fn child_for<'a, K: Ord, V, A: AllocHandle>(
 
 // The value at the key.
 pub(crate) fn find<'a, K: Ord, V, A: AllocHandle>(node: &'a Node<K, V, A>, key: &K) -> Option<&'a V>
-    requires { IsOrdered K.cmp node.now.0 }
-    ensures { option_copied result ≡ get K.cmp node.now.0 key.now }
+    requires { IsOrdered K.cmp node.now.entries }
+    ensures { option_copied result ≡ get K.cmp node.now.entries key.now }
 {
     match &node.link {
         Link::Leaf(entries) => match search(entries.as_slice(), key) {
@@ -46,8 +46,9 @@ pub(crate) fn find<'a, K: Ord, V, A: AllocHandle>(node: &'a Node<K, V, A>, key: 
 
 // The last entry.
 pub(crate) fn last<K: Ord, V, A: AllocHandle>(node: &Node<K, V, A>) -> Option<&(K, V)>
-    ensures none { IfNone result (node.now.0 ≡ []) }
-    ensures last { IfSome result (λ e. slice_get node.now.0 (length node.now.0 - 1) ≡ Some e.now) }
+    ensures none { IfNone result (node.now.entries ≡ []) }
+    ensures last { IfSome result (λ e.
+        slice_get node.now.entries (length node.now.entries - 1) ≡ Some e.now) }
 {
     match &node.link {
         Link::Leaf(entries) => return entries.as_slice().last(),

@@ -15,9 +15,9 @@ use std::sync::Arc;
 impl<K: Ord + Exact, V, A: AllocHandle> Node<K, V, A> {
     // A key that no entry is below.
     fn least(&self) -> Result<K, OutOfMemory>
-        requires some { 0 < self.now.2 }
-        requires ordered { IsOrdered K.cmp self.now.0 }
-        ensures { IfOk result (λ k. NoneBelow K.cmp k self.now.0) }
+        requires some { 0 < self.now.items }
+        requires ordered { IsOrdered K.cmp self.now.entries }
+        ensures { IfOk result (λ k. NoneBelow K.cmp k self.now.entries) }
     {
         match &self.link {
             Link::Leaf(entries) => {
@@ -39,10 +39,10 @@ fn halves<K: Ord + Exact + Drop, V: Drop, A: AllocHandle>(
     at: usize,
 ) -> Result<(Child<K, V, A>, Child<K, V, A>), OutOfMemory>
     requires front { 0 < at }
-    requires back { at < node.old.2 }
-    requires ordered { IsOrdered K.cmp node.old.0 }
+    requires back { at < node.old.items }
+    requires ordered { IsOrdered K.cmp node.old.entries }
     ensures err { OnErr result (node.new ≡ node.old) }
-    ensures least { IfOk result (λ r. NoneBelow K.cmp r.0.least node.old.0) }
+    ensures least { IfOk result (λ r. NoneBelow K.cmp r.0.least node.old.entries) }
     ensures cut { IfOk result
         (λ r. IsCut K.cmp at node.old (arc_value r.0.node) (arc_value r.1.node) r.1.least) }
     ensures filled { IfOk result (λ r. IsFilled (arc_value r.0.node)) }
@@ -61,18 +61,18 @@ fn halves<K: Ord + Exact + Drop, V: Drop, A: AllocHandle>(
 }
 
 // Splits a full node, and replaces it by a node over the two. The first of them has `at` items.
-fn grow<K: Ord + Exact + Drop, V: Exact + Drop, A: AllocHandle>(
+pub(crate) fn grow<K: Ord + Exact + Drop, V: Exact + Drop, A: AllocHandle>(
     node: &mut Node<K, V, A>,
     alloc: A,
     at: usize,
 ) -> Result<(), OutOfMemory>
-    requires full { node.old.2 ≡ 16 }
+    requires full { node.old.items ≡ 16 }
     requires front { 4 ≤ at }
     requires back { at ≤ 12 }
-    requires ordered { IsOrdered K.cmp node.old.0 }
-    ensures entries { node.new.0 ≡ node.old.0 }
-    ensures two { 2 ≤ node.new.2 }
-    ensures room { OnOk result (node.new.2 < 16) }
+    requires ordered { IsOrdered K.cmp node.old.entries }
+    ensures entries { node.new.entries ≡ node.old.entries }
+    ensures two { 2 ≤ node.new.items }
+    ensures room { OnOk result (node.new.items < 16) }
 {
     let count = node.count();
     let height = depth(node) + 1;
@@ -85,23 +85,4 @@ fn grow<K: Ord + Exact + Drop, V: Exact + Drop, A: AllocHandle>(
     };
     *node = whole;
     Ok(())
-}
-
-// Sees to it that a root node into which the key is to be put is not full.
-pub(crate) fn make_root_room<K: Ord + Exact + Drop, V: Exact + Drop, A: AllocHandle>(
-    node: &mut Node<K, V, A>,
-    alloc: A,
-    key: &K,
-) -> Result<(), OutOfMemory>
-    requires ordered { IsOrdered K.cmp node.old.0 }
-    requires two { 0 < node.old.1 → 1 < node.old.2 }
-    ensures entries { node.new.0 ≡ node.old.0 }
-    ensures two { 0 < node.new.1 → 1 < node.new.2 }
-    ensures room { OnOk result (node.new.2 < 16) }
-{
-    if node.len() < MOST {
-        return Ok(());
-    }
-    let at = node.cut_for(key);
-    grow(node, alloc, at)
 }

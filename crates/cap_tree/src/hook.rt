@@ -25,66 +25,36 @@ pub trait Hook<V> {
         ensures { gives self.old (option_copied present.entry) (option_copied next.entry) result self.new };
 }
 
-// Asks the hook where a value is replaced by another.
-pub(crate) fn ask_to_replace<V, H: Hook<V>>(
+// Asks the hook where the key has a value.
+pub(crate) fn ask_of_present<V, H: Hook<V>>(
     hook: &mut H,
     present: &V,
-    next: &V,
+    next: Option<&V>,
 ) -> Result<(), Fault<H::Refusal>>
-    requires { H.can_ask hook.old (Some present.now) (Some next.now) }
-    ensures allowed { OnOk result (H.gives hook.old (Some present.now) (Some next.now) (Ok tt) hook.new) }
+    requires { H.can_ask hook.old (Some present.now) (option_copied next) }
+    ensures allowed { OnOk result
+        (H.gives hook.old (Some present.now) (option_copied next.entry) (Ok tt) hook.new) }
     ensures refused { IfErr result (λ fault. MatchFault fault (hook.new ≡ hook.old)
-        (λ why. H.gives hook.old (Some present.now) (Some next.now) (Err why) hook.new)) }
+        (λ why. H.gives hook.old (Some present.now) (option_copied next.entry) (Err why) hook.new)) }
 {
-    match hook.before_change(Some(present), Some(next)) {
+    match hook.before_change(Some(present), next) {
         Ok(()) => Ok(()),
         Err(why) => Err(Fault::Refused(why)),
     }
 }
 
-// Asks the hook where a key gets its first value.
-pub(crate) fn ask_to_put<V: Drop, H: Hook<V>>(
+// Asks the hook where the key has no value.
+pub(crate) fn ask_of_absent<V: Drop, H: Hook<V>>(
     hook: &mut H,
-    next: &V,
+    next: Option<&V>,
 ) -> Result<(), Fault<H::Refusal>>
-    requires { H.can_ask hook.old None (Some next.now) }
-    ensures allowed { OnOk result (H.gives hook.old None (Some next.now) (Ok tt) hook.new) }
+    requires { H.can_ask hook.old None (option_copied next) }
+    ensures allowed { OnOk result (H.gives hook.old None (option_copied next.entry) (Ok tt) hook.new) }
     ensures refused { IfErr result (λ fault. MatchFault fault (hook.new ≡ hook.old)
-        (λ why. H.gives hook.old None (Some next.now) (Err why) hook.new)) }
+        (λ why. H.gives hook.old None (option_copied next.entry) (Err why) hook.new)) }
 {
     let nothing: Option<V> = None;
-    match hook.before_change(nothing.as_ref(), Some(next)) {
-        Ok(()) => Ok(()),
-        Err(why) => Err(Fault::Refused(why)),
-    }
-}
-
-// Asks the hook where a value is removed.
-pub(crate) fn ask_to_take<V: Drop, H: Hook<V>>(
-    hook: &mut H,
-    present: &V,
-) -> Result<(), Fault<H::Refusal>>
-    requires { H.can_ask hook.old (Some present.now) None }
-    ensures allowed { OnOk result (H.gives hook.old (Some present.now) None (Ok tt) hook.new) }
-    ensures refused { IfErr result (λ fault. MatchFault fault (hook.new ≡ hook.old)
-        (λ why. H.gives hook.old (Some present.now) None (Err why) hook.new)) }
-{
-    let nothing: Option<V> = None;
-    match hook.before_change(Some(present), nothing.as_ref()) {
-        Ok(()) => Ok(()),
-        Err(why) => Err(Fault::Refused(why)),
-    }
-}
-
-// Asks the hook where there is nothing to remove.
-pub(crate) fn ask_to_keep<V: Drop, H: Hook<V>>(hook: &mut H) -> Result<(), Fault<H::Refusal>>
-    requires { H.can_ask hook.old None None }
-    ensures allowed { OnOk result (H.gives hook.old None None (Ok tt) hook.new) }
-    ensures refused { IfErr result (λ fault. MatchFault fault (hook.new ≡ hook.old)
-        (λ why. H.gives hook.old None None (Err why) hook.new)) }
-{
-    let nothing: Option<V> = None;
-    match hook.before_change(nothing.as_ref(), nothing.as_ref()) {
+    match hook.before_change(nothing.as_ref(), next) {
         Ok(()) => Ok(()),
         Err(why) => Err(Fault::Refused(why)),
     }

@@ -4,6 +4,7 @@
 #![tactic(auto)]
 
 mod build;
+mod change;
 mod child;
 mod find;
 mod grow;
@@ -13,7 +14,6 @@ mod leaf;
 mod no_hook;
 mod node;
 mod path;
-mod put;
 mod rebalance;
 mod remake;
 mod replace;
@@ -21,7 +21,6 @@ mod room;
 mod root;
 mod shift;
 mod split;
-mod take;
 mod tree;
 
 pub use hook::Hook;

@@ -37,9 +37,9 @@ pub(crate) struct Child<K: Ord, V, A: AllocHandle> {
 }
 
 impl<K: Ord, V, A: AllocHandle> Model for Node<K, V, A> {
-    ghost use Rattle.std.specs.Prelude.{ℕ, List};
+    ghost use Rattle.cap_tree.specs.Subtree.{Subtree};
 
-    ghost Value = { List (K × V) × ℕ × ℕ };
+    ghost Value = { Subtree K V };
 
     ghost use Rattle.cap_tree.specs.Shape.{shape, IsNode};
 
@@ -47,7 +47,7 @@ impl<K: Ord, V, A: AllocHandle> Model for Node<K, V, A> {
 
     ghost invariant = { λ n. IsNode K.cmp n.link };
 
-    ghost size = { λ n. n.1 };
+    ghost size = { λ n. n.height };
 
     ghost use Rattle.cap_tree.specs.Falls.{depth_le-height};
 
@@ -88,7 +88,7 @@ impl<K: Ord + Exact + Drop, V: Exact + Drop, A: AllocHandle> Clone for Node<K, V
 impl<K: Ord, V, A: AllocHandle> Node<K, V, A> {
     // A leaf with no entry, which takes no memory.
     pub(crate) fn empty(alloc: A) -> Self
-        ensures { result ≡ ([], 0, 0) }
+        ensures { result ≡ record { entries = []; height = 0; items = 0 } }
     {
         Node {
             link: Link::Leaf(Vec::new(alloc)),
@@ -105,7 +105,7 @@ impl<K: Ord, V, A: AllocHandle> Node<K, V, A> {
 
     // How many levels there are below the node.
     pub(crate) fn height(&self) -> u64
-        ensures { result ≡ self.now.1 }
+        ensures { result ≡ self.now.height }
     {
         match &self.link {
             Link::Leaf(_) => 0,
@@ -115,7 +115,7 @@ impl<K: Ord, V, A: AllocHandle> Node<K, V, A> {
 
     // The number of entries.
     pub(crate) fn count(&self) -> usize
-        ensures { result ≡ length self.now.0 }
+        ensures { result ≡ length self.now.entries }
     {
         match &self.link {
             Link::Leaf(entries) => entries.len(),
@@ -125,7 +125,7 @@ impl<K: Ord, V, A: AllocHandle> Node<K, V, A> {
 
     // The number of items of the node itself.
     pub(crate) fn len(&self) -> usize
-        ensures value { result ≡ self.now.2 }
+        ensures value { result ≡ self.now.items }
         ensures most { result ≤ 16 }
         ensures filled { IsFilled self.now }
     {

@@ -20,9 +20,9 @@ pub(crate) type Path<'a, K, V, A> = ArrayVec<&'a [Child<K, V, A>], ROOM>;
 
 // How many levels there are below the node: fewer than a path has room for.
 pub(crate) fn depth<K: Ord, V, A: AllocHandle>(node: &Node<K, V, A>) -> u64
-    ensures value { result ≡ node.now.1 }
-    ensures low { node.now.1 < ROOM }
-    ensures fits { length node.now.0 < 2 ^ 64 }
+    ensures value { result ≡ node.now.height }
+    ensures low { node.now.height < ROOM }
+    ensures fits { length node.now.entries < 2 ^ 64 }
 {
     // The count shows that the number of entries fits, and the link how many there are at least.
     let _count = node.count();
@@ -43,10 +43,10 @@ pub(crate) fn descend<'a, K: Ord, V, A: AllocHandle>(
     node: &'a Node<K, V, A>,
 ) -> &'a [(K, V)]
     requires path { IsPath ROOM path.old.items }
-    requires fits { length path.old.items + node.now.1 ≤ ROOM }
-    ensures pending { result.now ++ pending path.new.items ≡ node.now.0 ++ pending path.old.items }
+    requires fits { length path.old.items + node.now.height ≤ ROOM }
+    ensures pending { result.now ++ pending path.new.items ≡ node.now.entries ++ pending path.old.items }
     ensures path { IsPath ROOM path.new.items }
-    ensures some { 0 < length node.now.0 → 0 < length result.now }
+    ensures some { 0 < length node.now.entries → 0 < length result.now }
 {
     match &node.link {
         Link::Leaf(entries) => return entries.as_slice(),
@@ -99,11 +99,11 @@ pub(crate) fn seek<'a, K: Ord, V, A: AllocHandle>(
     node: &'a Node<K, V, A>,
     key: &K,
 ) -> &'a [(K, V)]
-    requires ordered { IsOrdered K.cmp node.now.0 }
+    requires ordered { IsOrdered K.cmp node.now.entries }
     requires path { IsPath ROOM path.old.items }
-    requires fits { length path.old.items + node.now.1 ≤ ROOM }
+    requires fits { length path.old.items + node.now.height ≤ ROOM }
     ensures pending { result.now ++ pending path.new.items
-        ≡ entries_from (K.cmp key.now) node.now.0 ++ pending path.old.items }
+        ≡ entries_from (K.cmp key.now) node.now.entries ++ pending path.old.items }
     ensures path { IsPath ROOM path.new.items }
 {
     match &node.link {

@@ -4,6 +4,7 @@ ghost use Rattle.std.specs.Arc.{arc_value};
 ghost use Rattle.cap_tree.specs.Tree.{IsOrdered, get};
 ghost use Rattle.cap_tree.specs.Shape.{IsFit};
 ghost use Rattle.cap_tree.specs.Replace.{Replaces};
+ghost use Rattle.cap_tree.specs.Root.{IsTop};
 
 use crate::child::count_up_to;
 use crate::leaf::search;
@@ -43,11 +44,12 @@ pub(crate) fn replace_in_node<K: Ord + Exact + Drop, V: Exact + Drop, A: AllocHa
     key: &K,
     hook: &mut H,
 ) -> Result<Option<V>, Fault<H::Refusal>>
-    requires can_remake { (v : V) → get K.cmp node.old.0 key.now ≡ Some v → H.can_remake hook.old v }
-    requires ordered { IsOrdered K.cmp node.old.0 }
-    ensures replaced { Replaces K.cmp H.gives result node.old.0 key.now node.new.0 hook.old hook.new }
-    ensures height { node.new.1 ≡ node.old.1 }
-    ensures len { node.new.2 ≡ node.old.2 }
+    requires can_remake { (v : V) → get K.cmp node.old.entries key.now ≡ Some v → H.can_remake hook.old v }
+    requires ordered { IsOrdered K.cmp node.old.entries }
+    ensures replaced { Replaces K.cmp H.gives result node.old.entries key.now node.new.entries
+        hook.old hook.new }
+    ensures height { node.new.height ≡ node.old.height }
+    ensures len { node.new.items ≡ node.old.items }
 {
     match &mut node.link {
         Link::Leaf(entries) => return replace_in_leaf(entries, key, hook),
@@ -68,14 +70,14 @@ fn replace_in_child<K: Ord + Exact + Drop, V: Exact + Drop, A: AllocHandle, H: R
     key: &K,
     hook: &mut H,
 ) -> Result<Option<V>, Fault<H::Refusal>>
-    requires can_remake { (v : V) → get K.cmp (arc_value child.old.node).0 key.now ≡ Some v
+    requires can_remake { (v : V) → get K.cmp (arc_value child.old.node).entries key.now ≡ Some v
         → H.can_remake hook.old v }
-    requires ordered { IsOrdered K.cmp (arc_value child.old.node).0 }
+    requires ordered { IsOrdered K.cmp (arc_value child.old.node).entries }
     requires fit { IsFit (arc_value child.old.node) }
-    ensures replaced { Replaces K.cmp H.gives result (arc_value child.old.node).0 key.now
-        (arc_value child.new.node).0 hook.old hook.new }
+    ensures replaced { Replaces K.cmp H.gives result (arc_value child.old.node).entries key.now
+        (arc_value child.new.node).entries hook.old hook.new }
     ensures least { child.new.least ≡ child.old.least }
-    ensures height { (arc_value child.new.node).1 ≡ (arc_value child.old.node).1 }
+    ensures height { (arc_value child.new.node).height ≡ (arc_value child.old.node).height }
     ensures fit { IsFit (arc_value child.new.node) }
 {
     let subtree = Arc::make_mut(&mut child.node)?;
@@ -91,13 +93,12 @@ pub(crate) fn replace_in_root<K: Ord + Exact + Drop, V: Exact + Drop, A: AllocHa
     key: &K,
     hook: &mut H,
 ) -> Result<Option<V>, Fault<H::Refusal>>
-    requires can_remake { (v : V) → get K.cmp (arc_value root.old).0 key.now ≡ Some v
+    requires can_remake { (v : V) → get K.cmp (arc_value root.old).entries key.now ≡ Some v
         → H.can_remake hook.old v }
-    requires ordered { IsOrdered K.cmp (arc_value root.old).0 }
-    ensures replaced { Replaces K.cmp H.gives result (arc_value root.old).0 key.now (arc_value root.new).0
-        hook.old hook.new }
-    ensures height { (arc_value root.new).1 ≡ (arc_value root.old).1 }
-    ensures len { (arc_value root.new).2 ≡ (arc_value root.old).2 }
+    requires ordered { IsOrdered K.cmp (arc_value root.old).entries }
+    ensures replaced { Replaces K.cmp H.gives result (arc_value root.old).entries key.now
+        (arc_value root.new).entries hook.old hook.new }
+    ensures top { IsTop (arc_value root.old) → IsTop (arc_value root.new) }
 {
     let node = Arc::make_mut(root)?;
     replace_in_node(node, key, hook)

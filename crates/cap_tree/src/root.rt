@@ -1,15 +1,13 @@
 //! Changes of the root node in place, each with a hook.
-ghost use Rattle.std.specs.Prelude.{◌≡◌, ◌+◌, ◌<◌, ◌≤◌, [], ◌^◌, length, Some, None, Ok, Err, IfOk, IfErr};
-ghost use Rattle.std.specs.Prelude.{IfSome, IfNone, OnOk, OnErr};
+ghost use Rattle.std.specs.Prelude.{◌≡◌, ◌+◌, ◌<◌, ◌≤◌, [], ◌^◌, length, IfOk, IfSome, IfNone, OnOk};
 ghost use Rattle.std.specs.Arc.{arc_value};
-ghost use Rattle.cap_value.specs.Memory.{MatchFault};
-ghost use Rattle.cap_tree.specs.Tree.{IsOrdered, get, put_entry, take_entry};
+ghost use Rattle.cap_tree.specs.Tree.{IsOrdered, get};
+ghost use Rattle.cap_tree.specs.Change.{Changes};
+ghost use Rattle.cap_tree.specs.Root.{IsTop};
 
-use crate::grow::make_root_room;
+use crate::change::{Change, change_in_node};
 use crate::hook::Hook;
 use crate::node::{Child, Link, MOST, Node};
-use crate::put::put_in_node;
-use crate::take::take_from_node;
 use cap_value::{AllocHandle, Exact, Fault, OutOfMemory};
 use std::sync::Arc;
 
@@ -17,7 +15,7 @@ use std::sync::Arc;
 pub(crate) fn empty_leaf<K: Ord + Drop, V: Drop, A: AllocHandle>(
     alloc: A,
 ) -> Result<Arc<Node<K, V, A>, A>, OutOfMemory>
-    ensures { IfOk result (λ node. arc_value node ≡ ([], 0, 0)) }
+    ensures { IfOk result (λ node. arc_value node ≡ record { entries = []; height = 0; items = 0 }) }
 {
     let entries = Vec::with_capacity(alloc, MOST)?;
     let node = Arc::new(
@@ -27,34 +25,6 @@ pub(crate) fn empty_leaf<K: Ord + Drop, V: Drop, A: AllocHandle>(
         },
     )?;
     Ok(node)
-}
-
-// Puts the entry below a root that has a node. A full node is split first.
-pub(crate) fn put_in_root<K: Ord + Exact + Drop, V: Exact + Drop, A: AllocHandle, H: Hook<V>>(
-    root: &mut Arc<Node<K, V, A>, A>,
-    alloc: A,
-    key: K,
-    value: V,
-    hook: &mut H,
-) -> Result<Option<V>, Fault<H::Refusal>>
-    requires can_ask { H.can_ask hook.old (get K.cmp (arc_value root.old).0 key) (Some value) }
-    requires ordered { IsOrdered K.cmp (arc_value root.old).0 }
-    requires two { 0 < (arc_value root.old).1 → 1 < (arc_value root.old).2 }
-    ensures allowed { OnOk result
-        (H.gives hook.old (get K.cmp (arc_value root.old).0 key) (Some value) (Ok tt) hook.new) }
-    ensures refused { IfErr result (λ fault. MatchFault fault (hook.new ≡ hook.old)
-        (λ why. H.gives hook.old (get K.cmp (arc_value root.old).0 key) (Some value) (Err why) hook.new)) }
-    ensures two { 0 < (arc_value root.new).1 → 1 < (arc_value root.new).2 }
-    ensures err { OnErr result ((arc_value root.new).0 ≡ (arc_value root.old).0) }
-    ensures ok { OnOk result ((arc_value root.new).0 ≡ put_entry K.cmp (arc_value root.old).0 key value) }
-    ensures replaced { IfOk result (λ o. o ≡ get K.cmp (arc_value root.old).0 key) }
-{
-    if root.count() == usize::MAX {
-        return Err(Fault::OutOfMemory);
-    }
-    let node = Arc::make_mut(root)?;
-    make_root_room(node, alloc, &key)?;
-    put_in_node(node, key, value, hook)
 }
 
 // The node of a child whose least key is not needed any more.
@@ -70,9 +40,9 @@ fn lone_child<K: Ord + Drop, V: Drop, A: AllocHandle>(
     node: &mut Node<K, V, A>,
 ) -> Option<Arc<Node<K, V, A>, A>>
     ensures none { IfNone result (node.new ≡ node.old) }
-    ensures two { IfNone result (0 < node.new.1 → 1 < node.new.2) }
-    ensures subtree { IfSome result (λ n. (arc_value n).0 ≡ node.old.0) }
-    ensures child_two { IfSome result (λ n. 0 < (arc_value n).1 → 1 < (arc_value n).2) }
+    ensures top { IfNone result (IsTop node.new) }
+    ensures subtree { IfSome result (λ n. (arc_value n).entries ≡ node.old.entries) }
+    ensures child_top { IfSome result (λ n. IsTop (arc_value n)) }
 {
     match &mut node.link {
         Link::Leaf(_) => return None,
@@ -90,32 +60,35 @@ fn lone_child<K: Ord + Drop, V: Drop, A: AllocHandle>(
     }
 }
 
-// Takes the entry at the key out below a root that has a node. The node is replaced by its child where only
-// one is left.
-pub(crate) fn take_from_root<K: Ord + Exact + Drop, V: Exact + Drop, A: AllocHandle, H: Hook<V>>(
+// Changes the key below a root that has a node. The node is replaced by its child where only one is left.
+pub(crate) fn change_in_root<
+    K: Ord + Exact + Drop,
+    V: Exact + Drop,
+    A: AllocHandle,
+    C: Change<K, V>,
+    H: Hook<V>,
+>(
     root: &mut Arc<Node<K, V, A>, A>,
-    key: &K,
+    alloc: A,
+    change: C,
     hook: &mut H,
 ) -> Result<Option<V>, Fault<H::Refusal>>
-    requires can_ask { H.can_ask hook.old (get K.cmp (arc_value root.old).0 key.now) None }
-    requires ordered { IsOrdered K.cmp (arc_value root.old).0 }
-    requires two { 0 < (arc_value root.old).1 → 1 < (arc_value root.old).2 }
-    ensures allowed { OnOk result
-        (H.gives hook.old (get K.cmp (arc_value root.old).0 key.now) None (Ok tt) hook.new) }
-    ensures refused { IfErr result (λ fault. MatchFault fault (hook.new ≡ hook.old)
-        (λ why. H.gives hook.old (get K.cmp (arc_value root.old).0 key.now) None (Err why) hook.new)) }
-    ensures two { 0 < (arc_value root.new).1 → 1 < (arc_value root.new).2 }
-    ensures err { OnErr result ((arc_value root.new).0 ≡ (arc_value root.old).0) }
-    ensures ok { OnOk result ((arc_value root.new).0 ≡ take_entry K.cmp (arc_value root.old).0 key.now) }
-    ensures removed { IfOk result (λ o. o ≡ get K.cmp (arc_value root.old).0 key.now) }
+    requires can_ask { H.can_ask hook.old (get K.cmp (arc_value root.old).entries (C.key_of change))
+        (C.next_of change) }
+    requires ordered { IsOrdered K.cmp (arc_value root.old).entries }
+    requires top { IsTop (arc_value root.old) }
+    ensures changes { Changes K.cmp H.gives result (arc_value root.old).entries (C.key_of change)
+        (C.next_of change) (arc_value root.new).entries hook.old hook.new }
+    ensures top { IsTop (arc_value root.new) }
 {
     let node = Arc::make_mut(root)?;
-    let removed = take_from_node(node, key, hook);
+    change.make_root_ready(node, alloc)?;
+    let answer = change_in_node(node, change, hook);
     match lone_child(node) {
-        None => removed,
+        None => answer,
         Some(subtree) => {
             *root = subtree;
-            removed
+            answer
         }
     }
 }

@@ -1,10 +1,36 @@
 //! Items that move between two vectors, of which one goes on where the other ends.
 ghost use Rattle.std.specs.Prelude.{◌≡◌, ◌+◌, ◌<◌, ◌≤◌, ◌++◌, length, vec_len, take, drop, slice_index_or};
-ghost use Rattle.std.specs.Prelude.{OnOk};
+ghost use Rattle.std.specs.Prelude.{OnOk, OnErr, IfOk};
 ghost use Rattle.std.specs.Vec.{vec_capacity};
 
+use crate::node::Child;
 use crate::room::insert_in_room;
-use cap_value::{AllocHandle, OutOfMemory};
+use cap_value::{AllocHandle, Exact, OutOfMemory};
+
+/// An item of a node: an entry or a child.
+pub(crate) trait Item<K> {
+    ghost first_key: { Self → K };
+
+    // A key that nothing in the item is below.
+    fn first_key(&self) -> &K
+        ensures { result.now ≡ first_key self.now };
+}
+
+impl<K, V> Item<K> for (K, V) {
+    ghost first_key = { λ e. e.0 };
+
+    fn first_key(&self) -> &K {
+        &self.0
+    }
+}
+
+impl<K: Ord, V, A: AllocHandle> Item<K> for Child<K, V, A> {
+    ghost first_key = { λ p. p.least };
+
+    fn first_key(&self) -> &K {
+        &self.least
+    }
+}
 
 // Moves the items of the front one from `at` on to the back one, which has room for them.
 pub(crate) fn shift_back<T: Drop, A: AllocHandle>(
@@ -29,11 +55,7 @@ pub(crate) fn shift_back<T: Drop, A: AllocHandle>(
 
 // Moves as many of the first items of the back one to the front one that the front one has `at`, for which it
 // has room.
-pub(crate) fn shift_front<T: Drop, A: AllocHandle>(
-    front: &mut Vec<T, A>,
-    back: &mut Vec<T, A>,
-    at: usize,
-)
+fn shift_front<T: Drop, A: AllocHandle>(front: &mut Vec<T, A>, back: &mut Vec<T, A>, at: usize)
     requires more { vec_len front.old ≤ at }
     requires enough { at ≤ vec_len front.old + vec_len back.old }
     requires room { at ≤ vec_capacity front.old }
@@ -51,11 +73,7 @@ pub(crate) fn shift_front<T: Drop, A: AllocHandle>(
 }
 
 // Redistributes the items of both, so that the front one has `at` of them.
-pub(crate) fn divide<T: Drop, A: AllocHandle>(
-    front: &mut Vec<T, A>,
-    back: &mut Vec<T, A>,
-    at: usize,
-)
+fn divide<T: Drop, A: AllocHandle>(front: &mut Vec<T, A>, back: &mut Vec<T, A>, at: usize)
     requires enough { at ≤ vec_len front.old + vec_len back.old }
     requires front_room { at ≤ vec_capacity front.old }
     requires back_room { vec_len front.old + vec_len back.old ≤ at + vec_capacity back.old }
@@ -72,7 +90,7 @@ pub(crate) fn divide<T: Drop, A: AllocHandle>(
 }
 
 // Reserves memory for `at` items in the front one and for the others in the back one.
-pub(crate) fn reserve_for<T, A: AllocHandle>(
+fn reserve_for<T, A: AllocHandle>(
     front: &mut Vec<T, A>,
     back: &mut Vec<T, A>,
     at: usize,
@@ -93,7 +111,7 @@ pub(crate) fn reserve_for<T, A: AllocHandle>(
 }
 
 // The item that is at `at` where the back ones go on behind the front ones.
-pub(crate) fn item_at<'a, T>(front: &'a [T], back: &'a [T], at: usize) -> &'a T
+fn item_at<'a, T>(front: &'a [T], back: &'a [T], at: usize) -> &'a T
     requires { at < length front.now + length back.now }
     ensures { result.now ≡ slice_index_or (front.now ++ back.now) at result.now }
 {
@@ -101,4 +119,33 @@ pub(crate) fn item_at<'a, T>(front: &'a [T], back: &'a [T], at: usize) -> &'a T
         return &front[at];
     }
     &back[at - front.len()]
+}
+
+// Redistributes the items of two nodes of one height, so that the front one has `at` of them, and answers the
+// first key of the back one.
+pub(crate) fn cut_items<T: Item<K> + Drop, K: Exact + Drop, A: AllocHandle>(
+    front: &mut Vec<T, A>,
+    back: &mut Vec<T, A>,
+    at: usize,
+) -> Result<K, OutOfMemory>
+    requires front_small { vec_len front.old ≤ 16 }
+    requires back_small { vec_len back.old ≤ 16 }
+    requires within { at < vec_len front.old + vec_len back.old }
+    ensures err { OnErr result (front.new.items ≡ front.old.items) }
+    ensures err_len { OnErr result (vec_len front.new ≡ vec_len front.old) }
+    ensures back_err { OnErr result (back.new.items ≡ back.old.items) }
+    ensures back_err_len { OnErr result (vec_len back.new ≡ vec_len back.old) }
+    ensures key { IfOk result (λ k. (d : T)
+        × ((d ≡ slice_index_or (front.old.items ++ back.old.items) at d) × (k ≡ T.first_key d))) }
+    ensures front { OnOk result (front.new.items ≡ take at (front.old.items ++ back.old.items)) }
+    ensures front_len { OnOk result (vec_len front.new ≡ at) }
+    ensures back { OnOk result (back.new.items ≡ drop at (front.old.items ++ back.old.items)) }
+    ensures back_len { OnOk result (vec_len back.new + at ≡ vec_len front.old + vec_len back.old) }
+{
+    let key = item_at(front.as_slice(), back.as_slice(), at)
+        .first_key()
+        .clone()?;
+    reserve_for(front, back, at)?;
+    divide(front, back, at);
+    Ok(key)
 }

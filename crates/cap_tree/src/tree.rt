@@ -8,9 +8,11 @@ ghost use Rattle.std.specs.BTreeMap.Range.{entries_below, entries_from};
 ghost use Rattle.std.specs.Map.Iter.{ShowsInOrder, ShowsValuesInOrder, deref_pair};
 ghost use Rattle.cap_value.specs.Memory.{MatchFault};
 ghost use Rattle.cap_tree.specs.Replace.{Replaces};
+ghost use Rattle.cap_tree.specs.Root.{IsTop};
 ghost use Rattle.cap_tree.specs.Tree.{IsOrdered, get, put_entry, take_entry, Updates};
 
 use crate::build::{build, is_ordered};
+use crate::change::{Put, Take, ask_for_none};
 use crate::find::{find, last};
 use crate::hook::Hook;
 use crate::iter::Iter;
@@ -19,8 +21,7 @@ use crate::node::Node;
 use crate::path::depth;
 use crate::remake::Remake;
 use crate::replace::replace_in_root;
-use crate::root::{empty_leaf, put_in_root, take_from_root};
-use crate::take::ask_for_none;
+use crate::root::{change_in_root, empty_leaf};
 use cap_value::{AllocHandle, Exact, Fault, OutOfMemory};
 use std::marker::Model;
 use std::sync::Arc;
@@ -216,11 +217,11 @@ impl<K: Ord + Exact + Drop, V: Exact + Drop, A: AllocHandle> Tree<K, V, A> {
         match &mut self.root {
             None => {
                 let mut leaf = empty_leaf(alloc)?;
-                let replaced = put_in_root(&mut leaf, alloc, key, value, hook)?;
+                let replaced = change_in_root(&mut leaf, alloc, Put { key, value }, hook)?;
                 self.root = Some(leaf);
                 Ok(replaced)
             }
-            Some(node) => put_in_root(node, alloc, key, value, hook),
+            Some(node) => change_in_root(node, alloc, Put { key, value }, hook),
         }
     }
 
@@ -244,7 +245,7 @@ impl<K: Ord + Exact + Drop, V: Exact + Drop, A: AllocHandle> Tree<K, V, A> {
     {
         match &mut self.root {
             None => ask_for_none(hook),
-            Some(node) => take_from_root(node, key, hook),
+            Some(node) => change_in_root(node, self.alloc, Take { key }, hook),
         }
     }
 
@@ -351,11 +352,11 @@ impl<K: Ord + Exact + Drop, V: Exact + Drop, A: AllocHandle> Tree<K, V, A> {
 
 // The number of nodes on each way down from the root, 0 where there is no entry.
 fn levels<K: Ord, V, A: AllocHandle>(node: &Node<K, V, A>) -> u64
-    requires { 0 < node.now.1 → 2 ≤ node.now.2 }
-    ensures empty { (result ≡ 0) ↔ (node.now.0 ≡ []) }
-    ensures most { length node.now.0 ≤ 16 ^ result }
-    ensures least { 1 < result → 2 * 4 ^ (result - 1) ≤ length node.now.0 }
-    ensures digits { (digits : ℕ) → length node.now.0 < 2 ^ digits → result ≤ digits }
+    requires { IsTop node.now }
+    ensures empty { (result ≡ 0) ↔ (node.now.entries ≡ []) }
+    ensures most { length node.now.entries ≤ 16 ^ result }
+    ensures least { 1 < result → 2 * 4 ^ (result - 1) ≤ length node.now.entries }
+    ensures digits { (digits : ℕ) → length node.now.entries < 2 ^ digits → result ≤ digits }
 {
     let _length = node.len();
     if node.count() == 0 {

@@ -1,14 +1,14 @@
 use Rattle.std.proofs.Common.{[], ◌∷◌, ◌++◌, inl, refl}
-use Rattle.cap_core.specs.declared.command.Command.TheVariants as command
 use Rattle.cap_core.specs.declared.reply.Reply.TheVariants as reply
 use Rattle.cap_core.specs.Answer.{event_by}
+use Rattle.cap_captures.specs.Parts.{capturing}
 use Rattle.cap_captures.proofs.AcceptedLemmas.{after-two, two-of, with-two}
 use Rattle.cap_captures.proofs.parts.captured_whole.Goals as goal
 
 pub returns-in-Some-3 : goal.returns-in-Some-3
 returns-in-Some-3 g c =
     λ h stands.
-    let capture = command.Capture c.args.session in
+    let capture = capturing c.args.session in
     let first = c.args.first.now in
     let second = c.args.second.now in
     let one = rw c.in-Some.is at c.in_ok-one.ensures h stands in
@@ -27,14 +27,14 @@ returns-in-Some-3 g c =
 pub returns-in_default : goal.returns-in_default
 returns-in_default g c =
     λ h stands all.
-    let capture = command.Capture c.args.session in
+    let capture = capturing c.args.session in
     let none = rw c.in_default.is at c.in_ok-one.ensures h stands in
     none (all.0.0, two-of h c.args.first.now capture (c.args.second.now ∷ capture ∷ capture ∷ []) all.1)
 
 pub returns-in_default-2 : goal.returns-in_default-2
 returns-in_default-2 g c =
     λ h stands all.
-    let capture = command.Capture c.args.session in
+    let capture = capturing c.args.session in
     let first = c.args.first.now in
     let second = c.args.second.now in
     let one = rw c.in-Some.is at c.in_ok-one.ensures h stands in
@@ -45,7 +45,7 @@ returns-in_default-2 g c =
 pub returns : goal.returns
 returns g c =
     λ h stands all.
-    let capture = command.Capture c.args.session in
+    let capture = capturing c.args.session in
     let first = c.args.first.now in
     let second = c.args.second.now in
     let one = rw c.in-Some.is at c.in_ok-one.ensures h stands in

@@ -1,13 +1,14 @@
 use Rattle.cap_changes.specs.Change.{new_field}
 use Rattle.cap_field.proofs.BeginLemmas.{begins_on, begins_through, on_error}
-use Rattle.cap_changes.proofs.TouchedLemmas.{image_ends, now_ends, new_goes_on}
+use Rattle.cap_changes.proofs.PutLemmas.{first_ends, second_ends}
+use Rattle.cap_changes.proofs.TouchedLemmas.{new_goes_on}
 use Rattle.cap_changes.proofs.touched.push_new.Goals as goal
 
 pub returns-in_default-clause-bytes : goal.returns-in_default-clause-bytes
-returns-in_default-clause-bytes g c = now_ends new_field _ _ _ _ _ c.loop-key.invariant.0 c.in_default.ensures'.0
+returns-in_default-clause-bytes g c = second_ends new_field _ _ _ _ _ c.in_default.ensures'.0 c.loop-key.invariant.0
 
 pub returns-in_default-2-clause-bytes : goal.returns-in_default-2-clause-bytes
-returns-in_default-2-clause-bytes g c = image_ends new_field _ _ _ _ _ c.loop-key.invariant.0 c.in_default.ensures.0
+returns-in_default-2-clause-bytes g c = first_ends new_field _ _ _ _ _ c.in_default.ensures.0 c.loop-key.invariant.0
 
 pub returns-in_err-push_if-clause-begins : goal.returns-in_err-push_if-clause-begins
 returns-in_err-push_if-clause-begins g c = on_error _ (begins_through c.args.out.now.items c.loop-key.out.items _ c.loop-key.invariant.1 c.in_err-push_if.ensures.begins)

@@ -1,13 +1,14 @@
 use Rattle.std.proofs.Common.{drop, get_or, false}
+use Rattle.cap_changes.proofs.PutLemmas.{first_ends, second_ends}
 use Rattle.cap_group.specs.Record.{new_field}
-use Rattle.cap_group.proofs.FieldLemmas.{after_ends, before_ends, new_put}
+use Rattle.cap_group.proofs.FieldLemmas.{new_put}
 use Rattle.cap_group.proofs.record.push_new.Goals as goal
 
 pub returns-in_default : goal.returns-in_default
-returns-in_default g c = after_ends new_field (drop c.loop-key.key-index c.args.flags.now) c.loop-key.before c.loop-key.after c.loop-key.out.items _ c.in_default.ensures'.0 c.loop-key.invariant
+returns-in_default g c = second_ends new_field (drop c.loop-key.key-index c.args.flags.now) c.loop-key.before c.loop-key.after c.loop-key.out.items _ c.in_default.ensures'.0 c.loop-key.invariant
 
 pub returns-in_default-2 : goal.returns-in_default-2
-returns-in_default-2 g c = before_ends new_field (drop c.loop-key.key-index c.args.flags.now) c.loop-key.before c.loop-key.after c.loop-key.out.items _ c.in_default.ensures.0 c.loop-key.invariant
+returns-in_default-2 g c = first_ends new_field (drop c.loop-key.key-index c.args.flags.now) c.loop-key.before c.loop-key.after c.loop-key.out.items _ c.in_default.ensures.0 c.loop-key.invariant
 
 pub loop-key-preserved : goal.loop-key-preserved
 loop-key-preserved g c =

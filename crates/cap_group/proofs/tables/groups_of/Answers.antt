@@ -10,7 +10,7 @@ pub loop-table-preserved : goal.loop-table-preserved
 loop-table-preserved g c =
     let made = c.in_ok-made.made in
     let within : c.loop-table.table-index < length c.args.tables.now = omega (arith, c.loop-table-test.true) in
-    let more = groups_more (keyed_of g.C.Combine.key g.C.Combine.combined) c.args.tables.now c.loop-table.table-index c.table-item.result made within c.table-item.is c.in_ok-made.ensures in
+    let more = groups_more (keyed_of g.C.Combine.key g.C.Combine.combined) c.args.tables.now c.loop-table.table-index c.table-item.result made within c.table-item.is c.in_ok-made.ensures.made in
     elim c.if-not-is_empty.branch [
       | then-not-is_empty+in_ok-push w ↦
           let some : has_some made.changes ≡ true = grind (arith, nat_tests, some_is made.changes, c.changes.ensures.changes, c.is_empty.ensures, w.if-not-is_empty.true) in

@@ -1,19 +1,19 @@
-use Rattle.std.proofs.Common.{ℕ, sym, ap, ◌∙◌}
+use Rattle.std.proofs.Common.{sym, refl, ◌∙◌}
 use Rattle.std.proofs.lemmas.Result.{on_ok_weaker}
 use Rattle.std.specs.Option.{option_copied}
 use Rattle.cap_session.specs.Records.{Records, Touch, touch}
-use Rattle.cap_session.proofs.DeltaLemmas.{has_place, parts-first}
-use Rattle.cap_session.proofs.PlaceLemmas.{is-first}
+use Rattle.cap_session.proofs.AddedLemmas.{makes-set}
+use Rattle.cap_session.proofs.DeltaLemmas.{set-same}
 use Rattle.cap_session.proofs.delta.touch_at.Goals as goal
 
 pub returns-in-Some-clause-touched : goal.returns-in-Some-clause-touched
 returns-in-Some-clause-touched g c =
-    let ts = c.args.tables.now.entries in
-    let parts = c.args.beside.now.items in
-    let place = c.args.place in
+    let place = c.args.place.now in
     let d = c.index_mut.result.now in
     let t : Touch g.row.A.Denot = record { key = c.args.key.now; image = option_copied c.args.image; indirect = c.args.indirect } in
     let make = λ (records : Records g.row.A.Denot). touch records t in
-    let first = is-first (has_place place) parts c.in-Some.index d (rw c.deref.ensures.value at (sym c.index_of.ensures ∙ c.in-Some.is)) in
     on_ok_weaker c.touch.result
-    (λ made. parts-first make ts parts place c.in-Some.index (d.0, c.touch.new.records) d first (ap (λ (own : ℕ × Records g.row.A.Denot). own.0) c.index_mut.ensures.value) (made ∙ ap (λ (own : ℕ × Records g.row.A.Denot). make own.1) c.index_mut.ensures.value)) c.touch.ensures
+    (makes-set place.session c.args.tables.now.entries place.start c.args.table make c.args.touched.now.items c.in-Some.index d (d.0, (d.1.0, c.touch.new.records)) (rw c.deref.ensures.value at (sym c.index_of.ensures ∙ c.in-Some.is)) c.index_mut.ensures.value refl refl) c.touch.ensures
+
+pub returns-in-None-clause-kept : goal.returns-in-None-clause-kept
+returns-in-None-clause-kept g c = set-same c.args.tables.now.entries c.args.table c.index_mut-in-None.result.now c.put_beside.new.records c.index_mut-in-None.ensures.value c.put_beside.ensures.kept

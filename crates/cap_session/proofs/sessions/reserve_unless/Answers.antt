@@ -1,13 +1,19 @@
-use Rattle.std.proofs.Common.{sym, ◌∙◌}
-use Rattle.cap_session.proofs.EachLemmas.{added-one, nothing-stays, quiet-stays}
+use Rattle.std.proofs.Common.{cond, sym, ap, subst, ◌∙◌}
+use Rattle.std.proofs.lemmas.Result.{on_ok_weaker}
+use Rattle.cap_session.specs.Code.Added.{Adds}
+use Rattle.cap_session.specs.Recording.{record_commit}
+use Rattle.cap_session.proofs.EachLemmas.{adds-nothing}
 use Rattle.cap_session.proofs.sessions.reserve_unless.Goals as goal
 
 pub returns-then-is_one_of-clause-added : goal.returns-then-is_one_of-clause-added
-returns-then-is_one_of-clause-added g c = quiet-stays c.args.changes.now c.args.quiet.now c.args.numbered.now (sym c.is_one_of.ensures ∙ c.if-is_one_of.true)
-
-pub returns-then-is_nothing-clause-added : goal.returns-then-is_nothing-clause-added
-returns-then-is_nothing-clause-added g c =
-    nothing-stays c.args.changes.now c.args.quiet.now c.args.numbered.now c.in_ok-delta.delta (sym c.is_one_of.ensures ∙ c.if-is_one_of.false) c.in_ok-delta.ensures.added (c.is_nothing.ensures c.if-is_nothing.true)
+returns-then-is_one_of-clause-added g c =
+    let own = c.args.numbered.now in
+    let after = record_commit c.args.changes.now own.1 in
+    adds-nothing c.args.place own.1 _ c.args.delta.now (sym (ap (λ b. cond b own.1 after) (sym c.is_one_of.ensures ∙ c.if-is_one_of.true)))
 
 pub returns-clause-added : goal.returns-clause-added
-returns-clause-added g c = added-one c.args.changes.now c.args.quiet.now c.args.numbered.now c.in_ok-delta.delta (sym c.is_one_of.ensures ∙ c.if-is_one_of.false) c.in_ok-delta.ensures.added
+returns-clause-added g c =
+    let own = c.args.numbered.now in
+    let after = record_commit c.args.changes.now own.1 in
+    on_ok_weaker c.reserve.result
+    (subst (λ s. Adds c.args.place own.1 s c.args.delta.now c.reserve.new.delta) (sym (ap (λ b. cond b own.1 after) (sym c.is_one_of.ensures ∙ c.if-is_one_of.false)))) c.reserve.ensures.added

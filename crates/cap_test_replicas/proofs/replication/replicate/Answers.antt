@@ -3,7 +3,8 @@ use Rattle.cap_changes.specs.Patch.{patch_list_of}
 use Rattle.cap_codec.specs.Writable.{of_patches}
 use Rattle.cap_codec.specs.declared.key_flags.KeyFlags.TheVariants.{Ones}
 use Rattle.cap_codec.specs.declared.read.Contents.TheVariants.{Changes}
-use Rattle.cap_core.specs.declared.command.Command.TheVariants.{Capture}
+use Rattle.cap_core.specs.declared.command.Command.TheVariants.{Session}
+use Rattle.cap_core.specs.declared.session_command.SessionCommand.TheVariants.{Capture}
 use Rattle.cap_core.specs.declared.reply.Reply.{Reply}
 use Rattle.cap_core.specs.declared.reply.Reply.TheVariants as reply
 use Rattle.cap_history.specs.Seat.{HasCalled}
@@ -12,18 +13,18 @@ use Rattle.cap_test_replicas.proofs.replication.replicate.Goals as goal
 
 pub returns-in_default-clause-explained : goal.returns-in_default-clause-explained
 returns-in_default-clause-explained g c =
-    no-session c.legal_histories_were_legal.ensures.reply c.legal_histories_grow.ensures.reply c.args.seat.now c.capture.new.seat c.args.session c.in-Ok.reply c.in-Ok.ensures.called c.in_default.ensures
+    no-session c.legal_histories_were_legal.ensures.reply c.legal_histories_grow.ensures.reply c.args.seat.now c.call.new.seat c.args.session c.in-Ok.reply c.in-Ok.ensures.called c.in_default.ensures
 
 pub carry-requires : goal.carry-requires
 carry-requires g c =
     let laws = c.bytes_of_a_capture_give_the_rows_now.ensures in
     let capture = c.in-Some.capture in
     let old = c.args.seat.now in
-    let new = c.capture.new.seat in
+    let new = c.call.new.seat in
     let replied = c.legal_histories_were_legal.ensures.reply in
     let answers = c.legal_histories_grow.ensures.reply in
-    let called : HasCalled old new (Capture c.args.session) (reply.Capture capture) =
-    subst (λ (r : Reply g.row.A.Denot). HasCalled old new (Capture c.args.session) r) c.in-Some.ensures c.in-Ok.ensures.called in
+    let called : HasCalled old new (Session c.args.session Capture) (reply.Capture capture) =
+    subst (λ (r : Reply g.row.A.Denot). HasCalled old new (Session c.args.session Capture) r) c.in-Some.ensures c.in-Ok.ensures.called in
     let reads = reads-in c.args.form (λ past session made is writable. (Changes made.changes, laws.changeset_read past session made Ones is writable))
     (λ past session made is writable. (of_patches (patch_list_of made.changes), laws.patchset_read past session made Ones is writable)) in
     let read = is-read c.args.form reads replied answers old new c.args.session capture called c.in-Ok-is_writable.ensures.changeset in
@@ -34,11 +35,11 @@ returns-in-Ok-carry-clause-replicated g c =
     let laws = c.bytes_of_a_capture_give_the_rows_now.ensures in
     let capture = c.in-Some.capture in
     let old = c.args.seat.now in
-    let new = c.capture.new.seat in
+    let new = c.call.new.seat in
     let replied = c.legal_histories_were_legal.ensures.reply in
     let answers = c.legal_histories_grow.ensures.reply in
-    let called : HasCalled old new (Capture c.args.session) (reply.Capture capture) =
-    subst (λ (r : Reply g.row.A.Denot). HasCalled old new (Capture c.args.session) r) c.in-Some.ensures c.in-Ok.ensures.called in
+    let called : HasCalled old new (Session c.args.session Capture) (reply.Capture capture) =
+    subst (λ (r : Reply g.row.A.Denot). HasCalled old new (Session c.args.session Capture) r) c.in-Some.ensures c.in-Ok.ensures.called in
     let reads = reads-in c.args.form (λ past session made is writable. (Changes made.changes, laws.changeset_read past session made Ones is writable))
     (λ past session made is writable. (of_patches (patch_list_of made.changes), laws.patchset_read past session made Ones is writable)) in
     let read = is-read c.args.form reads replied answers old new c.args.session capture called c.in-Ok-is_writable.ensures.changeset in
@@ -51,11 +52,11 @@ returns-in-Err-Refused-clause-explained g c =
     let laws = c.bytes_of_a_capture_give_the_rows_now.ensures in
     let capture = c.in-Some.capture in
     let old = c.args.seat.now in
-    let new = c.capture.new.seat in
+    let new = c.call.new.seat in
     let replied = c.legal_histories_were_legal.ensures.reply in
     let answers = c.legal_histories_grow.ensures.reply in
-    let called : HasCalled old new (Capture c.args.session) (reply.Capture capture) =
-    subst (λ (r : Reply g.row.A.Denot). HasCalled old new (Capture c.args.session) r) c.in-Some.ensures c.in-Ok.ensures.called in
+    let called : HasCalled old new (Session c.args.session Capture) (reply.Capture capture) =
+    subst (λ (r : Reply g.row.A.Denot). HasCalled old new (Session c.args.session Capture) r) c.in-Some.ensures c.in-Ok.ensures.called in
     let reads = reads-in c.args.form (λ past session made is writable. (Changes made.changes, laws.changeset_read past session made Ones is writable))
     (λ past session made is writable. (of_patches (patch_list_of made.changes), laws.patchset_read past session made Ones is writable)) in
     let read = is-read c.args.form reads replied answers old new c.args.session capture called c.in-Ok-is_writable.ensures.changeset in

@@ -1,11 +1,11 @@
-use Rattle.std.proofs.Common.{◌≡◌, ◌+◌, ◌-◌, ◌*◌, ◌/◌, ◌^◌, ◌<◌, ◌≤◌, ◌∷◌, length, vec_len, take, drop, length-append, refl, sym, ap, ◌∙◌, subst, arith, lit<, rules}
+use Rattle.std.proofs.Common.{◌≡◌, ◌+◌, ◌-◌, ◌*◌, ◌/◌, ◌^◌, ◌<◌, ◌≤◌, ◌∷◌, length, vec_len, take, drop, length-append, refl, sym, ap, ◌∙◌, subst, arith, rules, lit<}
 use Rattle.std.proofs.lemmas.List.{append-nil}
 use Rattle.std.proofs.Math.Nat.{lt_of_mul-lt-mul_right, one-le-pow}
-use Rattle.cap_tree.specs.Shape.{seen, entries_of, IsChild, EachBelow, NoneBelow}
+use Rattle.cap_tree.specs.Shape.{branches, entries_of, IsChild, EachBelow, NoneBelow}
 use Rattle.cap_tree.specs.Tree.{IsOrdered}
 use Rattle.cap_tree.proofs.BuildLemmas.{at_least, share_below, cut_is, below_both, more_entries, more_count}
 use Rattle.cap_tree.proofs.EntryLemmas.{ordered_front}
-use Rattle.cap_tree.proofs.SplitLemmas.{leaf_below, leaf_above}
+use Rattle.cap_tree.proofs.CutLemmas.{leaf_below, leaf_above}
 use Rattle.cap_tree.proofs.build.+last.Goals as goal
 
 pub last_child-index-requires : goal.last_child-index-requires
@@ -22,13 +22,13 @@ last_child-last_node-requires g t c =
 pub last_child-returns-clause-fit : goal.last_child-returns-clause-fit
 last_child-returns-clause-fit g t c =
     let some : 1 ≤ c.args.share = rw c.requires.share (one-le-pow c.args.height 16 (lit< tt)) in
-    let items = at_least 8 c.in_ok-node.node.2 c.args.share (omega (arith, c.requires.half, c.in_ok-node.ensures.items, some)) in
+    let items = at_least 8 c.in_ok-node.node.items c.args.share (omega (arith, c.requires.half, c.in_ok-node.ensures.items, some)) in
     rw c.in_ok-node-2.ensures.ok (omega (arith, items), omega (arith, c.len-length.ensures.value, c.len-length.ensures.most), c.len-length.ensures.filled)
 
 pub last_child-returns-clause-below : goal.last_child-returns-clause-below
 last_child-returns-clause-below g t c =
     let front = c.last_node.new.entries.items in
-    let back = c.in_ok-node.node.0 in
+    let back = c.in_ok-node.node.entries in
     let es = c.args.entries.now.items in
     let i = c.len.result - c.args.count in
     let e = c.in_ok-node.ensures.entries in
@@ -40,7 +40,7 @@ last_child-returns-clause-below g t c =
 pub last_child-returns-clause-not_below : goal.last_child-returns-clause-not_below
 last_child-returns-clause-not_below g t c =
     let front = c.last_node.new.entries.items in
-    let back = c.in_ok-node.node.0 in
+    let back = c.in_ok-node.node.entries in
     let es = c.args.entries.now.items in
     let i = c.len.result - c.args.count in
     let e = c.in_ok-node.ensures.entries in
@@ -77,8 +77,8 @@ last_children-last_child-requires g t c =
     let some : 0 < c.last_share-size.result = s.some in
     let half : 16 * (c.args.share / 16) ≤ 2 * c.last_share-size.result = omega (arith, whole, s.half) in
     let most : c.last_share-size.result ≤ 16 * (c.args.share / 16) = omega (arith, whole, s.most) in
-    let within : c.last_share-size.result ≤ vec_len c.loop-rest.entries = omega (arith, s.within, i.count, c.requires.within, ap length i.all, length-append c.loop-rest.entries.items (entries_of (seen c.loop-rest.children.items)), c.loop-rest.entries.ok.0, c.args.entries.now.ok.0) in
-    let ordered : IsOrdered g.K.Ord.cmp c.loop-rest.entries.items = ordered_front g.K.Ord.cmp c.loop-rest.entries.items (entries_of (seen c.loop-rest.children.items)) (subst (IsOrdered g.K.Ord.cmp) i.all c.requires.ordered) in
+    let within : c.last_share-size.result ≤ vec_len c.loop-rest.entries = omega (arith, s.within, i.count, c.requires.within, ap length i.all, length-append c.loop-rest.entries.items (entries_of (branches c.loop-rest.children.items)), c.loop-rest.entries.ok.0, c.args.entries.now.ok.0) in
+    let ordered : IsOrdered g.K.Ord.cmp c.loop-rest.entries.items = ordered_front g.K.Ord.cmp c.loop-rest.entries.items (entries_of (branches c.loop-rest.children.items)) (subst (IsOrdered g.K.Ord.cmp) i.all c.requires.ordered) in
     let level : 3 * (c.args.height - 1) + 3 < 3 * c.args.height + 1 = omega (arith, c.requires.inner) in
     λ κs h. search rules
 
@@ -101,7 +101,7 @@ last_children-loop-rest-preserved g t c =
     let len = c.insert_in_room.ensures.len in
     let subtree : IsChild c.args.height child.node.value = (omega (arith, e.height, c.requires.inner), omega (arith, e.count, s.some)) in
     let more = more_count children child size e.count in
-    let both = below_both g.K.Ord.cmp (seen children) front child.node.value.0 (rw e.entries at i.below) in
+    let both = below_both g.K.Ord.cmp (branches children) front child.node.value.entries (rw e.entries at i.below) in
     record {
       all = rw is (more_entries children child c.args.entries.now.items c.loop-rest.entries.items front i.all e.entries);
       count = rw is (omega (arith, more, i.count, s.within));
@@ -153,7 +153,7 @@ pub last_node-invariant_of-result : goal.last_node-invariant_of-result
 last_node-invariant_of-result g t c =
     let e = c.in_ok-children.ensures in
     let some : 0 < vec_len c.in_ok-children.children = lt_of_mul-lt-mul_right c.args.share (omega (arith, e.items, c.requires.some)) in
-    (some, e.most, e.children, e.fit, sym e.count)
+    record { some = some; most = e.most; children = e.children; fit = e.fit; count = sym e.count }
 
 pub last_node-returns : goal.last_node-returns
 last_node-returns g t c =

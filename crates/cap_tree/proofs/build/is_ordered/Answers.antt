@@ -1,5 +1,5 @@
-use Rattle.std.proofs.Common.{refl, sym, ◌∙◌}
 use Rattle.std.proofs.lemmas.Bool.{false≢true}
+use Rattle.std.proofs.Common.{refl, sym, ◌∙◌}
 use Rattle.cap_tree.proofs.EntryLemmas.{not_less, ordered_but_one, ordered_but_first, first_below_second, ordered_none}
 use Rattle.cap_tree.proofs.build.is_ordered.Goals as goal
 

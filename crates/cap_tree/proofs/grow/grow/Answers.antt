@@ -1,8 +1,9 @@
-use Rattle.std.proofs.Common.{◌≡◌, ◌+◌, length, vec_len, arith, refl, sym, ap, ◌∙◌}
+use Rattle.std.proofs.Common.{◌≡◌, ◌≢◌, ◌+◌, length, vec_len, arith, refl, sym, ap, ◌∙◌}
 use Rattle.std.proofs.lemmas.List.{append-nil}
 use Rattle.cap_tree.specs.Shape.{IsChild, IsFit, NoneBelow}
 use Rattle.cap_tree.proofs.HeightLemmas.{fed}
-use Rattle.cap_tree.proofs.SplitLemmas.{none_below_front}
+use Rattle.std.specs.declared.cmp.Ordering.TheVariants.{Greater}
+use Rattle.cap_tree.proofs.BranchLemmas.{keys_front}
 use Rattle.cap_tree.proofs.grow.grow.Goals as goal
 
 pub invariant_of-whole : goal.invariant_of-whole
@@ -15,9 +16,15 @@ invariant_of-whole g c =
     let back_child : IsChild (c.depth-height.result + 1) back.node.value = (omega (arith, h, r.cut.back_height), fed back.node.value (omega (arith, r.cut.back_len, c.requires.full, c.requires.back)) r.back_filled) in
     let front_fit : IsFit front.node.value = (omega (arith, r.cut.len, c.requires.front), omega (arith, r.cut.len, c.requires.back), r.filled) in
     let back_fit : IsFit back.node.value = (omega (arith, r.cut.back_len, c.requires.full, c.requires.back), omega (arith, r.cut.back_len, c.requires.full, c.requires.front), r.back_filled) in
-    let low : NoneBelow g.K.Ord.cmp front.least front.node.value.0 = none_below_front g.K.Ord.cmp g.met.K.Ord.total front.least front.node.value.0 back.node.value.0 (rw (← r.cut.entries) r.least) in
+    let low : NoneBelow g.K.Ord.cmp front.least front.node.value.entries = keys_front (λ y. g.K.Ord.cmp front.least y ≢ Greater) front.node.value.entries back.node.value.entries (rw (← r.cut.entries) r.least) in
     let two : vec_len c.insert_in_room-2.new.items ≡ 2 = omega (arith, c.insert_in_room-2.ensures.len, c.insert_in_room.ensures.len, c.in_ok-children.ensures.len) in
-    (omega (arith, two), omega (arith, two), rw (c.insert_in_room-2.ensures.items, c.insert_in_room.ensures.items, c.in_ok-children.ensures.items) (front_child, low, (r.cut.below, tt), (back_child, r.cut.not_below, tt, tt)), rw (c.insert_in_room-2.ensures.items, c.insert_in_room.ensures.items, c.in_ok-children.ensures.items) (front_fit, (back_fit, tt)), rw (c.insert_in_room-2.ensures.items, c.insert_in_room.ensures.items, c.in_ok-children.ensures.items) (c.count-count.ensures ∙ ap length (r.cut.entries ∙ rw append-nil refl)))
+    record {
+      some = omega (arith, two);
+      most = omega (arith, two);
+      children = rw (c.insert_in_room-2.ensures.items, c.insert_in_room.ensures.items, c.in_ok-children.ensures.items) (front_child, low, (r.cut.below, tt), (back_child, r.cut.not_below, tt, tt));
+      fit = rw (c.insert_in_room-2.ensures.items, c.insert_in_room.ensures.items, c.in_ok-children.ensures.items) (front_fit, (back_fit, tt));
+      count = rw (c.insert_in_room-2.ensures.items, c.insert_in_room.ensures.items, c.in_ok-children.ensures.items) (c.count-count.ensures ∙ ap length (r.cut.entries ∙ rw append-nil refl));
+    }
 
 pub returns : goal.returns
 returns g c =

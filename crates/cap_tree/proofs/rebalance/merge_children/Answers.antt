@@ -1,96 +1,85 @@
-use Rattle.std.proofs.Common.{◌≡◌, ◌+◌, ◌<◌, ◌≤◌, ◌++◌, length, take, drop, get_or, set, arith, refl, rules, ap, ◌∙◌}
-use Rattle.std.specs.List.{remove}
-use Rattle.cap_tree.specs.Shape.{IsChild, IsFit}
-use Rattle.cap_tree.proofs.HeightLemmas.{fed}
-use Rattle.cap_tree.proofs.PutLemmas.{child_is, child_fit}
-use Rattle.cap_tree.proofs.PairLemmas.{seam, front_read, back_read, removed_set, kept_pair, pair_has, below_pair, not_below_pair, count_pair, one_entries, one_children, one_fit, one_place, one_at}
+use Rattle.std.proofs.Common.{◌≡◌, ◌+◌, ◌<◌, ◌≤◌, ◌⊎◌, [], ◌∷◌, ◌++◌, length, take, drop, set, suc, arith, refl, sym, ap, subst, ◌∙◌}
+use Rattle.std.proofs.lemmas.List.{append-nil}
+use Rattle.cap_tree.specs.Subtree.{Branch}
+use Rattle.cap_tree.specs.Shape.{branches, place, AreChildren, IsFit}
+use Rattle.cap_tree.proofs.BranchLemmas.{gap_of_two, place_one}
+use Rattle.cap_tree.proofs.SiblingLemmas.{front_length, cut_two, cut_remove, cut_redo, child_is, child_fit, second_fit, neighbours, have_items, has_child, rearranged, one_instead}
 use Rattle.cap_tree.proofs.rebalance.merge_children.Goals as goal
 
 pub merge_pair-requires : goal.merge_pair-requires
 merge_pair-requires g c =
     let items = c.args.children.now.items in
     let at = c.args.at in
-    let fronts = c.split_at_mut-fronts.result.0.now in
-    let backs = c.split_at_mut-fronts.result.1.now in
     let within : at + 1 < length items = omega (arith, c.requires.within, c.args.children.now.ok.0) in
-    let fs : fronts ≡ take (at + 1) items = c.split_at_mut-fronts.ensures.front ∙ ap (λ l. take (at + 1) l) c.as_mut_slice.ensures.value in
-    let bs : backs ≡ drop (at + 1) items = c.split_at_mut-fronts.ensures.back ∙ ap (λ l. drop (at + 1) l) c.as_mut_slice.ensures.value in
-    let d = get_or fronts at c.index-fronts-at.result in
-    let e = get_or backs 0 c.index-backs-0.result in
-    let is_d : d ≡ get_or items at d = ap (λ z. get_or fronts at z) c.index-fronts-at.is ∙ ap (λ l. get_or l at d) fs ∙ front_read items at d in
-    let is_e : e ≡ get_or items (at + 1) e = ap (λ z. get_or backs 0 z) c.index-backs-0.is ∙ ap (λ l. get_or l 0 e) bs ∙ back_read items at e in
-    let shape_d = child_is g.K.Ord.cmp items at d (omega (arith, within)) is_d c.args.height c.requires.children in
-    let shape_e = child_is g.K.Ord.cmp items (at + 1) e within is_e c.args.height c.requires.children in
+    let left = c.remove-back.ensures.items in
+    let d = c.index_mut.result.now in
+    let e = c.remove-back.result in
+    let is_d = rw left at c.index_mut.ensures.value in
+    let front = branches (take at items) in
+    let back = branches (drop (suc (suc at)) items) in
+    let first = front_length items at (omega (arith, within)) in
+    let whole = cut_two items at d e within is_d c.remove-back.ensures.value in
     record {
-      level = omega (arith, shape_d.0, shape_e.0);
-      room = pair_has g.K.Ord.cmp g.met.K.Ord.total items at d e within is_d is_e (λ a b. a + b ≤ 16) c.requires.room;
-      fits = omega (arith, count_pair g.K.Ord.cmp g.met.K.Ord.total items at d e within is_d is_e, c.requires.fits);
-      below = below_pair g.K.Ord.cmp g.met.K.Ord.total items at d e within is_d is_e c.args.height c.requires.children;
-      not_below = not_below_pair g.K.Ord.cmp g.met.K.Ord.total items at d e within is_d is_e c.args.height c.requires.children;
+      pair = neighbours g.K.Ord.cmp _ front back (d.least, d.node.value) (e.least, e.node.value) whole c.args.height c.requires.siblings;
+      room = have_items g.K.Ord.cmp _ front back (d.least, d.node.value) (e.least, e.node.value) whole (λ a b. a + b ≤ 16) at first c.requires.room;
     }
 
-pub returns-in_err-merge_pair : goal.returns-in_err-merge_pair
-returns-in_err-merge_pair g c =
+pub returns-in-Err : goal.returns-in-Err
+returns-in-Err g c =
     let items = c.args.children.now.items in
     let at = c.args.at in
-    let fronts = c.split_at_mut-fronts.result.0.now in
-    let backs = c.split_at_mut-fronts.result.1.now in
     let within : at + 1 < length items = omega (arith, c.requires.within, c.args.children.now.ok.0) in
-    let fs : fronts ≡ take (at + 1) items = c.split_at_mut-fronts.ensures.front ∙ ap (λ l. take (at + 1) l) c.as_mut_slice.ensures.value in
-    let bs : backs ≡ drop (at + 1) items = c.split_at_mut-fronts.ensures.back ∙ ap (λ l. drop (at + 1) l) c.as_mut_slice.ensures.value in
-    let d = get_or fronts at c.index-fronts-at.result in
-    let e = get_or backs 0 c.index-backs-0.result in
-    let is_d : d ≡ get_or items at d = ap (λ z. get_or fronts at z) c.index-fronts-at.is ∙ ap (λ l. get_or l at d) fs ∙ front_read items at d in
-    let is_e : e ≡ get_or items (at + 1) e = ap (λ z. get_or backs 0 z) c.index-backs-0.is ∙ ap (λ l. get_or l 0 e) bs ∙ back_read items at e in
+    let left = c.remove-back.ensures.items in
+    let d = c.index_mut.result.now in
+    let e = c.remove-back.result in
+    let is_d = rw left at c.index_mut.ensures.value in
+    let front = branches (take at items) in
+    let back = branches (drop (suc (suc at)) items) in
+    let first = front_length items at (omega (arith, within)) in
+    let whole = cut_two items at d e within is_d c.remove-back.ensures.value in
     let x = c.merge_pair.new.front in
     let y = c.merge_pair.new.back in
-    let whole = seam items fronts backs c.args.children.now.len at x y c.args.children.now.ok.0 within fs bs in
-    let old = c.in_err-merge_pair.ensures in
-    let kept = kept_pair items at d e x y within is_d is_e old.least old.err old.back_least old.back_err in
+    let kept = c.in-Err.ensures in
+    let new = ap branches (c.insert_in_room.ensures.items ∙ rw left refl) ∙ cut_redo items at d x kept.least y within in
     record {
-      entries = rw (whole, kept) refl;
-      children = rw (whole, kept) c.requires.children;
-      fit = rw (whole, kept) c.requires.fit;
-      err = search rules;
-      len = search rules;
-      place = search rules;
-      spare = search rules;
+      same = rearranged g.K.Ord.cmp c.args.height _ _ (new ∙ rw (kept.err, kept.back_err, kept.back_least) (sym whole)) c.requires.siblings;
+      not_more = omega (arith, c.insert_in_room.ensures.len, c.remove-back.ensures.len);
+      one_less = omega (arith, c.insert_in_room.ensures.len, c.remove-back.ensures.len);
+      within = tt;
+      place = tt;
+      spare = tt;
     }
 
-pub returns : goal.returns
-returns g c =
+pub returns-in-Ok : goal.returns-in-Ok
+returns-in-Ok g c =
     let items = c.args.children.now.items in
     let at = c.args.at in
-    let fronts = c.split_at_mut-fronts.result.0.now in
-    let backs = c.split_at_mut-fronts.result.1.now in
     let within : at + 1 < length items = omega (arith, c.requires.within, c.args.children.now.ok.0) in
-    let fs : fronts ≡ take (at + 1) items = c.split_at_mut-fronts.ensures.front ∙ ap (λ l. take (at + 1) l) c.as_mut_slice.ensures.value in
-    let bs : backs ≡ drop (at + 1) items = c.split_at_mut-fronts.ensures.back ∙ ap (λ l. drop (at + 1) l) c.as_mut_slice.ensures.value in
-    let d = get_or fronts at c.index-fronts-at.result in
-    let e = get_or backs 0 c.index-backs-0.result in
-    let is_d : d ≡ get_or items at d = ap (λ z. get_or fronts at z) c.index-fronts-at.is ∙ ap (λ l. get_or l at d) fs ∙ front_read items at d in
-    let is_e : e ≡ get_or items (at + 1) e = ap (λ z. get_or backs 0 z) c.index-backs-0.is ∙ ap (λ l. get_or l 0 e) bs ∙ back_read items at e in
-    let shape_d = child_is g.K.Ord.cmp items at d (omega (arith, within)) is_d c.args.height c.requires.children in
-    let shape_e = child_is g.K.Ord.cmp items (at + 1) e within is_e c.args.height c.requires.children in
+    let left = c.remove-back.ensures.items in
+    let d = c.index_mut.result.now in
+    let e = c.remove-back.result in
+    let is_d = rw left at c.index_mut.ensures.value in
+    let front = branches (take at items) in
+    let back = branches (drop (suc (suc at)) items) in
+    let first = front_length items at (omega (arith, within)) in
+    let whole = cut_two items at d e within is_d c.remove-back.ensures.value in
     let x = c.merge_pair.new.front in
-    let y = c.merge_pair.new.back in
-    let whole = seam items fronts backs c.args.children.now.len at x y c.args.children.now.ok.0 within fs bs in
-    let n = c.in_ok-merge_pair.ensures in
-    let most = pair_has g.K.Ord.cmp g.met.K.Ord.total items at d e within is_d is_e (λ a b. a + b ≤ 16) c.requires.room in
-    let own_d = child_fit g.K.Ord.cmp items at d (omega (arith, within)) is_d c.requires.fit in
-    let own_e = child_fit g.K.Ord.cmp items (at + 1) e within is_e c.requires.fit in
-    let items_x : x.node.value.2 ≡ d.node.value.2 + e.node.value.2 = ap (λ q. q.2) n.whole in
-    let entries_x : x.node.value.0 ≡ d.node.value.0 ++ e.node.value.0 = ap (λ q. q.0) n.whole in
-    let height_x : x.node.value.1 ≡ d.node.value.1 = ap (λ q. q.1) n.whole in
-    let fit_x : IsFit x.node.value = (omega (arith, items_x, own_d.0), omega (arith, items_x, most), n.filled) in
-    let child_x : IsChild c.args.height x.node.value = (omega (arith, shape_d.0, height_x), fed x.node.value (omega (arith, fit_x.0)) fit_x.2) in
-    let left = c.remove-emptied.ensures.items ∙ ap (λ l. remove l (at + 1)) whole ∙ removed_set (set items at x) at y in
+    let n = c.in-Ok.ensures in
+    let p : Branch _ _ = (d.least, d.node.value) in
+    let q : Branch _ _ = (e.least, e.node.value) in
+    let room = have_items g.K.Ord.cmp _ front back p q whole (λ a b. a + b ≤ 16) at first c.requires.room in
+    let own_d = child_fit g.K.Ord.cmp _ front _ p whole c.requires.siblings.fit in
+    let own_e = second_fit g.K.Ord.cmp _ front back p q whole c.requires.siblings.fit in
+    let level = (child_is g.K.Ord.cmp _ front _ p whole c.args.height c.requires.siblings.children).0 in
+    let items_x : x.node.value.items ≡ d.node.value.items + e.node.value.items = ap (λ m. m.items) n.whole in
+    let fit_x : IsFit x.node.value = (omega (arith, items_x, own_d.0), omega (arith, items_x, room), n.filled) in
+    let new = ap (λ l. branches (set l at x)) left ∙ cut_remove items at d x n.least within in
+    let gap = gap_of_two g.K.Ord.cmp g.met.K.Ord.total c.args.key.now c.args.height front p q back at (subst (AreChildren g.K.Ord.cmp c.args.height) whole c.requires.siblings.children) (subst (λ l. (place g.K.Ord.cmp c.args.key.now l ≡ at + 1) ⊎ (place g.K.Ord.cmp c.args.key.now l ≡ at + 2)) whole c.requires.place) first in
     record {
-      entries = rw left (one_entries g.K.Ord.cmp g.met.K.Ord.total items at d e within is_d is_e c.args.height x n.least child_x entries_x);
-      children = rw left (one_children g.K.Ord.cmp g.met.K.Ord.total items at d e within is_d is_e c.args.height x n.least child_x entries_x c.requires.children);
-      fit = rw left (one_fit g.K.Ord.cmp g.met.K.Ord.total items at d e within is_d is_e c.args.height x n.least child_x entries_x c.requires.fit fit_x);
-      err = search rules;
-      len = search rules;
-      place = λ k belongs. rw left (one_place g.K.Ord.cmp g.met.K.Ord.total items at d e within is_d is_e c.args.height x n.least child_x entries_x k c.requires.children belongs);
-      spare = λ f. rw (left, one_at g.K.Ord.cmp g.met.K.Ord.total items at d e within is_d is_e c.args.height x n.least child_x entries_x f) (omega (arith, items_x, own_d.0, own_e.0));
+      same = one_instead g.K.Ord.cmp g.met.K.Ord.total c.args.height _ front p (q ∷ []) back whole c.requires.siblings x.node.value _ new (ap (λ m. m.height + 1) n.whole ∙ level) (ap (λ m. m.entries) n.whole ∙ ap (λ l. d.node.value.entries ++ l) (sym (append-nil e.node.value.entries))) fit_x;
+      not_more = omega (arith, c.remove-back.ensures.len);
+      one_less = omega (arith, c.remove-back.ensures.len);
+      within = omega (arith, c.remove-back.ensures.len, c.requires.within);
+      place = rw new (place_one g.K.Ord.cmp g.met.K.Ord.total c.args.key.now front d.least back gap x.node.value ∙ omega (arith, first));
+      spare = has_child g.K.Ord.cmp _ front back (d.least, x.node.value) new (λ m. 4 < m) at first (omega (arith, items_x, own_d.0, own_e.0));
     }

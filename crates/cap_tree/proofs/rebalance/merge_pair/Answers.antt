@@ -1,6 +1,12 @@
 use Rattle.std.proofs.Common.{refl}
-use Rattle.cap_tree.proofs.PutLemmas.{either_way}
+use Rattle.cap_tree.proofs.ChangeLemmas.{either_way}
 use Rattle.cap_tree.proofs.rebalance.merge_pair.Goals as goal
+
+pub merge-requires : goal.merge-requires
+merge-requires g c =
+    let front = either_way c.in_ok-node.ensures.value in
+    let back = either_way c.in_ok-behind.ensures.value in
+    rw (front, back) (record { pair = c.requires.pair; room = c.requires.room })
 
 pub returns : goal.returns
 returns g c =

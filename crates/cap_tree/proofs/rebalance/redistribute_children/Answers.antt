@@ -1,131 +1,91 @@
-use Rattle.std.proofs.Common.{◌≡◌, ◌≢◌, ◌+◌, ◌<◌, ◌≤◌, length, take, drop, get_or, arith, refl, rules, sym, ap, ◌∙◌}
-use Rattle.cap_tree.specs.Shape.{IsFit}
-use Rattle.cap_tree.proofs.PlaceLemmas.{is_not_less}
-use Rattle.cap_tree.proofs.PutLemmas.{child_is}
-use Rattle.cap_tree.proofs.PairLemmas.{seam, front_read, back_read, second_read, kept_pair, pair_has, below_pair, not_below_pair, ordered_pair, count_pair, anew_entries, anew_children, anew_fit, anew_place_first, anew_place_second, anew_first, anew_second}
+use Rattle.std.proofs.Common.{◌≡◌, ◌+◌, ◌<◌, ◌⊎◌, [], ◌∷◌, ◌++◌, length, take, drop, suc, arith, rules, refl, sym, ap, subst, ◌∙◌}
+use Rattle.std.proofs.lemmas.List.{append-nil}
+use Rattle.cap_tree.specs.Subtree.{Branch}
+use Rattle.cap_tree.specs.Shape.{branches, place, AreChildren, IsFit}
+use Rattle.cap_tree.specs.Cut.{IsShare, merged}
+use Rattle.cap_tree.proofs.BranchLemmas.{gap_of_two}
+use Rattle.cap_tree.proofs.ChangeLemmas.{at_err, at_ok}
+use Rattle.cap_tree.proofs.SiblingLemmas.{front_length, cut_two, cut_redo, child_is, neighbours, have_items, rearranged, two_instead, two_place, two_items}
 use Rattle.cap_tree.proofs.rebalance.redistribute_children.Goals as goal
 
-pub redistribute_pair-requires : goal.redistribute_pair-requires
-redistribute_pair-requires g c =
+pub redistribute_pair-shared-requires : goal.redistribute_pair-shared-requires
+redistribute_pair-shared-requires g c =
     let items = c.args.children.now.items in
     let at = c.args.at in
-    let fronts = c.split_at_mut-fronts.result.0.now in
-    let backs = c.split_at_mut-fronts.result.1.now in
     let within : at + 1 < length items = omega (arith, c.requires.within, c.args.children.now.ok.0) in
-    let fs : fronts ≡ take (at + 1) items = c.split_at_mut-fronts.ensures.front ∙ ap (λ l. take (at + 1) l) c.as_mut_slice.ensures.value in
-    let bs : backs ≡ drop (at + 1) items = c.split_at_mut-fronts.ensures.back ∙ ap (λ l. drop (at + 1) l) c.as_mut_slice.ensures.value in
-    let d = get_or fronts at c.index-fronts-at.result in
-    let e = get_or backs 0 c.index-backs-0.result in
-    let is_d : d ≡ get_or items at d = ap (λ z. get_or fronts at z) c.index-fronts-at.is ∙ ap (λ l. get_or l at d) fs ∙ front_read items at d in
-    let is_e : e ≡ get_or items (at + 1) e = ap (λ z. get_or backs 0 z) c.index-backs-0.is ∙ ap (λ l. get_or l 0 e) bs ∙ back_read items at e in
-    let shape_d = child_is g.K.Ord.cmp items at d (omega (arith, within)) is_d c.args.height c.requires.children in
-    let shape_e = child_is g.K.Ord.cmp items (at + 1) e within is_e c.args.height c.requires.children in
-    let two = pair_has g.K.Ord.cmp g.met.K.Ord.total items at d e within is_d is_e (λ a b. c.args.cut + 4 < a + b) c.requires.back in
+    let left = c.remove-back.ensures.items in
+    let d = c.index_mut.result.now in
+    let e = c.remove-back.result in
+    let is_d = rw left at c.index_mut.ensures.value in
+    let front = branches (take at items) in
+    let back = branches (drop (suc (suc at)) items) in
+    let first = front_length items at (omega (arith, within)) in
+    let whole = cut_two items at d e within is_d c.remove-back.ensures.value in
     record {
-      level = omega (arith, shape_d.0, shape_e.0);
-      some = omega (arith, c.requires.front);
-      most = c.requires.most;
-      back_most = pair_has g.K.Ord.cmp g.met.K.Ord.total items at d e within is_d is_e (λ a b. a + b ≤ c.args.cut + 16) c.requires.back_most;
-      within = omega (arith, two);
-      uneven = pair_has g.K.Ord.cmp g.met.K.Ord.total items at d e within is_d is_e (λ a b. c.args.cut ≢ a) c.requires.uneven;
-      fits = omega (arith, count_pair g.K.Ord.cmp g.met.K.Ord.total items at d e within is_d is_e, c.requires.fits);
-      ordered = ordered_pair g.K.Ord.cmp g.met.K.Ord.total items at d e within is_d is_e c.requires.ordered;
-      below = below_pair g.K.Ord.cmp g.met.K.Ord.total items at d e within is_d is_e c.args.height c.requires.children;
-      not_below = not_below_pair g.K.Ord.cmp g.met.K.Ord.total items at d e within is_d is_e c.args.height c.requires.children;
+      pair = neighbours g.K.Ord.cmp _ front back (d.least, d.node.value) (e.least, e.node.value) whole c.args.height c.requires.siblings;
+      share = have_items g.K.Ord.cmp _ front back (d.least, d.node.value) (e.least, e.node.value) whole (λ a b. IsShare c.args.cut (a + b)) at first c.requires.share;
     }
 
-pub returns-in_err-redistribute_pair : goal.returns-in_err-redistribute_pair
-returns-in_err-redistribute_pair g c =
+pub returns-in_err-shared : goal.returns-in_err-shared
+returns-in_err-shared g c =
     let items = c.args.children.now.items in
     let at = c.args.at in
-    let fronts = c.split_at_mut-fronts.result.0.now in
-    let backs = c.split_at_mut-fronts.result.1.now in
     let within : at + 1 < length items = omega (arith, c.requires.within, c.args.children.now.ok.0) in
-    let fs : fronts ≡ take (at + 1) items = c.split_at_mut-fronts.ensures.front ∙ ap (λ l. take (at + 1) l) c.as_mut_slice.ensures.value in
-    let bs : backs ≡ drop (at + 1) items = c.split_at_mut-fronts.ensures.back ∙ ap (λ l. drop (at + 1) l) c.as_mut_slice.ensures.value in
-    let d = get_or fronts at c.index-fronts-at.result in
-    let e = get_or backs 0 c.index-backs-0.result in
-    let is_d : d ≡ get_or items at d = ap (λ z. get_or fronts at z) c.index-fronts-at.is ∙ ap (λ l. get_or l at d) fs ∙ front_read items at d in
-    let is_e : e ≡ get_or items (at + 1) e = ap (λ z. get_or backs 0 z) c.index-backs-0.is ∙ ap (λ l. get_or l 0 e) bs ∙ back_read items at e in
-    let x = c.redistribute_pair.new.front in
-    let y = c.redistribute_pair.new.back in
-    let whole = seam items fronts backs c.args.children.now.len at x y c.args.children.now.ok.0 within fs bs in
-    let old = c.in_err-redistribute_pair.ensures in
-    let kept = kept_pair items at d e x y within is_d is_e old.least old.err old.back_least old.back_err in
+    let left = c.remove-back.ensures.items in
+    let d = c.index_mut.result.now in
+    let e = c.remove-back.result in
+    let is_d = rw left at c.index_mut.ensures.value in
+    let front = branches (take at items) in
+    let back = branches (drop (suc (suc at)) items) in
+    let first = front_length items at (omega (arith, within)) in
+    let whole = cut_two items at d e within is_d c.remove-back.ensures.value in
+    let x = c.redistribute_pair-shared.new.front in
+    let y = c.redistribute_pair-shared.new.back in
+    let n = c.redistribute_pair-shared.ensures in
+    let r = c.redistribute_pair-shared.result in
+    let was = c.in_err-shared.was in
+    let new = ap branches (c.insert_in_room.ensures.items ∙ rw left refl) ∙ cut_redo items at d x n.least y within in
     record {
-      entries = rw (whole, kept) refl;
-      children = rw (whole, kept) c.requires.children;
-      fit = rw (whole, kept) c.requires.fit;
-      len = search rules;
+      same = rearranged g.K.Ord.cmp c.args.height _ _ (new ∙ rw (at_err r _ was n.err, at_err r _ was n.back_err, at_err r _ was n.back_least) (sym whole)) c.requires.siblings;
+      len = omega (arith, c.insert_in_room.ensures.len, c.remove-back.ensures.len);
       within = search rules;
       place = search rules;
       spare = search rules;
     }
 
-pub returns-in-Less : goal.returns-in-Less
-returns-in-Less g c =
+pub returns : goal.returns
+returns g c =
     let items = c.args.children.now.items in
     let at = c.args.at in
-    let fronts = c.split_at_mut-fronts.result.0.now in
-    let backs = c.split_at_mut-fronts.result.1.now in
     let within : at + 1 < length items = omega (arith, c.requires.within, c.args.children.now.ok.0) in
-    let fs : fronts ≡ take (at + 1) items = c.split_at_mut-fronts.ensures.front ∙ ap (λ l. take (at + 1) l) c.as_mut_slice.ensures.value in
-    let bs : backs ≡ drop (at + 1) items = c.split_at_mut-fronts.ensures.back ∙ ap (λ l. drop (at + 1) l) c.as_mut_slice.ensures.value in
-    let d = get_or fronts at c.index-fronts-at.result in
-    let e = get_or backs 0 c.index-backs-0.result in
-    let is_d : d ≡ get_or items at d = ap (λ z. get_or fronts at z) c.index-fronts-at.is ∙ ap (λ l. get_or l at d) fs ∙ front_read items at d in
-    let is_e : e ≡ get_or items (at + 1) e = ap (λ z. get_or backs 0 z) c.index-backs-0.is ∙ ap (λ l. get_or l 0 e) bs ∙ back_read items at e in
-    let x = c.redistribute_pair.new.front in
-    let y = c.redistribute_pair.new.back in
-    let whole = seam items fronts backs c.args.children.now.len at x y c.args.children.now.ok.0 within fs bs in
-    let n = c.in_ok-redistribute_pair.ensures in
-    let two = pair_has g.K.Ord.cmp g.met.K.Ord.total items at d e within is_d is_e (λ a b. c.args.cut + 4 < a + b) c.requires.back in
-    let most = pair_has g.K.Ord.cmp g.met.K.Ord.total items at d e within is_d is_e (λ a b. a + b ≤ c.args.cut + 16) c.requires.back_most in
-    let fit_x : IsFit x.node.value = (omega (arith, n.cut.len, c.requires.front), omega (arith, n.cut.len, c.requires.most), n.filled) in
-    let fit_y : IsFit y.node.value = (omega (arith, n.cut.back_len, two), omega (arith, n.cut.back_len, most), n.back_filled) in
-    let r = c.index.result.now in
-    let y_is : r ≡ y = c.index.ensures ∙ ap (λ l. get_or l (at + 1) r) whole ∙ second_read items at x y r within in
-    let answer : g.K.Ord.cmp c.args.key.now y.least ≡ c.cmp.result = rw (← y_is) (sym c.cmp.ensures) in
+    let left = c.remove-back.ensures.items in
+    let d = c.index_mut.result.now in
+    let e = c.remove-back.result in
+    let is_d = rw left at c.index_mut.ensures.value in
+    let front = branches (take at items) in
+    let back = branches (drop (suc (suc at)) items) in
+    let first = front_length items at (omega (arith, within)) in
+    let whole = cut_two items at d e within is_d c.remove-back.ensures.value in
+    let x = c.redistribute_pair-shared.new.front in
+    let y = c.redistribute_pair-shared.new.back in
+    let n = c.redistribute_pair-shared.ensures in
+    let r = c.redistribute_pair-shared.result in
+    let was = c.in_ok-shared.was in
+    let cut = at_ok r _ was n.cut in
+    let p : Branch _ _ = (d.least, d.node.value) in
+    let q : Branch _ _ = (e.least, e.node.value) in
+    let two = have_items g.K.Ord.cmp _ front back p q whole (λ a b. c.args.cut + 4 < a + b) at first c.requires.back in
+    let share = have_items g.K.Ord.cmp _ front back p q whole (λ a b. IsShare c.args.cut (a + b)) at first c.requires.share in
+    let level = (child_is g.K.Ord.cmp _ front _ p whole c.args.height c.requires.siblings.children).0 in
+    let fit_x : IsFit x.node.value = (omega (arith, cut.len, c.requires.front), omega (arith, cut.len, share.most), at_ok r _ was n.filled) in
+    let fit_y : IsFit y.node.value = (omega (arith, cut.back_len, two), omega (arith, cut.back_len, share.back_most), at_ok r _ was n.back_filled) in
+    let new = ap branches (c.insert_in_room.ensures.items ∙ rw left refl) ∙ cut_redo items at d x n.least y within in
+    let gap = gap_of_two g.K.Ord.cmp g.met.K.Ord.total c.args.key.now c.args.height front p q back at (subst (AreChildren g.K.Ord.cmp c.args.height) whole c.requires.siblings.children) (subst (λ l. (place g.K.Ord.cmp c.args.key.now l ≡ at + 1) ⊎ (place g.K.Ord.cmp c.args.key.now l ≡ at + 2)) whole c.requires.place) first in
+    let same = ap (λ l. d.node.value.entries ++ l) (sym (append-nil e.node.value.entries)) in
     record {
-      entries = rw whole (anew_entries g.K.Ord.cmp g.met.K.Ord.total items at d e within is_d is_e c.args.height c.args.cut x y n.least n.cut fit_x fit_y c.requires.children);
-      children = rw whole (anew_children g.K.Ord.cmp g.met.K.Ord.total items at d e within is_d is_e c.args.height c.args.cut x y n.least n.cut fit_x fit_y c.requires.children);
-      fit = rw whole (anew_fit g.K.Ord.cmp g.met.K.Ord.total items at d e within is_d is_e c.args.height c.args.cut x y n.least n.cut fit_x fit_y c.requires.children c.requires.fit);
-      len = refl;
-      within = omega (arith, c.requires.within);
-      place = rw whole (anew_place_first g.K.Ord.cmp g.met.K.Ord.total items at d e within is_d is_e c.args.height c.args.cut x y n.least n.cut fit_x fit_y c.requires.children c.args.key.now c.requires.place (answer ∙ c.in-Less.is));
-      spare = λ f. rw (whole, anew_first g.K.Ord.cmp g.met.K.Ord.total items at d e within is_d is_e c.args.height c.args.cut x y n.least n.cut fit_x fit_y c.requires.children f) (omega (arith, n.cut.len, c.requires.front));
-    }
-
-pub returns-in-Equal : goal.returns-in-Equal
-returns-in-Equal g c =
-    let items = c.args.children.now.items in
-    let at = c.args.at in
-    let fronts = c.split_at_mut-fronts.result.0.now in
-    let backs = c.split_at_mut-fronts.result.1.now in
-    let within : at + 1 < length items = omega (arith, c.requires.within, c.args.children.now.ok.0) in
-    let fs : fronts ≡ take (at + 1) items = c.split_at_mut-fronts.ensures.front ∙ ap (λ l. take (at + 1) l) c.as_mut_slice.ensures.value in
-    let bs : backs ≡ drop (at + 1) items = c.split_at_mut-fronts.ensures.back ∙ ap (λ l. drop (at + 1) l) c.as_mut_slice.ensures.value in
-    let d = get_or fronts at c.index-fronts-at.result in
-    let e = get_or backs 0 c.index-backs-0.result in
-    let is_d : d ≡ get_or items at d = ap (λ z. get_or fronts at z) c.index-fronts-at.is ∙ ap (λ l. get_or l at d) fs ∙ front_read items at d in
-    let is_e : e ≡ get_or items (at + 1) e = ap (λ z. get_or backs 0 z) c.index-backs-0.is ∙ ap (λ l. get_or l 0 e) bs ∙ back_read items at e in
-    let x = c.redistribute_pair.new.front in
-    let y = c.redistribute_pair.new.back in
-    let whole = seam items fronts backs c.args.children.now.len at x y c.args.children.now.ok.0 within fs bs in
-    let n = c.in_ok-redistribute_pair.ensures in
-    let two = pair_has g.K.Ord.cmp g.met.K.Ord.total items at d e within is_d is_e (λ a b. c.args.cut + 4 < a + b) c.requires.back in
-    let most = pair_has g.K.Ord.cmp g.met.K.Ord.total items at d e within is_d is_e (λ a b. a + b ≤ c.args.cut + 16) c.requires.back_most in
-    let fit_x : IsFit x.node.value = (omega (arith, n.cut.len, c.requires.front), omega (arith, n.cut.len, c.requires.most), n.filled) in
-    let fit_y : IsFit y.node.value = (omega (arith, n.cut.back_len, two), omega (arith, n.cut.back_len, most), n.back_filled) in
-    let r = c.index.result.now in
-    let y_is : r ≡ y = c.index.ensures ∙ ap (λ l. get_or l (at + 1) r) whole ∙ second_read items at x y r within in
-    let answer : g.K.Ord.cmp c.args.key.now y.least ≡ c.cmp.result = rw (← y_is) (sym c.cmp.ensures) in
-    record {
-      entries = rw whole (anew_entries g.K.Ord.cmp g.met.K.Ord.total items at d e within is_d is_e c.args.height c.args.cut x y n.least n.cut fit_x fit_y c.requires.children);
-      children = rw whole (anew_children g.K.Ord.cmp g.met.K.Ord.total items at d e within is_d is_e c.args.height c.args.cut x y n.least n.cut fit_x fit_y c.requires.children);
-      fit = rw whole (anew_fit g.K.Ord.cmp g.met.K.Ord.total items at d e within is_d is_e c.args.height c.args.cut x y n.least n.cut fit_x fit_y c.requires.children c.requires.fit);
-      len = refl;
-      within = c.requires.within;
-      place = rw whole (anew_place_second g.K.Ord.cmp g.met.K.Ord.total items at d e within is_d is_e c.args.height c.args.cut x y n.least n.cut fit_x fit_y c.requires.children c.args.key.now c.requires.place (rw answer (is_not_less c.cmp.result c.in-Equal.is)));
-      spare = λ f. rw (whole, anew_second g.K.Ord.cmp g.met.K.Ord.total items at d e within is_d is_e c.args.height c.args.cut x y n.least n.cut fit_x fit_y c.requires.children f) (omega (arith, n.cut.back_len, two));
+      same = two_instead g.K.Ord.cmp g.met.K.Ord.total c.args.height _ front p (q ∷ []) back whole c.requires.siblings c.args.cut (merged d.node.value e.node.value) x.node.value y.node.value y.least cut level same fit_x fit_y _ new;
+      len = omega (arith, c.insert_in_room.ensures.len, c.remove-back.ensures.len);
+      within = omega (arith, c.insert_in_room.ensures.len, c.remove-back.ensures.len, c.requires.within, c.side_of-side.ensures.either);
+      place = two_place g.K.Ord.cmp g.met.K.Ord.total c.args.height _ front p (q ∷ []) back whole c.requires.siblings c.args.cut (merged d.node.value e.node.value) x.node.value y.node.value y.least cut level same fit_x fit_y _ new at c.side_of-side.result first c.args.key.now gap c.side_of-side.ensures.less c.side_of-side.ensures.not_less;
+      spare = two_items g.K.Ord.cmp g.met.K.Ord.total c.args.height _ front p (q ∷ []) back whole c.requires.siblings c.args.cut (merged d.node.value e.node.value) x.node.value y.node.value y.least cut level same fit_x fit_y _ new at c.side_of-side.result first (λ m. 4 < m) c.side_of-side.ensures.either (omega (arith, cut.len, c.requires.front)) (omega (arith, cut.back_len, two));
     }

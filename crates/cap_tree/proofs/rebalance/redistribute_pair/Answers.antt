@@ -1,24 +1,12 @@
 use Rattle.std.proofs.Common.{refl}
-use Rattle.cap_tree.proofs.PutLemmas.{either_way}
+use Rattle.cap_tree.proofs.ChangeLemmas.{either_way}
 use Rattle.cap_tree.proofs.rebalance.redistribute_pair.Goals as goal
 
 pub redistribute-requires : goal.redistribute-requires
 redistribute-requires g c =
     let front = either_way c.in_ok-node.ensures.value in
     let back = either_way c.in_ok-behind.ensures.value in
-    let r = c.requires in
-    rw (front, back) (record {
-      level = r.level;
-      some = r.some;
-      most = r.most;
-      back_most = r.back_most;
-      within = r.within;
-      uneven = r.uneven;
-      fits = r.fits;
-      ordered = r.ordered;
-      below = r.below;
-      not_below = r.not_below;
-    })
+    rw (front, back) (record { pair = c.requires.pair; share = c.requires.share })
 
 pub returns : goal.returns
 returns g c =

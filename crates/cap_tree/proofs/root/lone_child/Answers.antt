@@ -5,7 +5,7 @@ use Rattle.cap_tree.proofs.root.lone_child.Goals as goal
 pub returns-then-len-gt1 : goal.returns-then-len-gt1
 returns-then-len-gt1 g c =
     let view = rw c.in-Inner.is at c.node.view_is in
-    record { none = view; two = λ _. omega (arith, c.if-len-gt1.true, c.len.ensures); subtree = tt; child_two = tt }
+    record { none = view; top = λ _. omega (arith, c.if-len-gt1.true, c.len.ensures); subtree = tt; child_top = tt }
 
 pub returns-in-Inner : goal.returns-in-Inner
 returns-in-Inner g c =
@@ -14,10 +14,10 @@ returns-in-Inner g c =
     let is = c.in-Some.ensures.items in
     let few : length c.in-Inner.children.items ≤ 1 = omega (arith, c.if-len-gt1.false, c.len.ensures, c.in-Inner.children.ok.0) in
     let entries = only_entries c.in-Inner.children.items c.pop.new.self.items c.in-Some.only is few in
-    let fit : 4 ≤ c.in-Some.only.node.value.2 = only_fit c.in-Inner.children.items c.pop.new.self.items c.in-Some.only is few n.3 in
+    let fit : 4 ≤ c.in-Some.only.node.value.items = only_fit c.in-Inner.children.items c.pop.new.self.items c.in-Some.only is few n.fit in
     record {
       none = tt;
-      two = tt;
-      subtree = ap (λ n. n.0) c.node_of.ensures ∙ entries ∙ ap (λ n. n.0) view;
-      child_two = λ _. omega (arith, ap (λ n. n.2) c.node_of.ensures, fit);
+      top = tt;
+      subtree = ap (λ n. n.entries) c.node_of.ensures ∙ entries ∙ ap (λ n. n.entries) view;
+      child_top = λ _. omega (arith, ap (λ n. n.items) c.node_of.ensures, fit);
     }

@@ -1,5 +1,5 @@
 use Rattle.std.proofs.Common.{refl}
-use Rattle.cap_tree.proofs.PutLemmas.{either_way}
+use Rattle.cap_tree.proofs.ChangeLemmas.{either_way}
 use Rattle.cap_tree.proofs.split.split_sibling.Goals as goal
 
 pub returns : goal.returns

@@ -7,6 +7,7 @@ use Rattle.cap_database.specs.Keyed.{GoesBack, IsOwnRow}
 use Rattle.cap_database.specs.Read.{row_at}
 use Rattle.cap_database.specs.Tables.{Tables, table_of}
 use Rattle.cap_changes.specs.declared.patch.Patch.TheVariants as patched
+use Rattle.cap_changes.proofs.FitLemmas.{full_keyed}
 use Rattle.cap_apply.specs.Apply.{change_applied}
 use Rattle.cap_apply.specs.Requested.{Requested}
 use Rattle.cap_apply.specs.Policy.{is_made}
@@ -15,13 +16,16 @@ use Rattle.cap_apply.specs.Steps.{placed}
 use Rattle.cap_apply.specs.declared.conflict.ConflictKind.TheVariants.{Conflict}
 use Rattle.cap_apply.proofs.ChangeLemmas.{change_refused, has_target, judged_err}
 use Rattle.cap_apply.proofs.MadeLemmas.{insert_found, insert_free, insert_left, insert_over, insert_own, judged_database}
-use Rattle.cap_apply.proofs.RowLemmas.{full_keyed, is_key-key_values}
+use Rattle.cap_apply.proofs.RowLemmas.{is_key-key_values}
 use Rattle.cap_apply.proofs.applied.Applied.insert.Goals as goal
+
+pub new_row-requires : goal.new_row-requires
+new_row-requires g c = rw c.flags.ensures.flags c.requires.fits
 
 pub key_of_fields-requires : goal.key_of_fields-requires
 key_of_fields-requires g c =
     let flags = c.args.columns.now in
-    ap (λ f. is_key (key_values f c.args.new.now)) c.flags.ensures.flags
+    ap (λ f. is_key (key_values f c.args.new.now)) c.flags-2.ensures.flags
     ∙ is_key-key_values flags c.args.new.now c.requires.keyed (full_keyed flags c.args.new.now c.requires.fits)
 
 pub put-requires-clause-there : goal.put-requires-clause-there
@@ -39,9 +43,9 @@ put-requires-clause-own g c =
     let there : table_of c.database.result.now name ≡ Some h.table = ap (λ (d : Tables g.row.A.Denot). table_of d name) c.database.ensures ∙ h.there in
     let fits = full_keyed flags new c.requires.fits in
     let row = c.in_ok-row.row in
-    let row_is : row ≡ new_row (length h.table.schema) new = c.in_ok-row.ensures ∙ ap (λ n. new_row n new) (c.width_of.ensures h.table there) in
+    let row_is : row ≡ new_row (length h.table.schema) new = c.in_ok-row.ensures ∙ ap (λ n. new_row n new) (c.width_of-width.ensures h.table there) in
     let key = c.in_ok-key.key in
-    let key_is : key ≡ key_values flags new = c.in_ok-key.ensures ∙ ap (λ f. key_values f new) c.flags.ensures.flags in
+    let key_is : key ≡ key_values flags new = c.in_ok-key.ensures ∙ ap (λ f. key_values f new) c.flags-2.ensures.flags in
     insert_own policy number name flags state h c.requires.keyed true new fits c.in_ok-copy.field-0 row (c.in_ok-copy.ensures ∙ key_is) row_is
 
 pub returns-in_default : goal.returns-in_default
@@ -56,9 +60,9 @@ returns-in_default g c =
     let there : table_of c.database.result.now name ≡ Some h.table = ap (λ (d : Tables g.row.A.Denot). table_of d name) c.database.ensures ∙ h.there in
     let fits = full_keyed flags new c.requires.fits in
     let row = c.in_ok-row.row in
-    let row_is : row ≡ new_row (length h.table.schema) new = c.in_ok-row.ensures ∙ ap (λ n. new_row n new) (c.width_of.ensures h.table there) in
+    let row_is : row ≡ new_row (length h.table.schema) new = c.in_ok-row.ensures ∙ ap (λ n. new_row n new) (c.width_of-width.ensures h.table there) in
     let key = c.in_ok-key.key in
-    let key_is : key ≡ key_values flags new = c.in_ok-key.ensures ∙ ap (λ f. key_values f new) c.flags.ensures.flags in
+    let key_is : key ≡ key_values flags new = c.in_ok-key.ensures ∙ ap (λ f. key_values f new) c.flags-2.ensures.flags in
     let copy_is : c.in_ok-copy.field-0 ≡ key = c.in_ok-copy.ensures in
     let put_is = c.in_ok-taken.ensures.state ∙ ap (λ (k : Fields g.row.A.Denot). placed name k (Some row) state) copy_is in
     let none = sym c.in_default.is ∙ c.in_ok-taken.ensures.before ∙ ap (row_at state.database name) copy_is in
@@ -77,9 +81,9 @@ returns-in_err-judge g c =
     let there : table_of c.database.result.now name ≡ Some h.table = ap (λ (d : Tables g.row.A.Denot). table_of d name) c.database.ensures ∙ h.there in
     let fits = full_keyed flags new c.requires.fits in
     let row = c.in_ok-row.row in
-    let row_is : row ≡ new_row (length h.table.schema) new = c.in_ok-row.ensures ∙ ap (λ n. new_row n new) (c.width_of.ensures h.table there) in
+    let row_is : row ≡ new_row (length h.table.schema) new = c.in_ok-row.ensures ∙ ap (λ n. new_row n new) (c.width_of-width.ensures h.table there) in
     let key = c.in_ok-key.key in
-    let key_is : key ≡ key_values flags new = c.in_ok-key.ensures ∙ ap (λ f. key_values f new) c.flags.ensures.flags in
+    let key_is : key ≡ key_values flags new = c.in_ok-key.ensures ∙ ap (λ f. key_values f new) c.flags-2.ensures.flags in
     let copy_is : c.in_ok-copy.field-0 ≡ key = c.in_ok-copy.ensures in
     let put_is = c.in_ok-taken.ensures.state ∙ ap (λ (k : Fields g.row.A.Denot). placed name k (Some row) state) copy_is in
     let at = sym c.in-Some.is ∙ c.in_ok-taken.ensures.before ∙ ap (row_at state.database name) copy_is in
@@ -103,9 +107,9 @@ returns-then-branch g c =
     let there : table_of c.database.result.now name ≡ Some h.table = ap (λ (d : Tables g.row.A.Denot). table_of d name) c.database.ensures ∙ h.there in
     let fits = full_keyed flags new c.requires.fits in
     let row = c.in_ok-row.row in
-    let row_is : row ≡ new_row (length h.table.schema) new = c.in_ok-row.ensures ∙ ap (λ n. new_row n new) (c.width_of.ensures h.table there) in
+    let row_is : row ≡ new_row (length h.table.schema) new = c.in_ok-row.ensures ∙ ap (λ n. new_row n new) (c.width_of-width.ensures h.table there) in
     let key = c.in_ok-key.key in
-    let key_is : key ≡ key_values flags new = c.in_ok-key.ensures ∙ ap (λ f. key_values f new) c.flags.ensures.flags in
+    let key_is : key ≡ key_values flags new = c.in_ok-key.ensures ∙ ap (λ f. key_values f new) c.flags-2.ensures.flags in
     let copy_is : c.in_ok-copy.field-0 ≡ key = c.in_ok-copy.ensures in
     let put_is = c.in_ok-taken.ensures.state ∙ ap (λ (k : Fields g.row.A.Denot). placed name k (Some row) state) copy_is in
     let at = sym c.in-Some.is ∙ c.in_ok-taken.ensures.before ∙ ap (row_at state.database name) copy_is in
@@ -125,9 +129,9 @@ put-requires-2-clause-there g c =
     let there : table_of c.database.result.now name ≡ Some h.table = ap (λ (d : Tables g.row.A.Denot). table_of d name) c.database.ensures ∙ h.there in
     let fits = full_keyed flags new c.requires.fits in
     let row = c.in_ok-row.row in
-    let row_is : row ≡ new_row (length h.table.schema) new = c.in_ok-row.ensures ∙ ap (λ n. new_row n new) (c.width_of.ensures h.table there) in
+    let row_is : row ≡ new_row (length h.table.schema) new = c.in_ok-row.ensures ∙ ap (λ n. new_row n new) (c.width_of-width.ensures h.table there) in
     let key = c.in_ok-key.key in
-    let key_is : key ≡ key_values flags new = c.in_ok-key.ensures ∙ ap (λ f. key_values f new) c.flags.ensures.flags in
+    let key_is : key ≡ key_values flags new = c.in_ok-key.ensures ∙ ap (λ f. key_values f new) c.flags-2.ensures.flags in
     let back = rw c.in-Some.is at c.in_ok-taken.ensures.back in
     subst (λ (d : Tables g.row.A.Denot). is_some (table_of d name) ≡ true)
     (sym (judged_database policy number name flags state h c.put.new.self c.judge.new.self (Some Conflict) c.in_ok-judge.field-0 c.in_ok-judge.ensures.noted))
@@ -145,9 +149,9 @@ put-requires-2-clause-own g c =
     let there : table_of c.database.result.now name ≡ Some h.table = ap (λ (d : Tables g.row.A.Denot). table_of d name) c.database.ensures ∙ h.there in
     let fits = full_keyed flags new c.requires.fits in
     let row = c.in_ok-row.row in
-    let row_is : row ≡ new_row (length h.table.schema) new = c.in_ok-row.ensures ∙ ap (λ n. new_row n new) (c.width_of.ensures h.table there) in
+    let row_is : row ≡ new_row (length h.table.schema) new = c.in_ok-row.ensures ∙ ap (λ n. new_row n new) (c.width_of-width.ensures h.table there) in
     let key = c.in_ok-key.key in
-    let key_is : key ≡ key_values flags new = c.in_ok-key.ensures ∙ ap (λ f. key_values f new) c.flags.ensures.flags in
+    let key_is : key ≡ key_values flags new = c.in_ok-key.ensures ∙ ap (λ f. key_values f new) c.flags-2.ensures.flags in
     let back = rw c.in-Some.is at c.in_ok-taken.ensures.back in
     subst (λ (d : Tables g.row.A.Denot). IsOwnRow d name key c.in-Some.taken)
     (sym (judged_database policy number name flags state h c.put.new.self c.judge.new.self (Some Conflict) c.in_ok-judge.field-0 c.in_ok-judge.ensures.noted))
@@ -165,9 +169,9 @@ returns g c =
     let there : table_of c.database.result.now name ≡ Some h.table = ap (λ (d : Tables g.row.A.Denot). table_of d name) c.database.ensures ∙ h.there in
     let fits = full_keyed flags new c.requires.fits in
     let row = c.in_ok-row.row in
-    let row_is : row ≡ new_row (length h.table.schema) new = c.in_ok-row.ensures ∙ ap (λ n. new_row n new) (c.width_of.ensures h.table there) in
+    let row_is : row ≡ new_row (length h.table.schema) new = c.in_ok-row.ensures ∙ ap (λ n. new_row n new) (c.width_of-width.ensures h.table there) in
     let key = c.in_ok-key.key in
-    let key_is : key ≡ key_values flags new = c.in_ok-key.ensures ∙ ap (λ f. key_values f new) c.flags.ensures.flags in
+    let key_is : key ≡ key_values flags new = c.in_ok-key.ensures ∙ ap (λ f. key_values f new) c.flags-2.ensures.flags in
     let copy_is : c.in_ok-copy.field-0 ≡ key = c.in_ok-copy.ensures in
     let put_is = c.in_ok-taken.ensures.state ∙ ap (λ (k : Fields g.row.A.Denot). placed name k (Some row) state) copy_is in
     let at = sym c.in-Some.is ∙ c.in_ok-taken.ensures.before ∙ ap (row_at state.database name) copy_is in

@@ -4,8 +4,9 @@ use Rattle.cap_value.specs.Memory.{LeavesUnlessMemory}
 use Rattle.cap_changes.specs.Requirements.{requirements, new_requirements, satisfy}
 use Rattle.cap_changes.specs.declared.record_kind.RecordKind.TheVariants as record_kinds
 use Rattle.cap_changes.proofs.PatchLemmas.{update_fits}
+use Rattle.cap_changes.proofs.FitLemmas.{full_keyed}
 use Rattle.cap_apply.proofs.ChangeLemmas.{delete_asked, has_target}
-use Rattle.cap_apply.proofs.RowLemmas.{full_keyed, is_key-key_values}
+use Rattle.cap_apply.proofs.RowLemmas.{is_key-key_values}
 use Rattle.cap_apply.proofs.entry.RowChangeBlobChange.apply_to.Goals as goal
 
 pub update-requires-clause-fits : goal.update-requires-clause-fits

@@ -2,7 +2,7 @@ use Rattle.std.proofs.Common.{◌≡◌, ◌++◌, length, sym, ap, ◌∙◌, a
 use Rattle.cap_tree.specs.Path.{pending, IsPath}
 use Rattle.cap_tree.proofs.PathLemmas.{next_up}
 use Rattle.cap_tree.proofs.iter.IterIterator.next.Goals as goal
-use Rattle.cap_tree.proofs.iter.IterIterator.next.Goals.{then-is_empty+in_ok-self-inside, else-is_empty}
+use Rattle.cap_tree.proofs.iter.IterIterator.next.Goals.{else-is_empty, then-is_empty+in_ok-self-inside}
 
 pub invariant_of-self-2 : goal.invariant_of-self-2
 invariant_of-self-2 g c =

@@ -1,39 +1,81 @@
-use Rattle.std.proofs.Common.{length, length-append, arith, ap}
-use Rattle.cap_tree.specs.Shape.{seen, entries_of}
+use Rattle.std.proofs.Common.{◌≡◌, ◌+◌, ◌<◌, ◌≤◌, ◌++◌, length, vec_len, arith, refl, ap}
+use Rattle.std.proofs.lemmas.List.{append-nil}
+use Rattle.cap_tree.proofs.CutLemmas.{leaf_cut, inner_cut, inner_count, inner_front, inner_back}
 use Rattle.cap_tree.proofs.node.Node.split_into.Goals as goal
 
-pub split_child_list-requires : goal.split_child_list-requires
-split_child_list-requires g c =
+pub cut_items-requires : goal.cut_items-requires
+cut_items-requires g c =
+    let n = rw c.in-Leaf.is at c.self.invariant in
+    let view = rw c.in-Leaf.is at c.self.view_is in
+    record { front_small = n; back_small = omega (arith, c.in_ok-moved-in-Leaf.ensures.len); within = omega (arith, ap (λ n. n.items) view, c.requires.back) }
+
+pub cut_items-requires-in-Inner : goal.cut_items-requires-in-Inner
+cut_items-requires-in-Inner g c =
     let n = rw c.in-Inner.is at c.self.invariant in
     let view = rw c.in-Inner.is at c.self.view_is in
+    record { front_small = n.most; back_small = omega (arith, c.in_ok-moved-in-Inner.ensures.len); within = omega (arith, ap (λ n. n.items) view, c.requires.back) }
+
+pub returns-in-Leaf-clause-cut : goal.returns-in-Leaf-clause-cut
+returns-in-Leaf-clause-cut g c =
+    let view = rw c.in-Leaf.is at c.self.view_is in
+    let e = c.in_ok-least-in-Leaf.ensures in
+    let old = c.in-Leaf.entries.items in
+    let whole : old ++ c.in_ok-moved-in-Leaf.moved.items ≡ old = rw c.in_ok-moved-in-Leaf.ensures.items (append-nil old) in
+    let within : _ < length old = omega (arith, c.in-Leaf.entries.ok.0, ap (λ n. n.items) view, c.requires.back) in
+    let behind : vec_len c.cut_items.new.back + c.args.at ≡ vec_len c.in-Leaf.entries = omega (arith, e.back_len, c.in_ok-moved-in-Leaf.ensures.len) in
+    let key = rw whole at e.key in
+    rw (← view) (leaf_cut g.K.Ord.cmp g.met.K.Ord.total c.args.at _ old c.cut_items.new.front c.cut_items.new.back key.0 c.in_ok-least-in-Leaf.least within key.1.0 key.1.1 (rw (ap (λ n. n.entries) view) c.requires.ordered) (rw whole at e.front) (rw whole at e.back) e.front_len behind)
+
+pub count_of-behind-requires : goal.count_of-behind-requires
+count_of-behind-requires g c =
+    let n = rw c.in-Inner.is at c.self.invariant in
     let range = rw c.in-Inner.is at c.self.ranges in
-    record {
-      small = n.1;
-      within = omega (arith, ap (λ n. n.2) view, c.requires.back);
-      children = n.2;
-      fit = n.3;
-      fits = omega (arith, n.4, range);
-    }
+    let e = c.in_ok-least-in-Inner.ensures in
+    let old = c.in-Inner.children.items in
+    let whole : old ++ c.in_ok-moved-in-Inner.moved.items ≡ old = rw c.in_ok-moved-in-Inner.ensures.items (append-nil old) in
+    let back = rw whole at e.back in
+    record { fits = rw (c.as_slice.ensures.value, back) (omega (arith, inner_count g.K.Ord.cmp g.met.K.Ord.total c.in-Inner.height old c.args.at, n.count, range)) }
 
 pub overflow_sub-count : goal.overflow_sub-count
 overflow_sub-count g c =
     let n = rw c.in-Inner.is at c.self.invariant in
     let e = c.in_ok-least-in-Inner.ensures in
-    omega (arith, n.4, e.count, ap length e.cut.entries, length-append (entries_of (seen c.split_child_list.new.children.items)) (entries_of (seen c.in_ok-least-in-Inner.moved.items)))
+    let old = c.in-Inner.children.items in
+    let whole : old ++ c.in_ok-moved-in-Inner.moved.items ≡ old = rw c.in_ok-moved-in-Inner.ensures.items (append-nil old) in
+    let behind = rw (c.as_slice.ensures.value, e.back, whole) at c.count_of-behind.ensures in
+    omega (arith, n.count, behind, inner_count g.K.Ord.cmp g.met.K.Ord.total c.in-Inner.height old c.args.at)
 
 pub invariant_of-self-in-Inner : goal.invariant_of-self-in-Inner
 invariant_of-self-in-Inner g c =
     let n = rw c.in-Inner.is at c.self.invariant in
     let view = rw c.in-Inner.is at c.self.view_is in
     let e = c.in_ok-least-in-Inner.ensures in
-    (omega (arith, e.cut.len, c.requires.front), omega (arith, e.cut.len, c.requires.back, ap (λ n. n.2) view, n.1), e.front_children, e.front_fit, omega (arith, n.4, e.count, ap length e.cut.entries, length-append (entries_of (seen c.split_child_list.new.children.items)) (entries_of (seen c.in_ok-least-in-Inner.moved.items))))
+    let old = c.in-Inner.children.items in
+    let whole : old ++ c.in_ok-moved-in-Inner.moved.items ≡ old = rw c.in_ok-moved-in-Inner.ensures.items (append-nil old) in
+    let behind = rw (c.as_slice.ensures.value, e.back, whole) at c.count_of-behind.ensures in
+    inner_front g.K.Ord.cmp g.met.K.Ord.total c.in-Inner.height old c.args.at n.children n.fit _ _ n.count behind c.cut_items-in-Inner.new.front (rw whole at e.front) e.front_len c.requires.front (omega (arith, c.requires.back, ap (λ n. n.items) view, n.most))
 
-pub returns-in-Leaf-clause-cut : goal.returns-in-Leaf-clause-cut
-returns-in-Leaf-clause-cut g c =
-    let view = rw c.in-Leaf.is at c.self.view_is in
-    rw (← view) c.in_ok-least-in-Leaf.ensures.cut
+pub invariant_of-rest : goal.invariant_of-rest
+invariant_of-rest g c =
+    let n = rw c.in-Inner.is at c.self.invariant in
+    let view = rw c.in-Inner.is at c.self.view_is in
+    let e = c.in_ok-least-in-Inner.ensures in
+    let old = c.in-Inner.children.items in
+    let whole : old ++ c.in_ok-moved-in-Inner.moved.items ≡ old = rw c.in_ok-moved-in-Inner.ensures.items (append-nil old) in
+    let behind = rw (c.as_slice.ensures.value, e.back, whole) at c.count_of-behind.ensures in
+    let left = c.cut_items-in-Inner.new.back in
+    let some : 0 < vec_len left = omega (arith, e.back_len, c.requires.back, ap (λ n. n.items) view, c.in_ok-moved-in-Inner.ensures.len) in
+    let most : vec_len left ≤ 16 = omega (arith, e.back_len, n.most, c.in_ok-moved-in-Inner.ensures.len) in
+    inner_back g.K.Ord.cmp g.met.K.Ord.total c.in-Inner.height old c.args.at n.children n.fit _ _ n.count behind left (rw whole at e.back) some most
 
 pub returns-in-Inner-clause-cut : goal.returns-in-Inner-clause-cut
 returns-in-Inner-clause-cut g c =
+    let n = rw c.in-Inner.is at c.self.invariant in
     let view = rw c.in-Inner.is at c.self.view_is in
-    rw (← view) c.in_ok-least-in-Inner.ensures.cut
+    let e = c.in_ok-least-in-Inner.ensures in
+    let old = c.in-Inner.children.items in
+    let whole : old ++ c.in_ok-moved-in-Inner.moved.items ≡ old = rw c.in_ok-moved-in-Inner.ensures.items (append-nil old) in
+    let within : c.args.at < length old = omega (arith, c.in-Inner.children.ok.0, ap (λ n. n.items) view, c.requires.back) in
+    let behind : vec_len c.cut_items-in-Inner.new.back + c.args.at ≡ vec_len c.in-Inner.children = omega (arith, e.back_len, c.in_ok-moved-in-Inner.ensures.len) in
+    let key = rw whole at e.key in
+    rw (← view) (inner_cut g.K.Ord.cmp g.met.K.Ord.total c.in-Inner.height old c.args.at n.children key.0 within key.1.0 _ _ c.cut_items-in-Inner.new.front c.cut_items-in-Inner.new.back c.in_ok-least-in-Inner.least refl key.1.1 (rw whole at e.front) (rw whole at e.back) e.front_len behind)

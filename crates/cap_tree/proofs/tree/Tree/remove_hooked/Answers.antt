@@ -1,5 +1,5 @@
-use Rattle.std.proofs.Common.{arith}
-use Rattle.cap_tree.proofs.TreeLemmas.{take_ordered}
+use Rattle.std.proofs.Common.{None}
+use Rattle.cap_tree.proofs.ChangeLemmas.{changes_ordered}
 use Rattle.cap_tree.proofs.tree.Tree.remove_hooked.Goals as goal
 use Rattle.cap_tree.proofs.tree.Tree.remove_hooked.Goals.{in-None, in-Some}
 
@@ -8,5 +8,5 @@ invariant_of-self g c = elim c.match-self.branch [
   | in-None w ↦ rw w.self-inside-is c.self.invariant
   | in-Some w ↦
       let before = rw w.in-Some.is at c.self.invariant in
-      rw w.self-inside-is (λ high. omega (arith, w.take_from_root.ensures.two high), take_ordered g.K.Ord.cmp g.met.K.Ord.total c.args.key.now w.in-Some.node.value.0 w.take_from_root.new.root.value.0 before.1 w.take_from_root.result w.take_from_root.ensures.err w.take_from_root.ensures.ok)
+      rw w.self-inside-is (w.change_in_root.ensures.top, changes_ordered g.K.Ord.cmp g.H.Hook.gives c.args.key.now None c.args.hook.now w.change_in_root.new.hook g.met.K.Ord.total w.change_in_root.result w.in-Some.node.value.entries w.change_in_root.new.root.value.entries before.1 w.change_in_root.ensures.changes)
 ]

@@ -1,5 +1,4 @@
-use Rattle.std.proofs.Common.{arith}
-use Rattle.cap_tree.proofs.ReplaceLemmas.{replaces_ordered}
+use Rattle.cap_tree.proofs.ChangeLemmas.{replaces_ordered}
 use Rattle.cap_tree.proofs.tree.Tree.replace_hooked.Goals as goal
 use Rattle.cap_tree.proofs.tree.Tree.replace_hooked.Goals.{in-None, in-Some}
 
@@ -9,5 +8,5 @@ invariant_of-self g c = elim c.match-self.branch [
   | in-Some w ↦
       let before = rw w.in-Some.is at c.self.invariant in
       let e = w.replace_in_root.ensures in
-      rw w.self-inside-is (λ high. let two = before.0 (omega (arith, high, e.height)) in omega (arith, two, e.len), replaces_ordered g.K.Ord.cmp g.H.Remake.gives c.args.key.now c.args.hook.now w.replace_in_root.new.hook g.met.K.Ord.total w.replace_in_root.result w.in-Some.node.value.0 w.replace_in_root.new.root.value.0 before.1 e.replaced)
+      rw w.self-inside-is (e.top before.0, replaces_ordered g.K.Ord.cmp g.H.Remake.gives c.args.key.now c.args.hook.now w.replace_in_root.new.hook g.met.K.Ord.total w.replace_in_root.result w.in-Some.node.value.entries w.replace_in_root.new.root.value.entries before.1 e.replaced)
 ]

@@ -1,0 +1,5 @@
+use Rattle.cap_group.proofs.AgainLemmas.{changes_keep}
+use Rattle.cap_group.proofs.combine_changes.RowChangeCombine.keeps_key.Goals as goal
+
+pub returns : goal.returns
+returns g c = changes_keep

@@ -1,9 +1,0 @@
-use Rattle.std.proofs.Common.{refl, sym}
-use Rattle.std.specs.Option.{option_copied}
-use Rattle.cap_session.specs.Records.{Touch}
-use Rattle.cap_session.proofs.touch.touched.Goals as goal
-
-pub returns-then-changes_nothing-clause-touched : goal.returns-then-changes_nothing-clause-touched
-returns-then-changes_nothing-clause-touched g c =
-    let t : Touch _ = record { key = c.args.key.now; image = option_copied c.args.image; indirect = c.args.indirect } in
-    sym (c.changes_nothing.ensures c.if-changes_nothing.true c.args.records.now t c.get-found.ensures.ordered (sym c.get-found.ensures.found) refl)

@@ -1,0 +1,256 @@
+-- The branches of a node, cut where some of them change: those in front, those that change, and those behind.
+use Rattle.std.proofs.Common.{◌≡◌, ℕ, zero, suc, ◌+◌, ◌<◌, ◌≢◌, List, [], ◌∷◌, ◌++◌, length, take, drop, get_or, set, refl, sym, ap, ◌∙◌, arith, add-one, length-append, inl, inr}
+use Rattle.std.specs.Prelude.{◌⊎◌}
+use Rattle.std.specs.declared.cmp.Ordering.{Ordering}
+use Rattle.std.specs.declared.cmp.Ordering.TheVariants.{Less, Greater}
+use Rattle.std.specs.List.{AllByRecursion, insert, remove}
+use Rattle.std.specs.Cmp.{IsTotalOrder}
+use Rattle.std.specs.Map.{keys_of}
+use Rattle.std.proofs.lemmas.List.{append_assoc, append-nil, take-append-drop}
+use Rattle.cap_tree.specs.Subtree.{Subtree, Branch}
+use Rattle.cap_tree.specs.Shape.{entries_of, IsChild, NoneBelow, EachBelow, AreChildren, place}
+use Rattle.cap_tree.proofs.EntryLemmas.{Each, each_turn}
+use Rattle.cap_tree.proofs.PlaceLemmas.{all_turn, keys_append, above_all_of, below_children, below_entries, place_zero, place_step, step_up, least_below, above_upper, less_not_greater, not_greater_self, not_less_self}
+
+module _ {X : Type 0} where
+  -- ---- the items around one that changes, and around two
+
+  pub rest_at : (xs : List X) (i : ℕ) (d : X) → i < length xs → d ≡ get_or xs i d → drop i xs ≡ d ∷ drop (suc i) xs
+  rest_at [] i d within is = absurd (omega arith)
+  rest_at (x ∷ xs) zero d within is = ap (λ t. t ∷ xs) (sym is)
+  rest_at (x ∷ xs) (suc i) d within is = rest_at xs i d (omega arith) is
+
+  pub around : (xs : List X) (i : ℕ) (d : X) → i < length xs → d ≡ get_or xs i d → xs ≡ take i xs ++ d ∷ drop (suc i) xs
+  around xs i d within is = sym (take-append-drop i xs) ∙ ap (λ t. take i xs ++ t) (rest_at xs i d within is)
+
+  pub set_around : (xs : List X) (i : ℕ) (x : X) → i < length xs → set xs i x ≡ take i xs ++ x ∷ drop (suc i) xs
+  set_around [] i x within = absurd (omega arith)
+  set_around (y ∷ ys) zero x within = refl
+  set_around (y ∷ ys) (suc i) x within = ap (λ t. y ∷ t) (set_around ys i x (omega arith))
+
+  pub insert_around : (xs : List X) (i : ℕ) (x y : X) → i < length xs → insert (set xs i x) (i + 1) y ≡ take i xs ++ x ∷ y ∷ drop (suc i) xs
+  insert_around xs i x y within = rw add-one (step xs i within)
+    where
+      step : (xs : List X) (i : ℕ) → i < length xs → insert (set xs i x) (suc i) y ≡ take i xs ++ x ∷ y ∷ drop (suc i) xs
+      step [] i within = absurd (omega arith)
+      step (z ∷ zs) zero within = refl
+      step (z ∷ zs) (suc i) within = ap (λ t. z ∷ t) (step zs i (omega arith))
+
+  pub two_around : (xs : List X) (i : ℕ) (d e : X) → i + 1 < length xs → d ≡ get_or (remove xs (i + 1)) i d → e ≡ get_or xs (i + 1) e → xs ≡ take i xs ++ d ∷ e ∷ drop (suc (suc i)) xs
+  two_around xs i d e within = rw add-one (step xs i (omega arith))
+    where
+      step : (xs : List X) (i : ℕ) → suc i < length xs → d ≡ get_or (remove xs (suc i)) i d → e ≡ get_or xs (suc i) e → xs ≡ take i xs ++ d ∷ e ∷ drop (suc (suc i)) xs
+      step [] i within is_d is_e = absurd (omega arith)
+      step (x ∷ []) zero within is_d is_e = absurd (omega arith)
+      step (x ∷ y ∷ xs) zero within is_d is_e = rw (← is_d, ← is_e) refl
+      step (x ∷ xs) (suc i) within is_d is_e = ap (λ t. x ∷ t) (step xs i (omega arith) is_d is_e)
+
+  -- the second of them is removed, and the first changes
+  pub remove_around : (xs : List X) (i : ℕ) (x : X) → i + 1 < length xs → set (remove xs (i + 1)) i x ≡ take i xs ++ x ∷ drop (suc (suc i)) xs
+  remove_around xs i x within = rw add-one (step xs i (omega arith))
+    where
+      step : (xs : List X) (i : ℕ) → suc i < length xs → set (remove xs (suc i)) i x ≡ take i xs ++ x ∷ drop (suc (suc i)) xs
+      step [] i within = absurd (omega arith)
+      step (y ∷ []) zero within = absurd (omega arith)
+      step (y ∷ z ∷ ys) zero within = refl
+      step (y ∷ ys) (suc i) within = ap (λ t. y ∷ t) (step ys i (omega arith))
+
+  -- and the second is put back
+  pub redo_around : (xs : List X) (i : ℕ) (x y : X) → i + 1 < length xs → insert (set (remove xs (i + 1)) i x) (i + 1) y ≡ take i xs ++ x ∷ y ∷ drop (suc (suc i)) xs
+  redo_around xs i x y within = rw add-one (step xs i (omega arith))
+    where
+      step : (xs : List X) (i : ℕ) → suc i < length xs → insert (set (remove xs (suc i)) i x) (suc i) y ≡ take i xs ++ x ∷ y ∷ drop (suc (suc i)) xs
+      step [] i within = absurd (omega arith)
+      step (z ∷ []) zero within = absurd (omega arith)
+      step (z ∷ w ∷ zs) zero within = refl
+      step (z ∷ zs) (suc i) within = ap (λ t. z ∷ t) (step zs i (omega arith))
+
+  pub read_at : (xs : List X) (y : X) (ys : List X) (i : ℕ) (d : X) → i ≡ length xs → get_or (xs ++ y ∷ ys) i d ≡ y
+  read_at [] y ys zero d is = refl
+  read_at [] y ys (suc i) d is = absurd (omega arith)
+  read_at (x ∷ xs) y ys zero d is = absurd (omega arith)
+  read_at (x ∷ xs) y ys (suc i) d is = read_at xs y ys i d (omega arith)
+
+  -- ---- what holds of each
+
+  pub all_append : (P : X → Type 0) (xs ys : List X) → AllByRecursion P xs → AllByRecursion P ys → AllByRecursion P (xs ++ ys)
+  all_append P [] ys h k = k
+  all_append P (x ∷ xs) ys h k = (h.0, all_append P xs ys h.1 k)
+
+  pub all_left : (P : X → Type 0) (xs ys : List X) → AllByRecursion P (xs ++ ys) → AllByRecursion P xs
+  all_left P [] ys h = tt
+  all_left P (x ∷ xs) ys h = (h.0, all_left P xs ys h.1)
+
+  pub all_right : (P : X → Type 0) (xs ys : List X) → AllByRecursion P (xs ++ ys) → AllByRecursion P ys
+  all_right P [] ys h = h
+  all_right P (x ∷ xs) ys h = all_right P xs ys h.1
+
+module _ {K V : Type 0} where
+  pub keys_front : (P : K → Type 0) (xs ys : List (K × V)) → AllByRecursion P (keys_of (xs ++ ys)) → AllByRecursion P (keys_of xs)
+  keys_front P [] ys h = tt
+  keys_front P (x ∷ xs) ys h = (h.0, keys_front P xs ys h.1)
+
+  pub keys_back : (P : K → Type 0) (xs ys : List (K × V)) → AllByRecursion P (keys_of (xs ++ ys)) → AllByRecursion P (keys_of ys)
+  keys_back P [] ys h = h
+  keys_back P (x ∷ xs) ys h = keys_back P xs ys h.1
+
+  pub entries_append : (xs ys : List (Branch K V)) → entries_of (xs ++ ys) ≡ entries_of xs ++ entries_of ys
+  entries_append [] ys = refl
+  entries_append (x ∷ xs) ys = ap (λ t. x.1.entries ++ t) (entries_append xs ys) ∙ sym (append_assoc x.1.entries (entries_of xs) (entries_of ys))
+
+  pub count_append : (xs ys : List (Branch K V)) → length (entries_of (xs ++ ys)) ≡ length (entries_of xs) + length (entries_of ys)
+  count_append xs ys = ap length (entries_append xs ys) ∙ length-append (entries_of xs) (entries_of ys)
+
+  module _ (cmp : K → K → Ordering) where
+    -- ---- the branches of two lists, one behind the other
+
+    pub children_append : (height : ℕ) (xs ys : List (Branch K V)) → AreChildren cmp height xs → AreChildren cmp height ys → AllByRecursion (λ q. EachBelow cmp q.0 (entries_of xs)) ys → AreChildren cmp height (xs ++ ys)
+    children_append height [] ys hx hy over = hy
+    children_append height (x ∷ xs) ys hx hy over =
+        (hx.0, hx.1, all_append (λ q. EachBelow cmp q.0 x.1.entries) xs ys hx.2 (all_turn (λ q. EachBelow cmp q.0 (x.1.entries ++ entries_of xs)) (λ q. EachBelow cmp q.0 x.1.entries) (λ q. keys_front (λ y. cmp q.0 y ≡ Greater) x.1.entries (entries_of xs)) ys over), children_append height xs ys hx.3 hy (all_turn (λ q. EachBelow cmp q.0 (x.1.entries ++ entries_of xs)) (λ q. EachBelow cmp q.0 (entries_of xs)) (λ q. keys_back (λ y. cmp q.0 y ≡ Greater) x.1.entries (entries_of xs)) ys over))
+
+    pub children_left : (height : ℕ) (xs ys : List (Branch K V)) → AreChildren cmp height (xs ++ ys) → AreChildren cmp height xs
+    children_left height [] ys h = tt
+    children_left height (x ∷ xs) ys h = (h.0, h.1, all_left (λ q. EachBelow cmp q.0 x.1.entries) xs ys h.2, children_left height xs ys h.3)
+
+    pub children_right : (height : ℕ) (xs ys : List (Branch K V)) → AreChildren cmp height (xs ++ ys) → AreChildren cmp height ys
+    children_right height [] ys h = h
+    children_right height (x ∷ xs) ys h = children_right height xs ys h.3
+
+    pub children_over : (height : ℕ) (xs ys : List (Branch K V)) → AreChildren cmp height (xs ++ ys) → AllByRecursion (λ q. EachBelow cmp q.0 (entries_of xs)) ys
+    children_over height [] [] h = tt
+    children_over height [] (y ∷ ys) h = (tt, children_over height [] ys h.3)
+    children_over height (x ∷ xs) ys h = both ys (all_right (λ q. EachBelow cmp q.0 x.1.entries) xs ys h.2) (children_over height xs ys h.3)
+      where
+        both : (zs : List (Branch K V)) → AllByRecursion (λ q. EachBelow cmp q.0 x.1.entries) zs → AllByRecursion (λ q. EachBelow cmp q.0 (entries_of xs)) zs → AllByRecursion (λ q. EachBelow cmp q.0 (x.1.entries ++ entries_of xs)) zs
+        both [] a b = tt
+        both (z ∷ zs) a b = (keys_append (λ y. cmp z.0 y ≡ Greater) x.1.entries (entries_of xs) a.0 b.0, both zs a.1 b.1)
+
+    -- k is not below the branches in front, nor below the least key l that follows, and below those behind
+    pub record IsGap (k : K) (front : List (Branch K V)) (l : K) (back : List (Branch K V)) : Type 0 where
+      pub over : AllByRecursion (λ q. cmp k q.0 ≢ Less) front
+      pub here : cmp k l ≢ Less
+      pub none : place cmp k back ≡ 0
+
+    module _ (o : IsTotalOrder cmp) where
+      -- the least key of a branch is below those that follow
+      pub leasts_below : (l : K) (es : List (K × V)) (ps : List (Branch K V)) → 0 < length es → NoneBelow cmp l es → AllByRecursion (λ q. EachBelow cmp q.0 es) ps → AllByRecursion (λ q. cmp l q.0 ≡ Less) ps
+      leasts_below l [] ps fed not each = absurd (omega arith)
+      leasts_below l (e ∷ es) ps fed not each = all_turn (λ q. EachBelow cmp q.0 (e ∷ es)) (λ q. cmp l q.0 ≡ Less) (λ q a. least_below cmp o l e.0 q.0 not.0 a.0) ps each
+
+      -- no entry from a branch on is below its least key
+      pub least_of : (height : ℕ) (p : Branch K V) (ps : List (Branch K V)) → AreChildren cmp height (p ∷ ps) → NoneBelow cmp p.0 (entries_of (p ∷ ps))
+      least_of height p ps h = keys_append (λ y. cmp p.0 y ≢ Greater) p.1.entries (entries_of ps) h.1 (each_turn cmp (λ y. cmp p.0 y ≡ Less) (λ y. cmp p.0 y ≢ Greater) (λ y. less_not_greater cmp o p.0 y) (entries_of ps) (below_entries cmp o p.0 height ps h.3 (leasts_below p.0 p.1.entries ps h.0.1 h.1 h.2)))
+
+      pub first_is : (l s : K) (es : List (K × V)) → 0 < length es → NoneBelow cmp l es → EachBelow cmp s es → cmp l s ≡ Less
+      first_is l s [] fed not each = absurd (omega arith)
+      first_is l s (e ∷ es) fed not each = least_below cmp o l e.0 s not.0 each.0
+
+      -- ---- p and the branches that follow it, up to the last ones, become others with their entries
+
+      module _ (height : ℕ) (front : List (Branch K V)) (p : Branch K V) (rest back : List (Branch K V)) (h : AreChildren cmp height (front ++ p ∷ (rest ++ back))) where
+        middle : AreChildren cmp height (p ∷ (rest ++ back))
+        middle = children_right height front (p ∷ (rest ++ back)) h
+
+        over : AllByRecursion (λ q. EachBelow cmp q.0 (entries_of front)) (p ∷ (rest ++ back))
+        over = children_over height front (p ∷ (rest ++ back)) h
+
+        low : NoneBelow cmp p.0 (entries_of (p ∷ rest))
+        low = least_of height p rest (children_left height (p ∷ rest) back middle)
+
+        pub new_entries : (new : List (Branch K V)) → entries_of new ≡ entries_of (p ∷ rest) → entries_of (front ++ (new ++ back)) ≡ entries_of (front ++ p ∷ (rest ++ back))
+        new_entries new same = entries_append front (new ++ back) ∙ ap (λ t. entries_of front ++ t) (entries_append new back ∙ ap (λ t. t ++ entries_of back) same ∙ sym (entries_append (p ∷ rest) back)) ∙ sym (entries_append front (p ∷ (rest ++ back)))
+
+        new_children : (new : List (Branch K V)) → entries_of new ≡ entries_of (p ∷ rest) → AreChildren cmp height new → AllByRecursion (λ q. EachBelow cmp q.0 (entries_of front)) new → AreChildren cmp height (front ++ (new ++ back))
+        new_children new same hn above = children_append height front (new ++ back) (children_left height front (p ∷ (rest ++ back)) h) (children_append height new back hn (children_right height (p ∷ rest) back middle) (rw same (children_over height (p ∷ rest) back middle))) (all_append (λ q. EachBelow cmp q.0 (entries_of front)) new back above (all_right (λ q. EachBelow cmp q.0 (entries_of front)) (p ∷ rest) back over))
+
+        -- one with them all
+        module _ (c : Subtree K V) (subtree : IsChild height c) (same : c.entries ≡ entries_of (p ∷ rest)) where
+          alone : entries_of ((p.0, c) ∷ []) ≡ entries_of (p ∷ rest)
+          alone = append-nil c.entries ∙ same
+
+          pub one_entries : entries_of (front ++ (p.0, c) ∷ back) ≡ entries_of (front ++ p ∷ (rest ++ back))
+          one_entries = new_entries ((p.0, c) ∷ []) alone
+
+          pub one_children : AreChildren cmp height (front ++ (p.0, c) ∷ back)
+          one_children = new_children ((p.0, c) ∷ []) alone (subtree, rw same low, tt, tt) (over.0, tt)
+
+        -- two, of which the second begins at s
+        module _ (s : K) (a b : Subtree K V) (child_a : IsChild height a) (child_b : IsChild height b) (below : EachBelow cmp s a.entries) (not_below : NoneBelow cmp s b.entries) (same : a.entries ++ b.entries ≡ entries_of (p ∷ rest)) where
+          both : entries_of ((p.0, a) ∷ (s, b) ∷ []) ≡ entries_of (p ∷ rest)
+          both = ap (λ t. a.entries ++ t) (append-nil b.entries) ∙ same
+
+          low_a : NoneBelow cmp p.0 a.entries
+          low_a = keys_front (λ y. cmp p.0 y ≢ Greater) a.entries b.entries (rw same low)
+
+          pub two_entries : entries_of (front ++ (p.0, a) ∷ (s, b) ∷ back) ≡ entries_of (front ++ p ∷ (rest ++ back))
+          two_entries = new_entries ((p.0, a) ∷ (s, b) ∷ []) both
+
+          pub two_children : AreChildren cmp height (front ++ (p.0, a) ∷ (s, b) ∷ back)
+          two_children = new_children ((p.0, a) ∷ (s, b) ∷ []) both (child_a, low_a, (below, tt), (child_b, not_below, tt, tt)) (over.0, (each_turn cmp (λ y. cmp p.0 y ≡ Greater) (λ y. cmp s y ≡ Greater) (λ y above. above_upper cmp o p.0 s y (less_not_greater cmp o p.0 s (first_is p.0 s a.entries child_a.1 low_a below)) above) (entries_of front) over.0, tt))
+
+      -- ---- the place of a key
+
+      module _ (k : K) where
+        place_parts : (front : List (Branch K V)) (p : Branch K V) (back : List (Branch K V)) (n : ℕ) → place cmp k (front ++ p ∷ back) ≡ length front + n + 1 → AllByRecursion (λ q. cmp k q.0 ≢ Less) front × (cmp k p.0 ≢ Less) × (place cmp k back ≡ n)
+        place_parts [] p back n is = let step = place_step cmp o k p back n (omega (arith, is)) in (tt, step.1, step.0)
+        place_parts (q ∷ qs) p back n is =
+            let step = place_step cmp o k q (qs ++ p ∷ back) (length qs + n + 1) (omega (arith, is)) in
+            let rest = place_parts qs p back n step.0 in
+            ((step.1, rest.0), rest.1, rest.2)
+
+        place_over : (front ps : List (Branch K V)) → AllByRecursion (λ q. cmp k q.0 ≢ Less) front → place cmp k (front ++ ps) ≡ length front + place cmp k ps
+        place_over [] ps h = omega arith
+        place_over (q ∷ qs) ps h = step_up cmp o k q (qs ++ ps) h.0 ∙ omega (arith, place_over qs ps h.1)
+
+        pub gap_at : (front : List (Branch K V)) (p : Branch K V) (back : List (Branch K V)) (j : ℕ) → place cmp k (front ++ p ∷ back) ≡ j + 1 → j ≡ length front → IsGap k front p.0 back
+        gap_at front p back j is at = let parts = place_parts front p back 0 (omega (arith, is, at)) in record { over = parts.0; here = parts.1; none = parts.2 }
+
+        -- in p, or in the branch that follows it
+        pub gap_of_two : (height : ℕ) (front : List (Branch K V)) (p e : Branch K V) (back : List (Branch K V)) (j : ℕ) → AreChildren cmp height (front ++ p ∷ e ∷ back) → (place cmp k (front ++ p ∷ e ∷ back) ≡ j + 1) ⊎ (place cmp k (front ++ p ∷ e ∷ back) ≡ j + 2) → j ≡ length front → IsGap k front p.0 back
+        gap_of_two height front p e back j h (inl is) at =
+            let parts = place_parts front p (e ∷ back) 0 (omega (arith, is, at)) in
+            let behind = children_right height front (p ∷ e ∷ back) h in
+            record { over = parts.0; here = parts.1; none = place_zero cmp o k back (below_children cmp o k height (e ∷ back) behind.3 parts.2).1 }
+        gap_of_two height front p e back j h (inr is) at =
+            let parts = place_parts front p (e ∷ back) 1 (omega (arith, is, at)) in
+            record { over = parts.0; here = parts.1; none = (place_step cmp o k e back 0 parts.2).0 }
+
+        module _ (front : List (Branch K V)) (l : K) (back : List (Branch K V)) (gap : IsGap k front l back) where
+          pub place_one : (a : Subtree K V) → place cmp k (front ++ (l, a) ∷ back) ≡ length front + 1
+          place_one a = place_over front ((l, a) ∷ back) gap.over ∙ omega (arith, step_up cmp o k (l, a) back gap.here, gap.none)
+
+          pub place_first : (a b : Subtree K V) (s : K) → cmp k s ≡ Less → place cmp k (front ++ (l, a) ∷ (s, b) ∷ back) ≡ length front + 1
+          place_first a b s less =
+              let none : place cmp k ((s, b) ∷ back) ≡ 0 = rw less refl in
+              place_over front ((l, a) ∷ (s, b) ∷ back) gap.over ∙ omega (arith, step_up cmp o k (l, a) ((s, b) ∷ back) gap.here, none)
+
+          pub place_second : (a b : Subtree K V) (s : K) → cmp k s ≢ Less → place cmp k (front ++ (l, a) ∷ (s, b) ∷ back) ≡ length front + 1 + 1
+          place_second a b s not = place_over front ((l, a) ∷ (s, b) ∷ back) gap.over ∙ omega (arith, step_up cmp o k (l, a) ((s, b) ∷ back) gap.here, step_up cmp o k (s, b) back not, gap.none)
+
+        -- ---- the entries around those among which the key belongs
+
+        pub above_front : (height : ℕ) (front : List (Branch K V)) (p : Branch K V) (back : List (Branch K V)) → AreChildren cmp height (front ++ p ∷ back) → cmp k p.0 ≢ Less → Each cmp Greater k (entries_of front)
+        above_front height front p back h not = each_turn cmp (λ y. cmp p.0 y ≡ Greater) (λ y. cmp k y ≡ Greater) (λ y a. above_all_of cmp o k p.0 y not a) (entries_of front) (children_over height front (p ∷ back) h).0
+
+        pub below_back : (height : ℕ) (front : List (Branch K V)) (p : Branch K V) (back : List (Branch K V)) → AreChildren cmp height (front ++ p ∷ back) → place cmp k back ≡ 0 → Each cmp Less k (entries_of back)
+        below_back height front p back h none = let behind = (children_right height front (p ∷ back) h).3 in below_entries cmp o k height back behind (below_children cmp o k height back behind none)
+
+  -- ---- the first branch gets another least key
+
+  pub entries_renamed : (k : K) (ps : List (Branch K V)) (d : Branch K V) → entries_of (set ps 0 (k, (get_or ps 0 d).1)) ≡ entries_of ps
+  entries_renamed k [] d = refl
+  entries_renamed k (p ∷ ps) d = refl
+
+  module _ (cmp : K → K → Ordering) (o : IsTotalOrder cmp) (k : K) (height : ℕ) where
+    pub children_renamed : (ps : List (Branch K V)) (d : Branch K V) → AreChildren cmp height ps → NoneBelow cmp k (entries_of ps) → AreChildren cmp height (set ps 0 (k, (get_or ps 0 d).1))
+    children_renamed [] d h not = tt
+    children_renamed (p ∷ ps) d h not = (h.0, keys_front (λ y. cmp k y ≢ Greater) p.1.entries (entries_of ps) not, h.2, h.3)
+
+    pub leasts_renamed : (ps : List (Branch K V)) (d : Branch K V) → AreChildren cmp height ps → NoneBelow cmp k (entries_of ps) → AllByRecursion (λ q. cmp k q.0 ≢ Greater) (set ps 0 (k, (get_or ps 0 d).1))
+    leasts_renamed [] d h not = tt
+    leasts_renamed (p ∷ ps) d h not = (not_greater_self cmp o k, all_turn (λ q. cmp k q.0 ≡ Less) (λ q. cmp k q.0 ≢ Greater) (λ q. less_not_greater cmp o k q.0) ps (leasts_below cmp o k p.1.entries ps h.0.1 (keys_front (λ y. cmp k y ≢ Greater) p.1.entries (entries_of ps) not) h.2))
+
+    pub place_renamed : (ps : List (Branch K V)) (d : Branch K V) → 0 < length ps → AreChildren cmp height ps → NoneBelow cmp k (entries_of ps) → place cmp k (set ps 0 (k, (get_or ps 0 d).1)) ≡ 1
+    place_renamed [] d some h not = absurd (omega arith)
+    place_renamed (p ∷ ps) d some h not = step_up cmp o k (k, p.1) ps (not_less_self cmp o k) ∙ omega (arith, place_zero cmp o k ps (leasts_below cmp o k p.1.entries ps h.0.1 (keys_front (λ y. cmp k y ≢ Greater) p.1.entries (entries_of ps) not) h.2))

@@ -1,0 +1,193 @@
+use Rattle.std.proofs.Common.{◌≡◌, ◌+◌, ◌*◌, ◌<◌, ◌≤◌, ◌^◌, length, take, drop, suc, arith, rules, refl, sym, ap, subst, ◌∙◌}
+use Rattle.cap_tree.specs.Tree.{IsOrdered, get}
+use Rattle.cap_tree.specs.Change.{gain, loss}
+use Rattle.cap_tree.specs.Subtree.{Branch}
+use Rattle.cap_tree.specs.Shape.{branches, entries_of, place, AreChildren, AreFit, IsFit, IsChild}
+use Rattle.cap_tree.proofs.HeightLemmas.{fed}
+use Rattle.cap_tree.proofs.ChildLemmas.{high}
+use Rattle.cap_tree.proofs.BranchLemmas.{gap_at}
+use Rattle.cap_tree.proofs.ChangeLemmas.{either_way, changes_of, changes_keeps, changes_length, changes_none, changes_there, children_there, get_there}
+use Rattle.cap_tree.proofs.SiblingLemmas.{front_length, cut_at, cut_set, child_is, child_fit, child_ordered, child_has, count_is, fit_set}
+use Rattle.cap_tree.proofs.change.+change.Goals as goal
+
+pub change_in_node-make_ready-requires : goal.change_in_node-make_ready-requires
+change_in_node-make_ready-requires g t c =
+    let n = rw c.in-Inner.is at c.node.invariant in
+    let view = rw c.in-Inner.is at c.node.view_is in
+    let range = rw c.in-Inner.is at c.node.ranges in
+    let up = high g.K.Ord.cmp c.in-Inner.height c.in-Inner.children.items (omega (arith, n.some, c.in-Inner.children.ok.0)) n.children in
+    let two = c.requires.two (omega (arith, up, ap (λ n. n.height) view)) in
+    record {
+      some = omega (arith, two, ap (λ n. n.items) view);
+      siblings = record { children = n.children; fit = n.fit; ordered = rw (ap (λ n. n.entries) view) c.requires.ordered; fits = omega (arith, n.count, range) };
+    }
+
+pub change_in_node-change_in_child-requires : goal.change_in_node-change_in_child-requires
+change_in_node-change_in_child-requires g t c =
+    let n = rw c.in-Inner.is at c.node.invariant in
+    let view = rw c.in-Inner.is at c.node.view_is in
+    let items = c.make_ready.new.children.items in
+    let at = c.in_ok-at-in-Inner.at in
+    let key = g.C.Change.key_of c.args.change in
+    let child = c.index_mut.result.now in
+    let p : Branch _ _ = (child.least, child.node.value) in
+    let e = c.make_ready.ensures in
+    let at_is = c.in_ok-at-in-Inner.ensures in
+    let within : at < length items = omega (arith, at_is.within, c.make_ready.new.children.ok.0) in
+    let first = front_length items at within in
+    let front = branches (take at items) in
+    let back = branches (drop (suc at) items) in
+    let whole = cut_at items at child within c.index_mut.ensures.value in
+    let entries : entries_of (branches items) ≡ c.args.node.now.entries = e.same.entries ∙ ap (λ n. n.entries) view in
+    let children = subst (AreChildren g.K.Ord.cmp c.in-Inner.height) whole e.same.children in
+    let gap = gap_at g.K.Ord.cmp g.met.K.Ord.total key front p back at (subst (λ l. place g.K.Ord.cmp key l ≡ at + 1) whole at_is.place) first in
+    let found : get g.K.Ord.cmp c.args.node.now.entries key ≡ get g.K.Ord.cmp child.node.value.entries key = ap (λ l. get g.K.Ord.cmp l key) (sym entries ∙ ap entries_of whole) ∙ get_there g.K.Ord.cmp key g.met.K.Ord.total c.in-Inner.height front p back children gap in
+    let can : g.H.Hook.can_ask c.args.hook.now (get g.K.Ord.cmp child.node.value.entries key) (g.C.Change.next_of c.args.change) = rw (← found) c.requires.can_ask in
+    let ordered : IsOrdered g.K.Ord.cmp child.node.value.entries = child_ordered g.K.Ord.cmp _ front back p whole (rw entries c.requires.ordered) in
+    let fit : IsFit child.node.value = child_fit g.K.Ord.cmp _ front back p whole e.same.fit in
+    let room : child.node.value.items + gain (g.C.Change.next_of c.args.change) ≤ 16 = child_has g.K.Ord.cmp _ front back p whole (λ n. n + gain (g.C.Change.next_of c.args.change) ≤ 16) at first at_is.room in
+    let spare : 4 + loss (g.C.Change.next_of c.args.change) ≤ child.node.value.items = child_has g.K.Ord.cmp _ front back p whole (λ n. 4 + loss (g.C.Change.next_of c.args.change) ≤ n) at first at_is.spare in
+    let counted : length child.node.value.entries ≤ c.in-Inner.count = omega (arith, n.count, ap length e.same.entries, count_is g.K.Ord.cmp _ front back p whole) in
+    let fits : c.in-Inner.count + gain (g.C.Change.next_of c.args.change) < 2 ^ 64 = omega (arith, n.count, ap (λ n. length n.entries) view, c.requires.fits) in
+    let level : 2 * child.node.value.height + 1 < 2 * c.args.node.now.height = omega (arith, (child_is g.K.Ord.cmp _ front back p whole c.in-Inner.height e.same.children).0, ap (λ n. n.height) view) in
+    λ κs h. search rules
+
+pub change_in_node-invariant_of-node-in-Inner : goal.change_in_node-invariant_of-node-in-Inner
+change_in_node-invariant_of-node-in-Inner g t c =
+    let n = rw c.in-Inner.is at c.node.invariant in
+    let view = rw c.in-Inner.is at c.node.view_is in
+    let items = c.make_ready.new.children.items in
+    let at = c.in_ok-at-in-Inner.at in
+    let key = g.C.Change.key_of c.args.change in
+    let child = c.index_mut.result.now in
+    let p : Branch _ _ = (child.least, child.node.value) in
+    let e = c.make_ready.ensures in
+    let at_is = c.in_ok-at-in-Inner.ensures in
+    let within : at < length items = omega (arith, at_is.within, c.make_ready.new.children.ok.0) in
+    let first = front_length items at within in
+    let front = branches (take at items) in
+    let back = branches (drop (suc at) items) in
+    let whole = cut_at items at child within c.index_mut.ensures.value in
+    let entries : entries_of (branches items) ≡ c.args.node.now.entries = e.same.entries ∙ ap (λ n. n.entries) view in
+    let children = subst (AreChildren g.K.Ord.cmp c.in-Inner.height) whole e.same.children in
+    let gap = gap_at g.K.Ord.cmp g.met.K.Ord.total key front p back at (subst (λ l. place g.K.Ord.cmp key l ≡ at + 1) whole at_is.place) first in
+    let x = c.change_in_child.new.child in
+    let w = c.change_in_child.ensures in
+    let r = c.change_in_child.result in
+    let new = cut_set items at child x w.least within in
+    let level = (child_is g.K.Ord.cmp _ front back p whole c.in-Inner.height e.same.children).0 in
+    let subtree : IsChild c.in-Inner.height x.node.value = (omega (arith, level, w.height), fed x.node.value (omega (arith, w.fit.0)) w.fit.2) in
+    record {
+      some = omega (arith, at_is.within);
+      most = omega (arith, ap (λ n. n.items) view, c.requires.room, e.most);
+      children = rw new (children_there g.K.Ord.cmp key g.met.K.Ord.total c.in-Inner.height front p back children gap x.node.value subtree (changes_keeps g.K.Ord.cmp g.H.Hook.gives key (g.C.Change.next_of c.args.change) c.args.hook.now c.change_in_child.new.hook g.met.K.Ord.total r child.node.value.entries x.node.value.entries w.changes));
+      fit = rw new (fit_set front back p x.node.value (subst AreFit whole e.same.fit) w.fit);
+      count = omega (arith, w.count, n.count, ap length e.same.entries, count_is g.K.Ord.cmp _ front back p whole, count_is g.K.Ord.cmp _ front back (child.least, x.node.value) new);
+    }
+
+pub change_in_node-returns-in-Inner : goal.change_in_node-returns-in-Inner
+change_in_node-returns-in-Inner g t c =
+    let n = rw c.in-Inner.is at c.node.invariant in
+    let view = rw c.in-Inner.is at c.node.view_is in
+    let items = c.make_ready.new.children.items in
+    let at = c.in_ok-at-in-Inner.at in
+    let key = g.C.Change.key_of c.args.change in
+    let child = c.index_mut.result.now in
+    let p : Branch _ _ = (child.least, child.node.value) in
+    let e = c.make_ready.ensures in
+    let at_is = c.in_ok-at-in-Inner.ensures in
+    let within : at < length items = omega (arith, at_is.within, c.make_ready.new.children.ok.0) in
+    let first = front_length items at within in
+    let front = branches (take at items) in
+    let back = branches (drop (suc at) items) in
+    let whole = cut_at items at child within c.index_mut.ensures.value in
+    let entries : entries_of (branches items) ≡ c.args.node.now.entries = e.same.entries ∙ ap (λ n. n.entries) view in
+    let children = subst (AreChildren g.K.Ord.cmp c.in-Inner.height) whole e.same.children in
+    let gap = gap_at g.K.Ord.cmp g.met.K.Ord.total key front p back at (subst (λ l. place g.K.Ord.cmp key l ≡ at + 1) whole at_is.place) first in
+    let x = c.change_in_child.new.child in
+    let w = c.change_in_child.ensures in
+    let r = c.change_in_child.result in
+    let new = cut_set items at child x w.least within in
+    record {
+      changes = changes_of g.K.Ord.cmp g.H.Hook.gives key (g.C.Change.next_of c.args.change) c.args.hook.now c.change_in_child.new.hook r _ _ _ _ (ap entries_of (sym whole) ∙ entries) (ap entries_of (sym new)) (changes_there g.K.Ord.cmp g.H.Hook.gives key (g.C.Change.next_of c.args.change) c.args.hook.now c.change_in_child.new.hook g.met.K.Ord.total c.in-Inner.height front p back children gap x.node.value r w.changes);
+      height = ap (λ n. n.height) view;
+      least = omega (arith, ap (λ n. n.items) view, e.least);
+    }
+
+pub change_in_node-invariant_of-node-in_err-at-in-Inner : goal.change_in_node-invariant_of-node-in_err-at-in-Inner
+change_in_node-invariant_of-node-in_err-at-in-Inner g t c =
+    let n = rw c.in-Inner.is at c.node.invariant in
+    let view = rw c.in-Inner.is at c.node.view_is in
+    let e = c.make_ready.ensures in
+    let up = high g.K.Ord.cmp c.in-Inner.height c.in-Inner.children.items (omega (arith, n.some, c.in-Inner.children.ok.0)) n.children in
+    let two = c.requires.two (omega (arith, up, ap (λ n. n.height) view)) in
+    record {
+      some = omega (arith, two, ap (λ n. n.items) view, e.least);
+      most = omega (arith, ap (λ n. n.items) view, c.requires.room, e.most);
+      children = e.same.children;
+      fit = e.same.fit;
+      count = n.count ∙ ap length (sym e.same.entries);
+    }
+
+pub change_in_node-returns-in_err-at-in-Inner : goal.change_in_node-returns-in_err-at-in-Inner
+change_in_node-returns-in_err-at-in-Inner g t c =
+    let view = rw c.in-Inner.is at c.node.view_is in
+    let e = c.make_ready.ensures in
+    record {
+      changes = changes_none g.K.Ord.cmp g.H.Hook.gives (g.C.Change.key_of c.args.change) (g.C.Change.next_of c.args.change) c.args.hook.now c.args.hook.now c.from_residual.result c.from_residual.ensures _ _ (e.same.entries ∙ ap (λ n. n.entries) view) refl;
+      height = ap (λ n. n.height) view;
+      least = omega (arith, ap (λ n. n.items) view, e.least);
+    }
+
+pub change_in_node-invariant_of-node : goal.change_in_node-invariant_of-node
+change_in_node-invariant_of-node g t c =
+    let view = rw c.in-Leaf.is at c.node.view_is in
+    omega (arith, c.make_in_leaf.ensures.most, c.requires.room, ap (λ n. n.items) view)
+
+pub change_in_node-returns-in-Leaf : goal.change_in_node-returns-in-Leaf
+change_in_node-returns-in-Leaf g t c =
+    let view = rw c.in-Leaf.is at c.node.view_is in
+    let e = c.make_in_leaf.ensures in
+    record {
+      changes = rw (← ap (λ n. n.entries) view) e.changes;
+      height = ap (λ n. n.height) view;
+      least = omega (arith, ap (λ n. n.items) view, e.least);
+    }
+
+pub change_in_child-change_in_node-answer-requires : goal.change_in_child-change_in_node-answer-requires
+change_in_child-change_in_node-answer-requires g t c =
+    let same = either_way c.in_ok-subtree.ensures.value in
+    let r = c.requires in
+    let node = c.in_ok-subtree.subtree.now in
+    let ordered : IsOrdered g.K.Ord.cmp node.entries = rw same r.ordered in
+    let room : node.items + gain (g.C.Change.next_of c.args.change) ≤ 16 = rw same r.room in
+    let two : 0 < node.height → loss (g.C.Change.next_of c.args.change) < node.items = λ up. rw same (omega (arith, r.spare)) in
+    let fits : length node.entries + gain (g.C.Change.next_of c.args.change) < 2 ^ 64 = rw same (omega (arith, r.counted, r.fits)) in
+    let can : g.H.Hook.can_ask c.args.hook.now (get g.K.Ord.cmp node.entries (g.C.Change.key_of c.args.change)) (g.C.Change.next_of c.args.change) = rw same r.can_ask in
+    λ κs h. search rules
+
+pub change_in_child-overflow_sub-count : goal.change_in_child-overflow_sub-count
+change_in_child-overflow_sub-count g t c =
+    let same = either_way c.in_ok-subtree.ensures.value in
+    omega (arith, c.count-before.ensures, ap (λ n. length n.entries) same, c.requires.counted)
+
+pub change_in_child-overflow_add-count : goal.change_in_child-overflow_add-count
+change_in_child-overflow_add-count g t c =
+    let same = either_way c.in_ok-subtree.ensures.value in
+    let more = changes_length g.K.Ord.cmp g.H.Hook.gives (g.C.Change.key_of c.args.change) (g.C.Change.next_of c.args.change) c.args.hook.now c.change_in_node-answer.new.hook g.met.K.Ord.total c.change_in_node-answer.result c.in_ok-subtree.subtree.now.entries c.change_in_node-answer.new.node.entries (rw same c.requires.ordered) c.change_in_node-answer.ensures.changes in
+    omega (arith, c.count-before.ensures, c.count.ensures, ap (λ n. length n.entries) same, c.requires.counted, c.requires.fits, more)
+
+pub change_in_child-returns : goal.change_in_child-returns
+change_in_child-returns g t c =
+    let same = either_way c.in_ok-subtree.ensures.value in
+    let kept = c.make_mut.follows.holds c.change_in_node-answer.new.node (rw c.in_ok-subtree.was refl) in
+    let r = c.change_in_node-answer.result in
+    let e = c.change_in_node-answer.ensures in
+    let l = c.len-length.ensures in
+    record {
+      changes = changes_of g.K.Ord.cmp g.H.Hook.gives (g.C.Change.key_of c.args.change) (g.C.Change.next_of c.args.change) c.args.hook.now c.change_in_node-answer.new.hook r _ _ _ _ (ap (λ n. n.entries) same) (sym (ap (λ n. n.entries) kept)) e.changes;
+      least = refl;
+      height = ap (λ n. n.height) kept ∙ e.height ∙ ap (λ n. n.height) same;
+      fit = rw kept (omega (arith, ap (λ n. n.items) same, c.requires.spare, e.least), omega (arith, l.value, l.most), l.filled);
+      count = omega (arith, c.count-before.ensures, c.count.ensures, ap (λ n. length n.entries) same, ap (λ n. length n.entries) kept, c.requires.counted);
+    }

@@ -1,0 +1,272 @@
+//! A put or a removal in place, with a hook.
+ghost use Rattle.std.specs.Prelude.{Option, ◌≡◌, ◌+◌, ◌<◌, ◌≤◌, ◌^◌, length, vec_len, None};
+ghost use Rattle.std.specs.Prelude.{Ok, Err, OnOk, IfOk, IfErr};
+ghost use Rattle.std.specs.Arc.{arc_value};
+ghost use Rattle.cap_value.specs.Memory.{MatchFault};
+ghost use Rattle.cap_tree.specs.Tree.{IsOrdered, get};
+ghost use Rattle.cap_tree.specs.Change.{gain, loss, Changes};
+ghost use Rattle.cap_tree.specs.Root.{IsTop};
+ghost use Rattle.cap_tree.specs.Shape.{branches, place, IsFit};
+ghost use Rattle.cap_tree.specs.Siblings.{AreSiblings, IsRearrangement, HasItems};
+
+use crate::child::child_index_for;
+use crate::grow::grow;
+use crate::hook::{Hook, ask_of_absent, ask_of_present};
+use crate::leaf::search;
+use crate::node::{Child, Link, MOST, Node};
+use crate::rebalance::make_spare;
+use crate::room::insert_in_room;
+use crate::split::make_room;
+use cap_value::{AllocHandle, Exact, Fault, OutOfMemory};
+use std::mem;
+use std::sync::Arc;
+
+/// What becomes of a key: a value is put at it, or its entry is taken out.
+pub(crate) trait Change<K: Ord + Exact + Drop, V: Exact + Drop>: Drop {
+    ghost key_of: { Self → K };
+
+    // The value that the key has afterwards.
+    ghost next_of: { Self → Option V };
+
+    // Sees to it that a root node can gain an item, where the change may put one. A full node is split.
+    fn make_root_ready<A: AllocHandle>(
+        &self,
+        node: &mut Node<K, V, A>,
+        alloc: A,
+    ) -> Result<(), OutOfMemory>
+        requires ordered { IsOrdered K.cmp node.old.entries }
+        requires top { IsTop node.old }
+        ensures entries { node.new.entries ≡ node.old.entries }
+        ensures top { IsTop node.new }
+        ensures room { OnOk result (node.new.items + gain (next_of self.now) ≤ 16) }
+        ensures fits { OnOk result (length node.new.entries + gain (next_of self.now) < 2 ^ 64) };
+
+    // Finds the child into which the key belongs, sees to it that it can gain or lose an item, and answers
+    // which it is then.
+    fn make_ready<A: AllocHandle>(
+        &self,
+        children: &mut Vec<Child<K, V, A>, A>,
+        height: u64,
+    ) -> Result<usize, OutOfMemory>
+        requires some { loss (next_of self.now) < vec_len children.old }
+        requires siblings { AreSiblings K.cmp height (branches children.old.items) }
+        ensures same { IsRearrangement K.cmp height (branches children.old.items)
+            (branches children.new.items) }
+        ensures most { vec_len children.new ≤ vec_len children.old + gain (next_of self.now) }
+        ensures least { vec_len children.old ≤ vec_len children.new + loss (next_of self.now) }
+        ensures within { IfOk result (λ i. i < vec_len children.new) }
+        ensures place { IfOk result (λ i. place K.cmp (key_of self.now) (branches children.new.items) ≡ i + 1) }
+        ensures room { IfOk result (λ i. HasItems (λ n. n + gain (next_of self.now) ≤ 16) i
+            (branches children.new.items)) }
+        ensures spare { IfOk result (λ i. HasItems (λ n. 4 + loss (next_of self.now) ≤ n) i
+            (branches children.new.items)) };
+
+    // Changes the key in a leaf. `hook` is asked once there is room for an entry more, and is shown what has
+    // the key.
+    fn make_in_leaf<A: AllocHandle, H: Hook<V>>(
+        self,
+        entries: &mut Vec<(K, V), A>,
+        hook: &mut H,
+    ) -> Result<Option<V>, Fault<H::Refusal>>
+        requires can_ask { H.can_ask hook.old (get K.cmp entries.old.items (key_of self)) (next_of self) }
+        requires ordered { IsOrdered K.cmp entries.old.items }
+        ensures changes { Changes K.cmp H.gives result entries.old.items (key_of self)
+            (next_of self) entries.new.items hook.old hook.new }
+        ensures most { vec_len entries.new ≤ vec_len entries.old + gain (next_of self) }
+        ensures least { vec_len entries.old ≤ vec_len entries.new + loss (next_of self) };
+}
+
+// The value is put at the key.
+#[derive(Drop)]
+pub(crate) struct Put<K, V> {
+    pub(crate) key: K,
+    pub(crate) value: V,
+}
+
+// The entry at the key is taken out, if there is one.
+#[derive(Drop)]
+pub(crate) struct Take<'a, K> {
+    pub(crate) key: &'a K,
+}
+
+impl<K: Ord + Exact + Drop, V: Exact + Drop> Change<K, V> for Put<K, V> {
+    ghost use Rattle.std.specs.Prelude.{Some};
+
+    ghost key_of = { λ put. put.key };
+
+    ghost next_of = { λ put. Some put.value };
+
+    fn make_root_ready<A: AllocHandle>(
+        &self,
+        node: &mut Node<K, V, A>,
+        alloc: A,
+    ) -> Result<(), OutOfMemory> {
+        // The lengths show how many items and entries there are.
+        let (items, count) = (node.len(), node.count());
+        if count == usize::MAX {
+            return Err(OutOfMemory);
+        }
+        if items == MOST {
+            let at = node.cut_for(&self.key);
+            return grow(node, alloc, at);
+        }
+        Ok(())
+    }
+
+    fn make_ready<A: AllocHandle>(
+        &self,
+        children: &mut Vec<Child<K, V, A>, A>,
+        height: u64,
+    ) -> Result<usize, OutOfMemory> {
+        let at = child_index_for(children, height, &self.key)?;
+        make_room(children, height, at, &self.key)
+    }
+
+    fn make_in_leaf<A: AllocHandle, H: Hook<V>>(
+        self,
+        entries: &mut Vec<(K, V), A>,
+        hook: &mut H,
+    ) -> Result<Option<V>, Fault<H::Refusal>> {
+        let Put { key, value } = self;
+        match search(entries.as_slice(), &key) {
+            Ok(at) => {
+                ask_of_present(hook, &entries[at].1, Some(&value))?;
+                let (_, replaced) = mem::replace(&mut entries[at], (key, value));
+                Ok(Some(replaced))
+            }
+            Err(at) => {
+                entries.try_reserve(1)?;
+                ask_of_absent(hook, Some(&value))?;
+                insert_in_room(entries, at, (key, value));
+                Ok(None)
+            }
+        }
+    }
+}
+
+impl<'a, K: Ord + Exact + Drop, V: Exact + Drop> Change<K, V> for Take<'a, K> {
+    ghost use Rattle.std.specs.Prelude.{None};
+
+    ghost key_of = { λ take. take.key.now };
+
+    ghost next_of = { λ take. None };
+
+    fn make_root_ready<A: AllocHandle>(
+        &self,
+        node: &mut Node<K, V, A>,
+        _alloc: A,
+    ) -> Result<(), OutOfMemory> {
+        // The lengths show how many items and entries there are.
+        let _lengths = (node.len(), node.count());
+        Ok(())
+    }
+
+    fn make_ready<A: AllocHandle>(
+        &self,
+        children: &mut Vec<Child<K, V, A>, A>,
+        height: u64,
+    ) -> Result<usize, OutOfMemory> {
+        let at = child_index_for(children, height, self.key)?;
+        make_spare(children, height, at, self.key)
+    }
+
+    fn make_in_leaf<A: AllocHandle, H: Hook<V>>(
+        self,
+        entries: &mut Vec<(K, V), A>,
+        hook: &mut H,
+    ) -> Result<Option<V>, Fault<H::Refusal>> {
+        match search(entries.as_slice(), self.key) {
+            Ok(at) => {
+                let nothing: Option<V> = None;
+                ask_of_present(hook, &entries[at].1, nothing.as_ref())?;
+                let (_, removed) = entries.remove(at);
+                Ok(Some(removed))
+            }
+            Err(_) => ask_for_none(hook),
+        }
+    }
+}
+
+// Asks the hook where there is nothing to take out.
+pub(crate) fn ask_for_none<V: Drop, H: Hook<V>>(
+    hook: &mut H,
+) -> Result<Option<V>, Fault<H::Refusal>>
+    requires { H.can_ask hook.old None None }
+    ensures allowed { OnOk result (H.gives hook.old None None (Ok tt) hook.new) }
+    ensures refused { IfErr result (λ fault. MatchFault fault (hook.new ≡ hook.old)
+        (λ why. H.gives hook.old None None (Err why) hook.new)) }
+    ensures none { IfOk result (λ o. o ≡ None) }
+{
+    let nothing: Option<V> = None;
+    ask_of_absent(hook, nothing.as_ref())?;
+    Ok(nothing)
+}
+
+// Changes the key in a node that has room for an item more, or can lose one. On the way down shared nodes are
+// copied, full ones are split and underfull ones are refilled from a sibling, which keeps the entries; `hook`
+// is asked at the bottom, where there is room.
+#[cycle(change)]
+pub(crate) fn change_in_node<
+    K: Ord + Exact + Drop,
+    V: Exact + Drop,
+    A: AllocHandle,
+    C: Change<K, V>,
+    H: Hook<V>,
+>(node: &mut Node<K, V, A>, change: C, hook: &mut H) -> Result<Option<V>, Fault<H::Refusal>>
+    requires can_ask { H.can_ask hook.old (get K.cmp node.old.entries (C.key_of change)) (C.next_of change) }
+    requires ordered { IsOrdered K.cmp node.old.entries }
+    requires room { node.old.items + gain (C.next_of change) ≤ 16 }
+    requires two { 0 < node.old.height → loss (C.next_of change) < node.old.items }
+    requires fits { length node.old.entries + gain (C.next_of change) < 2 ^ 64 }
+    ensures changes { Changes K.cmp H.gives result node.old.entries (C.key_of change)
+        (C.next_of change) node.new.entries hook.old hook.new }
+    ensures height { node.new.height ≡ node.old.height }
+    ensures least { node.old.items ≤ node.new.items + loss (C.next_of change) }
+{
+    match &mut node.link {
+        Link::Leaf(entries) => return change.make_in_leaf(entries, hook),
+        Link::Inner(height, count, children) => {
+            let at = change.make_ready(children, *height)?;
+            return change_in_child(&mut children[at], count, change, hook);
+        }
+    }
+}
+
+// Changes the key in a child, becomes the only owner of its node first, and counts its entries anew.
+#[cycle(change)]
+fn change_in_child<
+    K: Ord + Exact + Drop,
+    V: Exact + Drop,
+    A: AllocHandle,
+    C: Change<K, V>,
+    H: Hook<V>,
+>(
+    child: &mut Child<K, V, A>,
+    count: &mut usize,
+    change: C,
+    hook: &mut H,
+) -> Result<Option<V>, Fault<H::Refusal>>
+    requires can_ask { H.can_ask hook.old (get K.cmp (arc_value child.old.node).entries (C.key_of change))
+        (C.next_of change) }
+    requires ordered { IsOrdered K.cmp (arc_value child.old.node).entries }
+    requires fit { IsFit (arc_value child.old.node) }
+    requires room { (arc_value child.old.node).items + gain (C.next_of change) ≤ 16 }
+    requires spare { 4 + loss (C.next_of change) ≤ (arc_value child.old.node).items }
+    requires counted { length (arc_value child.old.node).entries ≤ count.old }
+    requires fits { count.old + gain (C.next_of change) < 2 ^ 64 }
+    ensures changes { Changes K.cmp H.gives result (arc_value child.old.node).entries (C.key_of change)
+        (C.next_of change) (arc_value child.new.node).entries hook.old hook.new }
+    ensures least { child.new.least ≡ child.old.least }
+    ensures height { (arc_value child.new.node).height ≡ (arc_value child.old.node).height }
+    ensures fit { IsFit (arc_value child.new.node) }
+    ensures count { count.new + length (arc_value child.old.node).entries
+        ≡ count.old + length (arc_value child.new.node).entries }
+{
+    let subtree = Arc::make_mut(&mut child.node)?;
+    let before = subtree.count();
+    let answer = change_in_node(subtree, change, hook);
+    *count = *count - before + subtree.count();
+    // The length shows how many entries there are.
+    let _length = subtree.len();
+    answer
+}
