@@ -1,10 +1,7 @@
 -- Hooks of the table inside a tree's change, and what they ask of the caller's hook.
-use Rattle.std.specs.Prelude.{◌≡◌, ℕ, Bool, List, Option, Some, None, Result, Ok, Err}
+use Rattle.std.specs.Prelude.{◌≡◌, Option, Some, None, Result, Ok, Err}
 use Rattle.cap_value.specs.declared.refusal.Refusal.{Refusal as Why}
 use Rattle.cap_value.specs.declared.refusal.Refusal.TheVariants.{Duplicate, NoRow}
-use Rattle.cap_value.specs.declared.value.Value.{Value}
-use Rattle.cap_row.specs.Fields.{Fields}
-use Rattle.cap_row.specs.Row.{with_fields}
 use Rattle.cap_table.specs.declared.not_made.NotMade.{NotMade}
 use Rattle.cap_table.specs.declared.not_made.NotMade.TheVariants.{Refused, OutOfMemory, Vetoed}
 
@@ -30,16 +27,3 @@ module _ {E S : Type 0} where
     abbrev pub GivesIfThere : S → Option V → Option V → Result (Unit {0}) (NotMade E) → S → Type 0
     GivesIfThere old None next answer new = Stops NoRow answer old new
     GivesIfThere old (Some row) next answer new = Passes (λ a t. gives old (Some row) next a t) answer new
-
-module _ {A E S : Type 0}
-    (gives : S → Option (Fields A) → Option (Fields A) → Result (Unit {0}) E → S → Type 0)
-    (flags : List Bool) (changes : List (ℕ × Value A)) where
-  -- the row with these fields set, which the caller's hook allowed; or it refused; or it was not asked
-  abbrev pub GivesRenewed : S → Fields A → Result (Fields A) (NotMade E) → S → Type 0
-  GivesRenewed old row (Ok made) new =
-      (with_fields flags row changes ≡ Ok made) × gives old (Some row) (Some made) (Ok tt) new
-  GivesRenewed old row (Err (Vetoed why)) new =
-      (made : Fields A)
-      × ((with_fields flags row changes ≡ Ok made) × gives old (Some row) (Some made) (Err why) new)
-  GivesRenewed old row (Err (Refused why)) new = (with_fields flags row changes ≡ Err why) × (new ≡ old)
-  GivesRenewed old row (Err OutOfMemory) new = new ≡ old

@@ -1,7 +1,5 @@
 pub mod WithHook
-pub mod Ids
 pub mod Operation
-pub mod Replace
 pub mod Scan
 pub mod Sound
 pub mod Table
