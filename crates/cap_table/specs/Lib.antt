@@ -4,5 +4,4 @@ pub mod Scan
 pub mod Sound
 pub mod Table
 pub mod NotMade
-pub mod Hooked
 pub mod KeptKey

@@ -1,6 +1,5 @@
-//! Operations on rows that have a key. An insert and a delete search once: the tree shows the table's hook the
-//! present row of the key, and the table's hook checks it before it asks the caller's hook. An update looks
-//! the row up first, and makes the new row of it.
+//! Operations on rows that have a key. Each looks the present row up and judges it, and then changes the tree,
+//! which asks the caller's hook.
 ghost use Rattle.std.specs.Prelude.{◌≡◌, Result, Ok, Err, Some, None, IfOk, IfErr, OnOk, OnErr, IsTrue};
 ghost use Rattle.std.specs.Prelude.{length, get_or, is_some, option_map, false};
 ghost use Rattle.std.specs.List.{list_any};
@@ -21,72 +20,6 @@ use crate::{NotMade, RowRef};
 use cap_row::{Key, Row, are_columns, key_of};
 use cap_tree::Hook;
 use cap_value::{AllocHandle, Fault, OutOfMemory, Refusal, Value};
-
-// Refuses a row whose key is taken, and otherwise asks the caller's hook.
-#[derive(Drop)]
-pub(crate) struct IfNew<'a, H> {
-    pub(crate) outer: &'a mut H,
-}
-
-impl<'a, A: AllocHandle, H: Hook<Row<A>>> Hook<Row<A>> for IfNew<'a, H> {
-    type Refusal = NotMade<H::Refusal>;
-
-    ghost use Rattle.std.specs.Prelude.{◌≡◌, None};
-    ghost use Rattle.cap_table.specs.Hooked.{GivesIfNew};
-
-    ghost can_ask = { λ step present next. present ≡ None → H.can_ask step.outer.now None next };
-
-    ghost gives = { λ old present next answer new. (new.outer.ghost_name ≡ old.outer.ghost_name)
-        × GivesIfNew H.gives old.outer.now present next answer new.outer.now };
-
-    fn before_change(
-        &mut self,
-        present: Option<&Row<A>>,
-        next: Option<&Row<A>>,
-    ) -> Result<(), NotMade<H::Refusal>> {
-        match present {
-            Some(_) => Err(NotMade::Refused(Refusal::Duplicate)),
-            None => match self.outer.before_change(present, next) {
-                Ok(()) => Ok(()),
-                Err(why) => Err(NotMade::Vetoed(why)),
-            },
-        }
-    }
-}
-
-// Refuses where there is no row, and otherwise asks the caller's hook.
-#[derive(Drop)]
-pub(crate) struct IfThere<'a, H> {
-    pub(crate) outer: &'a mut H,
-}
-
-impl<'a, A: AllocHandle, H: Hook<Row<A>>> Hook<Row<A>> for IfThere<'a, H> {
-    type Refusal = NotMade<H::Refusal>;
-
-    ghost use Rattle.std.specs.Prelude.{◌≡◌, Some};
-    ghost use Rattle.cap_row.specs.Fields.{Fields};
-    ghost use Rattle.cap_table.specs.Hooked.{GivesIfThere};
-
-    ghost can_ask = { λ step present next. (row : Fields A) → present ≡ Some row
-        → H.can_ask step.outer.now (Some row) next };
-
-    ghost gives = { λ old present next answer new. (new.outer.ghost_name ≡ old.outer.ghost_name)
-        × GivesIfThere H.gives old.outer.now present next answer new.outer.now };
-
-    fn before_change(
-        &mut self,
-        present: Option<&Row<A>>,
-        next: Option<&Row<A>>,
-    ) -> Result<(), NotMade<H::Refusal>> {
-        match present {
-            None => Err(NotMade::Refused(Refusal::NoRow)),
-            Some(_) => match self.outer.before_change(present, next) {
-                Ok(()) => Ok(()),
-                Err(why) => Err(NotMade::Vetoed(why)),
-            },
-        }
-    }
-}
 
 impl<A: AllocHandle> Table<A> {
     /// The primary key of a new row, none where it has none or another width than the table.
@@ -144,12 +77,10 @@ impl<A: AllocHandle> Table<A> {
             (hook.new ≡ hook.old) (λ answer. H.gives hook.old None (Some row) answer hook.new) }
         ensures kept { OnErr result (self.new ≡ self.old) }
     {
-        let mut step = IfNew { outer: hook };
-        match self.keyed.insert_hooked(key, row, &mut step) {
-            Ok(_) => Ok(()),
-            Err(Fault::Refused(why)) => Err(why),
-            Err(Fault::OutOfMemory) => Err(NotMade::OutOfMemory),
+        if self.keyed().get(&key).is_some() {
+            return Err(NotMade::Refused(Refusal::Duplicate));
         }
+        self.put_hooked(key, row, hook)
     }
 
     /// Removes the row of this key if the hook allows it, with `delete`'s refusals. The hook is shown the
@@ -167,14 +98,13 @@ impl<A: AllocHandle> Table<A> {
         ensures kept { OnErr result (self.new ≡ self.old) }
         ensures first { RefusesAtOnce (refused_delete self.old (RowRef.Key key.now)) result }
     {
-        let mut step = IfThere { outer: hook };
-        match self.keyed.remove_hooked(key, &mut step) {
+        if self.keyed().get(key).is_none() {
+            return Err(NotMade::Refused(Refusal::NoRow));
+        }
+        match self.keyed.remove_hooked(key, hook) {
             Ok(_) => Ok(()),
-            Err(Fault::Refused(why)) => Err(why),
-            Err(Fault::OutOfMemory) => match self.keyed.get(key) {
-                Some(_) => Err(NotMade::OutOfMemory),
-                None => Err(NotMade::Refused(Refusal::NoRow)),
-            },
+            Err(Fault::Refused(why)) => Err(NotMade::Vetoed(why)),
+            Err(Fault::OutOfMemory) => Err(NotMade::OutOfMemory),
         }
     }
 
