@@ -23,7 +23,7 @@ use Rattle.cap_table.specs.Sound.{IsRising}
 use Rattle.cap_table.specs.Table.{TableState}
 use Rattle.cap_table.specs.declared.row_ref.RowRef.TheVariants.{Key}
 use Rattle.cap_table.proofs.KeptLemmas.{with_key-rises, without-rises}
-use Rattle.cap_table.proofs.RenewLemmas.{own_row}
+use Rattle.cap_table.proofs.BackLemmas.{own-row}
 use Rattle.cap_table.proofs.TableLemmas.{first, second}
 use Rattle.cap_database.specs.Operation.{act, in_place, step, stepped}
 use Rattle.cap_database.specs.Read.{row_at}
@@ -187,7 +187,7 @@ module _ {A : Type 0} where
     insert-led : (row : Fields A) → row_at now name key ≡ None → row_at left name key ≡ Some row → LedTo left now name key (made_in name (Some (Insert row)) txn)
     insert-led row none some =
         let l = there-of left name key row some in
-        let own = own_row l.table key row (each-found IsRising left name l.table lefts l.is).stand l.found in
+        let own = own-row l.table key row (each-found IsRising left name l.table lefts l.is).stand l.found in
         let b = beside-of left now same name l.table l.is key None none in
         let t = b.0.table in
         let wide : length row ≡ length t.schema = own.0 ∙ ap length (sym b.1) in
@@ -202,11 +202,11 @@ module _ {A : Type 0} where
     update-led : (before row : Fields A) → row_at now name key ≡ Some before → row_at left name key ≡ Some row → LedTo left now name key (made_in name (Some (Update (Key key) (enumerate_from 0 row))) txn)
     update-led before row some to =
         let l = there-of left name key row to in
-        let own = own_row l.table key row (each-found IsRising left name l.table lefts l.is).stand l.found in
+        let own = own-row l.table key row (each-found IsRising left name l.table lefts l.is).stand l.found in
         let b = beside-of left now same name l.table l.is key (Some before) some in
         let t = b.0.table in
         let rises = each-found IsRising now name t each b.0.is in
-        let was = own_row t key before rises.stand b.0.found in
+        let was = own-row t key before rises.stand b.0.found in
         let wide : length row ≡ length t.schema = own.0 ∙ ap length (sym b.1) in
         let its : key_of t.schema row ≡ Some key = ap (λ s. key_of s row) b.1 ∙ own.1 in
         let columns = every_column 0 row in

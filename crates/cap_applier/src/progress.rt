@@ -213,13 +213,8 @@ impl<A: AllocHandle> Progress<A> {
             number: self.number,
             policy: Policy::always(answer),
         };
-        match C::apply_to(
-            change,
-            &mut self.applied,
-            decision,
-            group.table(),
-            group.schema(),
-        ) {
+        let (table, columns) = (group.table(), group.schema());
+        match self.applied.apply_change(change, decision, table, columns) {
             Ok(()) => Ok(self.go_one_further()?),
             Err(fault) => Err(fault),
         }

@@ -1,16 +1,13 @@
--- One change: the operations of the code make the requested change.
-use Rattle.std.proofs.Common.{◌≡◌, ℕ, ◌≤◌, Bool, true, false, cond, Option, Some, None, Result, Ok, Err, List, [], ◌∷◌, ◌++◌, length, map, refl, sym, ap, ◌∙◌, arith}
+-- One change: its table, its conflict, and the operations under a key that make it.
+use Rattle.std.proofs.Common.{◌≡◌, ℕ, ◌≤◌, Bool, true, false, cond, Option, Some, None, Result, Ok, Err, List, [], ◌∷◌, ◌++◌, length, refl, sym, ap, ◌∙◌}
 use Rattle.std.specs.Prelude.{is_some}
-use Rattle.std.proofs.lemmas.List.{length-map}
 use Rattle.cap_value.specs.Bytes.{bytes_cmp}
 use Rattle.cap_value.specs.Memory.{AnswersUnlessMemory, LeavesUnlessMemory}
 use Rattle.cap_value.specs.declared.memory.Fault.{Fault}
 use Rattle.cap_value.specs.declared.memory.Fault.TheVariants.{Refused, OutOfMemory}
 use Rattle.cap_value.specs.declared.refusal.Refusal.{Refusal}
-use Rattle.cap_value.specs.declared.refusal.Refusal.TheVariants.{Duplicate}
 use Rattle.cap_row.specs.Fields.{Fields}
 use Rattle.cap_row.specs.Key.{fields_cmp, key_of}
-use Rattle.cap_row.specs.Schema.{has_key}
 use Rattle.cap_tree.specs.Tree.{get, put_entry}
 use Rattle.cap_table.specs.Table.{TableState}
 use Rattle.cap_table.specs.Operation.{with_key, without}
@@ -19,27 +16,22 @@ use Rattle.cap_database.specs.Operation.{Changed, changes_to}
 use Rattle.cap_database.specs.Tables.{Tables, table_of}
 use Rattle.cap_database.specs.declared.cause.Cause.TheVariants.{Direct}
 use Rattle.cap_database.specs.declared.op.Action.TheVariants.{Insert, Update, Delete}
-use Rattle.cap_database.specs.declared.op.Op.{Op}
-use Rattle.cap_changes.specs.Requirements.{requirements, satisfy}
-use Rattle.cap_changes.specs.Patch.{key_record}
 use Rattle.cap_changes.specs.FieldRecord.{RecordFields}
-use Rattle.cap_changes.specs.declared.patch.Patch.TheVariants as patched
-use Rattle.cap_changes.specs.declared.record_kind.RecordKind.TheVariants as record_kinds
 use Rattle.cap_apply.specs.Applied.{AppliedState}
-use Rattle.cap_apply.specs.Apply.{change_applied, change_at, change_in, change_under, concluded, counted, left_out, noted, with_row_in}
+use Rattle.cap_apply.specs.Apply.{change_applied, change_at, change_in, change_under, noted, with_row_in}
 use Rattle.cap_apply.specs.Requested.{Requested}
 use Rattle.cap_apply.specs.Operated.{operated}
 use Rattle.cap_apply.specs.Operations.{directly}
 use Rattle.cap_apply.specs.Policy.{is_made, made_anyway}
-use Rattle.cap_apply.specs.Row.{assigned_from, conflict_of, key_record_of, key_values, missed, new_row, row_after, set_fields}
+use Rattle.cap_apply.specs.Row.{assigned_from, conflict_of, key_record_of, key_values, missed, set_fields}
 use Rattle.cap_apply.specs.Target.{columns_fit, fitting, target}
 use Rattle.cap_apply.specs.declared.conflict.ConflictKind.{ConflictKind}
-use Rattle.cap_apply.specs.declared.conflict.ConflictKind.TheVariants.{NotFound, Conflict}
+use Rattle.cap_apply.specs.declared.conflict.ConflictKind.TheVariants.{NotFound}
 use Rattle.cap_apply.specs.declared.policy.Answer.{Answer}
 use Rattle.cap_apply.specs.declared.policy.Answer.TheVariants.{Omit, Replace, Abort}
 use Rattle.cap_apply.specs.declared.policy.Policy.{Policy}
-use Rattle.cap_apply.proofs.OperationLemmas.{operated_ok, operated_err, act_insert_new, act_insert_taken, act_update, keys_update, act_delete}
-use Rattle.cap_apply.proofs.RowLemmas.{row_with-assigned, are_columns-assigned, few_fields, key_of-set_fields, key_of-new_row, length-new_row, record_key, set_all}
+use Rattle.cap_apply.proofs.OperationLemmas.{operated_ok, act_insert_new, act_update, keys_update, act_delete}
+use Rattle.cap_apply.proofs.RowLemmas.{row_with-assigned, are_columns-assigned}
 
 module _ {A : Type 0} where
   -- the table that a group is for
@@ -94,10 +86,6 @@ module _ {A : Type 0} where
         operated_ok state name table there (Insert row) (with_key table key row) (act_insert_new table key row wide is none)
         ∙ ap (λ (k : Option (Fields A)). with_rows (with_key table key row) ((k, None) ∷ [])) is
 
-    pub insert_refused : (row before : Fields A) → length row ≡ length table.schema → key_of table.schema row ≡ Some key → get fields_cmp table.keyed key ≡ Some before →
-        operated state (directly name (Insert row)) ≡ Err Duplicate
-    insert_refused row before wide is some = operated_err state name table there (Insert row) Duplicate (act_insert_taken table key row before wide is some)
-
     pub update_is : (fields : RecordFields A) (before row : Fields A) → length fields ≤ length table.schema → get fields_cmp table.keyed key ≡ Some before →
         set_fields fields before ≡ row → key_of table.schema row ≡ Some key →
         operated state (directly name (Update (Key key) (assigned_from 0 fields))) ≡ Ok (with_row_in name table key (Some before) (Some row) state)
@@ -113,17 +101,6 @@ module _ {A : Type 0} where
         operated_ok state name table there (Delete (Key key)) (without table (Key key)) (act_delete table key before found)
         ∙ ap (λ (row : Option (Fields A)). with_rows (without table (Key key)) ((Some key, row) ∷ [])) found
 
--- ---- a change as the code makes it
-
--- a conflict that is refused ends the change as it is refused
-pub judged_err : (X Y : Type 0) {S E : Type 0} (fault : Fault E) (m : Result Y E) (answer : Result S E) (left : S) → ((why : E) → m ≡ Err why → answer ≡ Err why) →
-    AnswersUnlessMemory {X = Y} (Err fault) m → LeavesUnlessMemory {X = X} (Err fault) answer left
-judged_err X Y (Refused why) m answer left f h = f why h
-judged_err X Y OutOfMemory m answer left f h = tt
-
-never : {X E : Type 0} {x : X} {e : E} → Ok x ≡ Err e → ⊥
-never is = cc
-
 pub same_ok : {X E : Type 0} {x y : X} (answer : Result X E) → answer ≡ Ok x → answer ≡ Ok y → x ≡ y
 same_ok answer is is_too = cc
 
@@ -132,12 +109,6 @@ pub answers_err : (X Y : Type 0) {E : Type 0} (fault : Fault E) (a b : Result Y 
     AnswersUnlessMemory {X = Y} (Err fault) b
 answers_err X Y (Refused why) a b left e h = sym e ∙ h
 answers_err X Y OutOfMemory a b left e h = tt
-
--- what is made for certain is not refused
-pub made_err : (X Y : Type 0) {S T E : Type 0} (fault : Fault E) (m : Result T E) (x : T) (now : T) (answer : Result S E) (left : S) → m ≡ Ok x →
-    LeavesUnlessMemory {X = Y} (Err fault) m now → LeavesUnlessMemory {X = X} (Err fault) answer left
-made_err X Y (Refused why) m x now answer left ok h = absurd (never (sym ok ∙ h))
-made_err X Y OutOfMemory m x now answer left ok h = tt
 
 -- there is nothing to replace where no row was found
 no_replacement : (number : ℕ) (answer : Answer) → made_anyway number NotFound answer ≡ Ok true → ⊥
@@ -150,129 +121,3 @@ module _ {A : Type 0} where
       is_made policy number (missed flags old before) ≡ Ok true → (row : Fields A) × (before ≡ Some row)
   missed_made policy number flags old None e = absurd (no_replacement number policy.on_notfound e)
   missed_made policy number flags old (Some row) e = (row, refl)
-
-  module _ (policy : Policy) (number : ℕ) (name : List ℕ) (flags : List Bool) (state : AppliedState A) (h : HasTarget state.database name flags) where
-    -- the states that a judged conflict leaves
-    abbrev pub judged : Option ConflictKind → Bool → AppliedState A
-    judged conflict made = cond made (noted policy number conflict state) (left_out number (noted policy number conflict state))
-
-    -- a change made by an operation: what the operation leaves, and that it is the requested change
-    abbrev pub MadeBy : Requested A → AppliedState A → Op A → Type 0
-    MadeBy requested mid op = (x : AppliedState A) × (operated mid op ≡ Ok x) × (change_applied policy number name flags requested state ≡ Ok (counted x))
-
-    module _ (requested : Requested A) (before : Option (Fields A)) (conflict : Option ConflictKind)
-        (found : get fields_cmp h.table.keyed (key_values flags (key_record_of requested.patch)) ≡ before) (met : conflict_of flags requested.old requested.patch before ≡ conflict) where
-      pub change_refused : (why : Refusal) → is_made policy number conflict ≡ Err why → change_applied policy number name flags requested state ≡ Err why
-      change_refused why e =
-          applied_at policy number name flags requested state h before conflict found met
-          ∙ ap (λ m. concluded m (counted (with_row_in name h.table (key_values flags (key_record_of requested.patch)) before (row_after (length h.table.schema) requested.patch before) (noted policy number conflict state))) (left_out number (noted policy number conflict state))) e
-
-      change_made : is_made policy number conflict ≡ Ok true → change_applied policy number name flags requested state
-          ≡ Ok (counted (with_row_in name h.table (key_values flags (key_record_of requested.patch)) before (row_after (length h.table.schema) requested.patch before) (noted policy number conflict state)))
-      change_made e =
-          applied_at policy number name flags requested state h before conflict found met
-          ∙ ap (λ m. concluded m (counted (with_row_in name h.table (key_values flags (key_record_of requested.patch)) before (row_after (length h.table.schema) requested.patch before) (noted policy number conflict state))) (left_out number (noted policy number conflict state))) e
-
-    module _ (keyed : has_key flags ≡ true) (indirect : Bool) where
-      pub update_made : (old new : RecordFields A) (before : Option (Fields A)) (conflict : Option ConflictKind) (made : Bool) (mid : AppliedState A) (op : Op A) →
-          satisfy (requirements record_kinds.Keyed flags) new ≡ true → get fields_cmp h.table.keyed (key_values flags new) ≡ before →
-          ((row : Fields A) → before ≡ Some row → length row ≡ length h.table.schema) → missed flags old before ≡ conflict → made ≡ true →
-          is_made policy number conflict ≡ Ok made → mid ≡ judged conflict made → op ≡ directly name (Update (Key (key_values flags new)) (assigned_from 0 new)) →
-          MadeBy (record { old = old; patch = patched.Update indirect new }) mid op
-      update_made old new before conflict false mid op fits found wide met agreed e mid_is op_is = cc
-      update_made old new before conflict true mid op fits found wide met agreed e mid_is op_is =
-          let kept = noted policy number conflict state in
-          let present = missed_made policy number flags old before (ap (is_made policy number) met ∙ e) in
-          let row = present.0 in
-          let there = found ∙ present.1 in (
-            with_row_in name h.table (key_values flags new) (Some row) (Some (set_fields new row)) kept,
-            (λ i. operated (mid_is i) (op_is i))
-                ∙ update_is kept name h.table (noted_there policy number conflict state name h.table h.there) (key_values flags new) new row (set_fields new row)
-                (few_fields flags h.table.schema new h.fit keyed fits) there refl (key_of-set_fields flags h.table.schema new h.fit keyed fits row (wide row present.1)),
-            change_made (record { old = old; patch = patched.Update indirect new }) (Some row) conflict there (ap (missed flags old) (sym present.1) ∙ met) e,
-          )
-
-      pub overwrite_made : (new : RecordFields A) (row before : Fields A) (made : Bool) (mid : AppliedState A) (op : Op A) →
-          satisfy (requirements record_kinds.Keyed flags) new ≡ true → row ≡ new_row (length h.table.schema) new → get fields_cmp h.table.keyed (key_values flags new) ≡ Some before →
-          length before ≡ length h.table.schema → made ≡ true → is_made policy number (Some Conflict) ≡ Ok made → mid ≡ judged (Some Conflict) made →
-          op ≡ directly name (Update (Key (key_values flags new)) (assigned_from 0 (map Some row))) →
-          MadeBy (record { old = []; patch = patched.Insert indirect new }) mid op
-      overwrite_made new row before false mid op fits row_is found wide agreed e mid_is op_is = cc
-      overwrite_made new row before true mid op fits row_is found wide agreed e mid_is op_is =
-          let kept = noted policy number (Some Conflict) state in
-          let whole = new_row (length h.table.schema) new in
-          let width : length whole ≡ length h.table.schema = length-new_row flags h.table.schema new h.fit keyed fits in
-          let few : length (map Some whole) ≤ length h.table.schema = rw (length-map whole Some) (omega (arith, width)) in (
-            with_row_in name h.table (key_values flags new) (Some before) (Some whole) kept,
-            (λ i. operated (mid_is i) (op_is i))
-                ∙ ap (λ (r : Fields A). operated kept (directly name (Update (Key (key_values flags new)) (assigned_from 0 (map Some r))))) row_is
-                ∙ update_is kept name h.table h.there (key_values flags new) (map Some whole) before whole few found (set_all whole before (wide ∙ sym width))
-                (key_of-new_row flags h.table.schema new h.fit keyed fits),
-            change_made (record { old = []; patch = patched.Insert indirect new }) (Some before) (Some Conflict) found refl e,
-          )
-
-      module _ (new : RecordFields A) (row : Fields A) (op : Op A) (fits : satisfy (requirements record_kinds.Keyed flags) new ≡ true) (row_is : row ≡ new_row (length h.table.schema) new)
-          (op_is : op ≡ directly name (Insert row)) where
-        op_whole : op ≡ directly name (Insert (new_row (length h.table.schema) new))
-        op_whole = op_is ∙ ap (λ (r : Fields A). directly name (Insert r)) row_is
-
-        put_in : get fields_cmp h.table.keyed (key_values flags new) ≡ None →
-            operated state op ≡ Ok (with_row_in name h.table (key_values flags new) None (Some (new_row (length h.table.schema) new)) state)
-        put_in none =
-            ap (operated state) op_whole
-            ∙ insert_is state name h.table h.there (key_values flags new) (new_row (length h.table.schema) new) (length-new_row flags h.table.schema new h.fit keyed fits)
-            (key_of-new_row flags h.table.schema new h.fit keyed fits) none
-
-        kept_out : (before : Fields A) → get fields_cmp h.table.keyed (key_values flags new) ≡ Some before → operated state op ≡ Err Duplicate
-        kept_out before some =
-            ap (operated state) op_whole
-            ∙ insert_refused state name h.table h.there (key_values flags new) (new_row (length h.table.schema) new) before (length-new_row flags h.table.schema new h.fit keyed fits)
-            (key_of-new_row flags h.table.schema new h.fit keyed fits) some
-
-        made_if_free : (next : AppliedState A) → operated state op ≡ Ok next → (before : Option (Fields A)) → get fields_cmp h.table.keyed (key_values flags new) ≡ before →
-            change_applied policy number name flags (record { old = []; patch = patched.Insert indirect new }) state ≡ Ok (counted next)
-        made_if_free next ok None none =
-            applied_at policy number name flags (record { old = []; patch = patched.Insert indirect new }) state h None None none refl
-            ∙ ap (λ (s : AppliedState A). Ok (counted s)) (same_ok (operated state op) (put_in none) ok)
-        made_if_free next ok (Some before) some = absurd (never (sym ok ∙ kept_out before some))
-
-        pub insert_made : (next : AppliedState A) → operated state op ≡ Ok next →
-            change_applied policy number name flags (record { old = []; patch = patched.Insert indirect new }) state ≡ Ok (counted next)
-        insert_made next ok = made_if_free next ok (get fields_cmp h.table.keyed (key_values flags new)) refl
-
-        taken_if_refused : (why : Refusal) → operated state op ≡ Err why → (before : Option (Fields A)) → get fields_cmp h.table.keyed (key_values flags new) ≡ before →
-            is_some before ≡ true
-        taken_if_refused why err None none = absurd (never (sym (put_in none) ∙ err))
-        taken_if_refused why err (Some before) some = refl
-
-        pub insert_is_taken : (why : Refusal) → operated state op ≡ Err why → is_some (get fields_cmp h.table.keyed (key_values flags new)) ≡ true
-        insert_is_taken why err = taken_if_refused why err (get fields_cmp h.table.keyed (key_values flags new)) refl
-
-    pub delete_made : (indirect : Bool) (old key : RecordFields A) (before : Option (Fields A)) (conflict : Option ConflictKind) (made : Bool) (mid : AppliedState A) (op : Op A) →
-        get fields_cmp h.table.keyed (key_values flags key) ≡ before → missed flags old before ≡ conflict → made ≡ true →
-        is_made policy number conflict ≡ Ok made → mid ≡ judged conflict made → op ≡ directly name (Delete (Key (key_values flags key))) →
-        MadeBy (record { old = old; patch = patched.Delete indirect key }) mid op
-    delete_made indirect old key before conflict false mid op found met agreed e mid_is op_is = cc
-    delete_made indirect old key before conflict true mid op found met agreed e mid_is op_is =
-        let kept = noted policy number conflict state in
-        let present = missed_made policy number flags old before (ap (is_made policy number) met ∙ e) in
-        let there = found ∙ present.1 in (
-          with_row_in name h.table (key_values flags key) (Some present.0) None kept,
-          (λ i. operated (mid_is i) (op_is i))
-              ∙ delete_is kept name h.table (noted_there policy number conflict state name h.table h.there) (key_values flags key) present.0 there,
-          change_made (record { old = old; patch = patched.Delete indirect key }) (Some present.0) conflict there (ap (missed flags old) (sym present.1) ∙ met) e,
-        )
-
-    -- a delete requests the same whether its record has the key fields only or all of them
-    delete_in : (indirect : Bool) (old : RecordFields A) (found : Option (TableState A)) →
-        change_in policy number name flags (record { old = old; patch = patched.Delete indirect old }) found state
-        ≡ change_in policy number name flags (record { old = old; patch = patched.Delete indirect (key_record flags old) }) found state
-    delete_in indirect old None = refl
-    delete_in indirect old (Some table) =
-        ap (λ (k : Fields A). change_under policy number name flags (record { old = old; patch = patched.Delete indirect old }) table k (get fields_cmp table.keyed k) state)
-        (sym (record_key flags old))
-
-    pub delete_asked : (indirect : Bool) (old : RecordFields A) →
-        change_applied policy number name flags (record { old = old; patch = patched.Delete indirect old }) state
-        ≡ change_applied policy number name flags (record { old = old; patch = patched.Delete indirect (key_record flags old) }) state
-    delete_asked indirect old = delete_in indirect old (target state.database name flags)

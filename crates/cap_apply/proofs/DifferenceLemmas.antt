@@ -9,7 +9,7 @@ use Rattle.cap_tree.specs.Tree.{IsOrdered, get, put_entry}
 use Rattle.cap_tree.proofs.EntryLemmas.{ordered_take}
 use Rattle.cap_table.specs.Table.{TableState}
 use Rattle.cap_database.specs.Tables.{Tables, table_of}
-use Rattle.cap_database.proofs.PlaceLemmas.{ordered_put}
+use Rattle.cap_tree.proofs.EntryLemmas.{ordered_put}
 use Rattle.cap_changes.specs.Patch.{patch_of}
 use Rattle.cap_changes.proofs.ChangeLemmas.{other_order}
 use Rattle.cap_apply.specs.Applied.{AppliedState}

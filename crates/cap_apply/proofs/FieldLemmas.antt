@@ -23,8 +23,6 @@ use Rattle.cap_changes.specs.declared.record_kind.RecordKind.TheVariants.{Full}
 use Rattle.cap_changes.proofs.PassLemmas.{flags-cons, flags-past}
 use Rattle.cap_changes.proofs.PutLemmas.{put_all, put_on}
 use Rattle.cap_changes.proofs.WholeLemmas.{undefined}
-use Rattle.cap_changes.proofs.FitLemmas.{full_keyed}
-use Rattle.cap_apply.proofs.RowLemmas.{keyed_length}
 use Rattle.cap_apply.specs.Row.{has_old_value, has_old_values, key_values, set_fields}
 
 some_given : (field : List ℕ) → field ≡ 0 ∷ [] → bytes_eq field (0 ∷ []) ≡ false → ⊥
@@ -42,27 +40,6 @@ module _ {A : Type 0} where
 
   pub key_done : (flags : List Bool) (i : ℕ) (fields : RecordFields A) (made all : Fields A) → length flags ≤ i → made ++ key_values (drop i flags) fields ≡ all → made ≡ all
   key_done flags i fields made all le so_far = put_all made (key_values (drop i flags) fields) all (ap (λ f. key_values f fields) (flags-past flags i le)) so_far
-
-  -- the field of one more column
-  key_next : (flags : List Bool) (i : ℕ) (fields rest : RecordFields A) (field : Option (Value A)) → i < length flags → fields ≡ field ∷ rest →
-      key_values (drop i flags) fields ≡ option_to_list (if get_or flags i false then field else None) ++ key_values (drop (i + 1) flags) rest
-  key_next flags i fields rest field lt is = (λ k. key_values (flags-cons flags i lt k) (is k)) ∙ of_column (get_or flags i false) field
-    where
-      of_column : (flag : Bool) (field : Option (Value A)) → key_values (flag ∷ drop (i + 1) flags) (field ∷ rest) ≡ option_to_list (if flag then field else None) ++ key_values (drop (i + 1) flags) rest
-      of_column true None = refl
-      of_column false None = refl
-      of_column true (Some value) = refl
-      of_column false (Some value) = refl
-
-  pub key_passed : (flags : List Bool) (i : ℕ) (fields rest : RecordFields A) (field : Option (Value A)) (made all : Fields A) → i < length flags → fields ≡ field ∷ rest → (if get_or flags i false then field else None) ≡ None
-      → made ++ key_values (drop i flags) fields ≡ all → made ++ key_values (drop (i + 1) flags) rest ≡ all
-  key_passed flags i fields rest field made all lt is none so_far =
-      sym (ap (λ (l : Fields A). made ++ l) (key_next flags i fields rest field lt is ∙ ap (λ (o : Option (Value A)). option_to_list o ++ key_values (drop (i + 1) flags) rest) none)) ∙ so_far
-
-  pub key_found : (flags : List Bool) (i : ℕ) (fields rest : RecordFields A) (field : Option (Value A)) (value : Value A) (all : Fields A) → i < length flags → fields ≡ field ∷ rest → (if get_or flags i false then field else None) ≡ Some value
-      → key_values (drop i flags) fields ≡ all → value ∷ key_values (drop (i + 1) flags) rest ≡ all
-  key_found flags i fields rest field value all lt is some so_far =
-      sym (key_next flags i fields rest field lt is ∙ ap (λ (o : Option (Value A)). option_to_list o ++ key_values (drop (i + 1) flags) rest) some) ∙ so_far
 
   -- the key is one value
   pub only_is : {V : Type 0} (shows : V → Value A) (only : Option V) (all : Fields A) → option_to_list (option_map shows only) ≡ all → IfSome only (λ value. all ≡ shows value ∷ [])
@@ -164,9 +141,6 @@ module _ {A : Type 0} where
   full_defined (true ∷ flags) (Some value ∷ fields) met = full_defined flags fields (and_parts (satisfies Key (Some value)) (satisfy (requirements Full flags) fields) met).1
   full_defined (false ∷ flags) (None ∷ fields) met = cc
   full_defined (false ∷ flags) (Some value ∷ fields) met = full_defined flags fields met
-
-  pub full_wide : (flags : List Bool) (fields : RecordFields A) → satisfy (requirements Full flags) fields ≡ true → length fields ≡ length flags
-  full_wide flags fields met = keyed_length flags fields (full_keyed flags fields met)
 
   full_values : (values : Fields A) → map (λ field. unwrap_or field Null) (full_record values) ≡ values
   full_values [] = refl

@@ -4,8 +4,7 @@ use Rattle.std.specs.Prelude.{is_some}
 use Rattle.std.specs.Cmp.{Equal-is, tied_itself}
 use Rattle.std.proofs.lemmas.Bool.Decides.{nat_tests}
 use Rattle.cap_value.specs.Bytes.{bytes_cmp}
-use Rattle.cap_value.specs.declared.refusal.Refusal.{Refusal}
-use Rattle.cap_value.specs.declared.refusal.Refusal.TheVariants.{BadColumn, Duplicate, NoRow, WrongWidth}
+use Rattle.cap_value.specs.declared.refusal.Refusal.TheVariants.{BadColumn, NoRow, WrongWidth}
 use Rattle.cap_row.specs.Fields.{Fields}
 use Rattle.cap_row.specs.Key.{fields_cmp, fields_cmp_total, fields_eq, key_of}
 use Rattle.cap_row.specs.Row.{are_columns, columns_of, row_with}
@@ -38,11 +37,6 @@ module _ {A : Type 0} where
         ∙ ap (λ after. operated_by state (directly name action) (in_place state.database name after)) is
         ∙ ap (λ found. Ok (record state { database = put_entry bytes_cmp state.database name next; changes = state.changes ++ changes_in found (directly name action) })) there
 
-    pub operated_err : (action : Action A) (why : Refusal) → act table action ≡ Err why → operated state (directly name action) ≡ Err why
-    operated_err action why is =
-        ap (λ found. operated_by state (directly name action) (stepped state.database found (directly name action))) there
-        ∙ ap (λ after. operated_by state (directly name action) (in_place state.database name after)) is
-
   module _ (table : TableState A) (key row : Fields A) where
     act_insert : length row ≡ length table.schema → key_of table.schema row ≡ Some key → act table (Insert row) ≡ under_key (is_some (get fields_cmp table.keyed key)) table key row
     act_insert wide is =
@@ -51,9 +45,6 @@ module _ {A : Type 0} where
 
     pub act_insert_new : length row ≡ length table.schema → key_of table.schema row ≡ Some key → get fields_cmp table.keyed key ≡ None → act table (Insert row) ≡ Ok (with_key table key row)
     act_insert_new wide is none = act_insert wide is ∙ ap (λ (found : Option (Fields A)). under_key (is_some found) table key row) none
-
-    pub act_insert_taken : (before : Fields A) → length row ≡ length table.schema → key_of table.schema row ≡ Some key → get fields_cmp table.keyed key ≡ Some before → act table (Insert row) ≡ Err Duplicate
-    act_insert_taken before wide is some = act_insert wide is ∙ ap (λ (found : Option (Fields A)). under_key (is_some found) table key row) some
 
     own : fields_eq key key ≡ true
     own = (Equal-is (fields_cmp key key)).1 (tied_itself fields_cmp_total key)

@@ -21,7 +21,8 @@ use Rattle.cap_database.specs.Tables.{Tables, schema_of, table_of}
 use Rattle.cap_database.specs.declared.cause.Cause.TheVariants.{Direct}
 use Rattle.cap_database.specs.declared.change.Change.{Change}
 use Rattle.cap_database.proofs.KeptLemmas.{schema_of-put}
-use Rattle.cap_database.proofs.StayLemmas.{either_false, fields_same, found-in, found-row, get-put-other, get-take-other, named-table, other_false, other_key, put-stays, same_found, unnamed-rows}
+use Rattle.cap_table.proofs.TableLemmas.{fields_same}
+use Rattle.cap_database.proofs.StayLemmas.{either_false, found-in, found-row, get-put-other, get-take-other, named-table, other_false, other_key, put-stays, same_found, unnamed-rows}
 use Rattle.cap_changes.specs.Entries.{TableEntries}
 use Rattle.cap_codec.specs.declared.read.Contents.{Contents}
 use Rattle.cap_apply.specs.Applied.{AppliedState}

@@ -2,7 +2,6 @@ pub mod Applied
 pub mod Apply
 pub mod Requested
 pub mod Captured
-pub mod Counted
 pub mod Difference
 pub mod Fitting
 pub mod KeyRecord
@@ -12,6 +11,4 @@ pub mod Operations
 pub mod Policy
 pub mod Report
 pub mod Row
-pub mod Steps
 pub mod Target
-pub mod Updated

@@ -1,23 +1,14 @@
 //! The result of applying a blob, and its steps.
-ghost use Rattle.std.specs.Prelude.{◌≡◌, [], ◌∷◌, Some, None, Ok, IfOk, IfSome, IfNone, IsTrue, OnOk};
-ghost use Rattle.std.specs.Prelude.{if◌then◌else◌, is_some, true};
-ghost use Rattle.std.specs.Option.{option_map};
+ghost use Rattle.std.specs.Prelude.{◌≡◌, [], ◌∷◌, Some, IfOk, IfSome, IsTrue, OnOk, if◌then◌else◌, is_some};
 ghost use Rattle.cap_value.specs.Memory.{AnswersUnlessMemory};
-ghost use Rattle.cap_row.specs.Fields.{Fields};
-ghost use Rattle.cap_database.specs.Keyed.{GoesBack, IsOwnRow};
-ghost use Rattle.cap_database.specs.Read.{row_at};
+ghost use Rattle.cap_database.specs.Keyed.{IsOwnRow};
 ghost use Rattle.cap_database.specs.Tables.{table_of};
 ghost use Rattle.cap_apply.specs.Apply.{counted, left_out, noted, nothing_applied, skipped};
-ghost use Rattle.cap_apply.specs.Merged.{merged, row_put};
+ghost use Rattle.cap_apply.specs.Merged.{merged, row_replaced, with_changes};
 ghost use Rattle.cap_apply.specs.Policy.{is_made};
-ghost use Rattle.cap_apply.specs.Row.{missed, set_fields};
-ghost use Rattle.cap_apply.specs.Steps.{placed, placed_if_made, with_changes};
 ghost use Rattle.cap_apply.specs.Target.{target};
-ghost use Rattle.cap_apply.specs.declared.conflict.ConflictKind.TheVariants.{NotFound};
-ghost use Rattle.cap_changes.specs.Patch.{update_record};
 
 use crate::decision::Decision;
-use crate::replace::{NotUpdated, RowUpdate};
 use crate::target::has_target;
 use crate::{Answer, Conflict, ConflictKind, Report};
 use cap_database::{Cause, Change, Database};
@@ -166,7 +157,7 @@ impl<A: AllocHandle> Applied<A> {
         requires own { IsOwnRow self.old.database table.now key row }
         ensures { OnOk result (self.new ≡ merged number kind table.now key row self.old) }
     {
-        self.put_and_add(table, key, row)?;
+        self.set_row(table, key, Some(row))?;
         self.report.note(Conflict {
             change: number,
             kind,
@@ -175,84 +166,33 @@ impl<A: AllocHandle> Applied<A> {
         self.report.omit(number)
     }
 
-    // Puts a row under its key, and adds the changes of it and of the replaced row.
-    fn put_and_add(&mut self, table: &Name<A>, key: Key<A>, row: Row<A>) -> Result<(), OutOfMemory>
-        requires there { IsTrue (is_some (table_of self.old.database table.now)) }
-        requires own { IsOwnRow self.old.database table.now key row }
-        ensures { OnOk result (self.new ≡ row_put table.now key row self.old) }
-    {
-        match self.put(table, key.copy()?, row)? {
-            Some(old) => self.add_replacement(table, key, Some(old)),
-            None => self.add_change(table, key, None),
-        }
-    }
-
-    // Puts a row under its key and answers the replaced row, which may be put back.
-    pub(crate) fn put(
+    // Puts this row under its key, or takes out the row that is there, and adds the changes of both rows.
+    pub(crate) fn set_row(
         &mut self,
         table: &Name<A>,
         key: Key<A>,
-        row: Row<A>,
-    ) -> Result<Option<Row<A>>, OutOfMemory>
+        after: Option<Row<A>>,
+    ) -> Result<(), OutOfMemory>
         requires there { IsTrue (is_some (table_of self.old.database table.now)) }
-        requires own { IsOwnRow self.old.database table.now key row }
-        ensures state { OnOk result (self.new ≡ placed table.now key (Some row) self.old) }
-        ensures before { IfOk result (λ before. before ≡ row_at self.old.database table.now key) }
-        ensures back { IfOk result (λ before.
-            IfSome before (GoesBack self.old.database self.new.database table.now key)) }
+        requires own { IfSome after (IsOwnRow self.old.database table.now key) }
+        ensures { OnOk result (self.new ≡ row_replaced table.now key after self.old) }
     {
-        self.database.put_row(table, key, row)
-    }
-
-    // Replaces the row of a key by the row after an update, where there is a row and the policy applies the
-    // update to it. Answers the replaced row, and the conflict.
-    pub(crate) fn replace_present_row(
-        &mut self,
-        table: &Name<A>,
-        key: &Key<A>,
-        update: RowUpdate<'_, A>,
-    ) -> Result<(Option<Row<A>>, Option<ConflictKind>), OutOfMemory>
-        requires there { IsTrue (is_some (table_of self.old.database table.now)) }
-        requires own { (row : Fields A) → IsOwnRow self.old.database table.now key.now row
-            → IsOwnRow self.old.database table.now key.now
-            (set_fields (update_record update.flags.now update.key.now update.new.now) row) }
-        requires unknown { update.conflict ≡ Some NotFound }
-        ensures conflict { IfOk result (λ replaced. missed update.entry.flags.now update.entry.old.now
-            (row_at self.old.database table.now key.now) ≡ replaced.1) }
-        ensures state { IfOk result (λ replaced. self.new ≡ placed_if_made
-            (is_made update.entry.decision.policy update.entry.decision.number replaced.1) table.now key.now
-            (option_map (set_fields (update_record update.entry.flags.now update.entry.key.now
-            update.entry.new.now)) (row_at self.old.database table.now key.now)) self.old) }
-        ensures before { IfOk result (λ replaced.
-            is_made update.entry.decision.policy update.entry.decision.number replaced.1 ≡ Ok true
-            → replaced.0 ≡ row_at self.old.database table.now key.now) }
-    {
-        let mut step = update;
-        match self.database.replace_row(table, key, &mut step) {
-            Ok(before) => Ok((before, step.conflict)),
-            Err(Fault::Refused(NotUpdated::Unwanted)) => Ok((None, step.conflict)),
-            Err(_) => Err(OutOfMemory),
+        match after {
+            Some(row) => {
+                if let Some(before) = self.database.put_row(table, key.copy()?, row)? {
+                    self.add_change(table, key.copy()?, Some(before))?;
+                }
+                self.add_change(table, key, None)
+            }
+            None => match self.database.take_row(table, &key)? {
+                Some(before) => self.add_change(table, key, Some(before)),
+                None => Ok(()),
+            },
         }
     }
 
-    // Takes the row of a key out and answers it. It may be put back.
-    pub(crate) fn take(
-        &mut self,
-        table: &Name<A>,
-        key: &Key<A>,
-    ) -> Result<Option<Row<A>>, OutOfMemory>
-        requires there { IsTrue (is_some (table_of self.old.database table.now)) }
-        ensures state { OnOk result (self.new ≡ placed table.now key.now None self.old) }
-        ensures before { IfOk result (λ before. before ≡ row_at self.old.database table.now key.now) }
-        ensures none { IfOk result (λ before. IfNone before (self.new ≡ self.old)) }
-        ensures back { IfOk result (λ before.
-            IfSome before (GoesBack self.old.database self.new.database table.now key.now)) }
-    {
-        self.database.take_row(table, key)
-    }
-
-    // Adds the change of an inserted row, or of a deleted one, which was there before.
-    pub(crate) fn add_change(
+    // Adds the change of a row that comes, or of one that goes, which was there before.
+    fn add_change(
         &mut self,
         table: &Name<A>,
         key: Key<A>,
@@ -267,19 +207,5 @@ impl<A: AllocHandle> Applied<A> {
             before,
         })?;
         Ok(())
-    }
-
-    // Adds the two changes of a replaced row.
-    pub(crate) fn add_replacement(
-        &mut self,
-        table: &Name<A>,
-        key: Key<A>,
-        before: Option<Row<A>>,
-    ) -> Result<(), OutOfMemory>
-        ensures { OnOk result (self.new
-            ≡ with_changes table.now ((Some key, before) ∷ (Some key, None) ∷ []) self.old) }
-    {
-        self.add_change(table, key.copy()?, before)?;
-        self.add_change(table, key, None)
     }
 }

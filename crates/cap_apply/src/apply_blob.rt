@@ -79,7 +79,7 @@ fn apply_group<C: BlobChange<A>, A: AllocHandle>(
     let mut number = number;
     for change in group.changes() {
         let decision = Decision { number, policy };
-        C::apply_to(&change, applied, decision, table, columns)?;
+        applied.apply_change(&change, decision, table, columns)?;
         number += 1;
     }
     Ok(())

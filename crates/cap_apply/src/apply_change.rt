@@ -1,135 +1,66 @@
-//! Applying one change. An insert and a delete are made at once, and undone where the row that was found is a
-//! conflict and the policy omits the change. An update is judged where its row is found. So the key is
-//! searched once.
-ghost use Rattle.std.specs.Prelude.{◌≡◌, [], Bool, IsTrue, is_some};
-ghost use Rattle.cap_row.specs.Key.{is_key};
+//! Applying one change: the row under its key is looked at and its conflict is judged. Where the change is to
+//! be made, the row that it leaves then stands in the place of that row.
+ghost use Rattle.std.specs.Prelude.{◌≡◌, Some, IfOk, IfSome, IsTrue, is_some, length};
 ghost use Rattle.cap_row.specs.Schema.{has_key};
+ghost use Rattle.cap_table.specs.Table.{TableState};
 ghost use Rattle.cap_value.specs.Memory.{LeavesUnlessMemory};
-ghost use Rattle.cap_changes.specs.Requirements.{requirements, satisfy};
-ghost use Rattle.cap_changes.specs.Patch.{update_record};
-ghost use Rattle.cap_changes.specs.declared.patch.Patch.TheVariants as patched;
-ghost use Rattle.cap_changes.specs.declared.record_kind.RecordKind.TheVariants as record_kinds;
+ghost use Rattle.cap_database.specs.Read.{row_at};
+ghost use Rattle.cap_database.specs.Tables.{table_of};
 ghost use Rattle.cap_apply.specs.Apply.{change_applied};
-ghost use Rattle.cap_apply.specs.Row.{key_values};
 ghost use Rattle.cap_apply.specs.Target.{target};
 
 use crate::decision::Decision;
-use crate::fields::{key_of_fields, new_row};
-use crate::replace::RowUpdate;
-use crate::row_conflict::missed;
-use crate::target::width_of;
-use crate::{Applied, ConflictKind};
-use cap_changes::RecordRef;
-use cap_row::Schema;
-use cap_value::{AllocHandle, Fault, Name, Refusal};
+use crate::{Applied, BlobChange};
+use cap_changes::EntryRef;
+use cap_row::{Key, Row, Schema};
+use cap_value::{AllocHandle, Fault, Name, OutOfMemory, Refusal};
 
 impl<A: AllocHandle> Applied<A> {
-    // An insert. The row is put at once, and the row that it replaced is put back where the change is
-    // omitted.
-    pub(crate) fn insert(
+    /// Applies a change of a group of this table and these columns, after what was applied before it.
+    pub fn apply_change<C: BlobChange<A>>(
         &mut self,
+        change: &EntryRef<'_, C>,
         decision: Decision,
         table: &Name<A>,
         columns: &Schema<A>,
-        new: &RecordRef<'_, A>,
     ) -> Result<(), Fault<Refusal>>
         requires keyed { IsTrue (has_key columns.now) }
-        requires fits { IsTrue (satisfy (requirements record_kinds.Full columns.now) new.now) }
+        requires fits { IsTrue (C.fits_in columns.now change.now) }
         requires target { IsTrue (is_some (target self.old.database table.now columns.now)) }
-        ensures { (indirect : Bool) →
-            LeavesUnlessMemory result (change_applied decision.policy decision.number
-            table.now columns.now (record { old = []; patch = patched.Insert indirect new.now }) self.old)
-            self.new }
+        ensures { LeavesUnlessMemory result
+            (change_applied decision.policy decision.number table.now columns.now
+            (C.requested columns.now change.now) self.old) self.new }
     {
-        let width = width_of(self.database(), table);
-        let row = new_row(self.alloc(), width, columns.flags(), new)?;
-        let key = key_of_fields(self.alloc(), columns.flags(), new)?;
-        let Some(taken) = self.put(table, key.copy()?, row)? else {
-            self.add_change(table, key, None)?;
-            self.count()?;
-            return Ok(());
-        };
-        if self.judge(decision, Some(ConflictKind::Conflict))? {
-            self.add_replacement(table, key, Some(taken))?;
-            self.count()?;
-            return Ok(());
-        }
-        self.put(table, key, taken)?;
-        Ok(())
-    }
-
-    // An update: the key fields are in the one record, and the fields to set in the other. The new row is
-    // made of the row that is found, where the search ends.
-    pub(crate) fn update(
-        &mut self,
-        decision: Decision,
-        table: &Name<A>,
-        columns: &Schema<A>,
-        old: &RecordRef<'_, A>,
-        key: &RecordRef<'_, A>,
-        new: &RecordRef<'_, A>,
-    ) -> Result<(), Fault<Refusal>>
-        requires keyed { IsTrue (has_key columns.now) }
-        requires fits { IsTrue (satisfy (requirements record_kinds.Keyed columns.now)
-            (update_record columns.now key.now new.now)) }
-        requires target { IsTrue (is_some (target self.old.database table.now columns.now)) }
-        ensures { (indirect : Bool) →
-            LeavesUnlessMemory result (change_applied decision.policy decision.number
-            table.now columns.now (record {
-              old = old.now;
-              patch = patched.Update indirect (update_record columns.now key.now new.now);
-            }) self.old) self.new }
-    {
-        let (alloc, flags) = (self.alloc(), columns.flags());
-        let under = key_of_fields(alloc, flags, key)?;
-        let update = RowUpdate {
-            alloc: &alloc,
-            decision,
-            flags,
-            old,
-            key,
-            new,
-            conflict: Some(ConflictKind::NotFound),
-        };
-        let (before, conflict) = self.replace_present_row(table, &under, update)?;
+        let key = C::key(change, self.alloc(), columns)?;
+        let (before, width) = self.row_and_width(table, &key)?;
+        let conflict = C::conflict(change, columns, before.as_ref());
         if !self.judge(decision, conflict)? {
             return Ok(());
         }
-        self.add_replacement(table, under, before)?;
+        let after = C::row_after(change, self.alloc(), columns, width, before.as_ref())?;
+        self.set_row(table, key, after)?;
         self.count()?;
         Ok(())
     }
 
-    // A delete. The row is taken out at once, and put back where the change is omitted.
-    pub(crate) fn delete(
-        &mut self,
-        decision: Decision,
+    // The row under a key, if any, and how many columns its table has.
+    fn row_and_width(
+        &self,
         table: &Name<A>,
-        columns: &Schema<A>,
-        old: &RecordRef<'_, A>,
-        key: &RecordRef<'_, A>,
-    ) -> Result<(), Fault<Refusal>>
-        requires key { IsTrue (is_key (key_values columns.now key.now)) }
-        requires target { IsTrue (is_some (target self.old.database table.now columns.now)) }
-        ensures { (indirect : Bool) →
-            LeavesUnlessMemory result (change_applied decision.policy decision.number
-            table.now columns.now
-            (record { old = old.now; patch = patched.Delete indirect key.now }) self.old) self.new }
+        key: &Key<A>,
+    ) -> Result<(Option<Row<A>>, usize), OutOfMemory>
+        ensures row { IfOk result (λ found. found.0 ≡ row_at self.now.database table.now key.now) }
+        ensures width { (found : TableState A) → table_of self.now.database table.now ≡ Some found
+            → IfOk result (λ there. (there.1 ≡ length found.schema)
+            × IfSome there.0 (λ row. length row ≡ length found.schema)) }
     {
-        let under = key_of_fields(self.alloc(), columns.flags(), key)?;
-        let gone = self.take(table, &under)?;
-        let conflict = missed(columns.flags(), old, gone.as_ref());
-        if self.judge(decision, conflict)? {
-            self.add_change(table, under, gone)?;
-            self.count()?;
-            return Ok(());
-        }
-        match gone {
-            Some(row) => {
-                self.put(table, under, row)?;
-                Ok(())
-            }
-            None => Ok(()),
+        let Some(found) = self.database().table(table) else {
+            return Ok((None, 0));
+        };
+        let width = found.schema().width();
+        match found.keyed().get(key) {
+            Some(row) => Ok((Some(row.copy()?), width)),
+            None => Ok((None, width)),
         }
     }
 }

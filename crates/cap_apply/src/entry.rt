@@ -1,25 +1,22 @@
-//! Applying a change of a changeset or of a patchset.
-ghost use Rattle.std.specs.Prelude.{◌≡◌, Bool, IfOk, List, IsTrue, is_some};
+//! What a change of a changeset or of a patchset does to the row under its key.
+ghost use Rattle.std.specs.Prelude.{◌≡◌, Bool, IfOk, List, IsTrue};
 ghost use Rattle.std.specs.Option.{option_copied};
 ghost use Rattle.cap_row.specs.Schema.{has_key};
-ghost use Rattle.cap_value.specs.Memory.{LeavesUnlessMemory};
 ghost use Rattle.cap_changes.specs.ChangeRef.{change_of, patch_of};
-ghost use Rattle.cap_apply.specs.Apply.{change_applied};
+ghost use Rattle.cap_changes.specs.Fits.{patch_fits};
 ghost use Rattle.cap_apply.specs.KeyRecord.{key_record};
 ghost use Rattle.cap_apply.specs.Requested.{Requested};
-ghost use Rattle.cap_apply.specs.Row.{conflict_of, key_record_of, key_values};
-ghost use Rattle.cap_apply.specs.Target.{target};
+ghost use Rattle.cap_apply.specs.Row.{conflict_of, key_record_of, key_values, row_after};
 
-use crate::decision::Decision;
-use crate::fields::key_of_fields;
+use crate::ConflictKind;
+use crate::fields::{key_of_fields, new_row, updated};
 use crate::row_conflict::{missed, taken};
-use crate::{Applied, ConflictKind};
 use cap_changes::{ChangeRef, Entry, EntryRef, Patch, PatchRef, RecordRef, RowChange};
 use cap_row::{Key, Row, Schema};
-use cap_value::{AllocHandle, Fault, Name, OutOfMemory, Refusal};
+use cap_value::{AllocHandle, OutOfMemory};
 
-/// A change of a changeset or of a patchset, as one that can be applied. The table and the columns of a call
-/// are those of its group.
+/// A change of a changeset or of a patchset, as one that can be applied. The columns of a call are those of
+/// its group.
 pub trait BlobChange<A: AllocHandle>: Entry {
     // The requested change of a table with these key flags.
     ghost requested: { List Bool → Self → Requested A };
@@ -48,28 +45,34 @@ pub trait BlobChange<A: AllocHandle>: Entry {
         ensures { result ≡ conflict_of columns.now (requested columns.now change.now).old
             (requested columns.now change.now).patch (option_copied row.entry) };
 
-    /// Applies it after the changes that were applied before it.
-    fn apply_to(
+    /// The row that it leaves in the place of the row under its key, or of none there, in a table of this
+    /// width.
+    fn row_after(
         change: &EntryRef<'_, Self>,
-        applied: &mut Applied<A>,
-        decision: Decision,
-        table: &Name<A>,
+        alloc: A,
         columns: &Schema<A>,
-    ) -> Result<(), Fault<Refusal>>
+        width: usize,
+        before: Option<&Row<A>>,
+    ) -> Result<Option<Row<A>>, OutOfMemory>
     where
         Self: Sized,
-        requires keyed { IsTrue (has_key columns.now) }
-        requires fits { IsTrue (Self.fits_in columns.now change.now) }
-        requires target { IsTrue (is_some (target applied.old.database table.now columns.now)) }
-        ensures { LeavesUnlessMemory result
-            (change_applied decision.policy decision.number table.now columns.now
-            (requested columns.now change.now) applied.old) applied.new };
+        requires { IsTrue (Self.fits_in columns.now change.now) }
+        ensures { IfOk result (λ after. after ≡ row_after width
+            (requested columns.now change.now).patch (option_copied before.entry)) };
+
+    // Its patch fits each table that it fits.
+    ghost fits: { (flags : List Bool) (change : Self) → IsTrue (Self.fits_in flags change)
+        → IsTrue (patch_fits flags (requested flags change).patch) };
 }
 
 impl<A: AllocHandle> BlobChange<A> for RowChange<A> {
     ghost use Rattle.cap_apply.specs.Requested.{requested_by_change};
 
     ghost requested = { λ flags change. requested_by_change flags change };
+
+    ghost use Rattle.cap_changes.proofs.PatchLemmas.{patch_of-fits};
+
+    ghost fits = { patch_of-fits };
 
     fn key(
         change: &EntryRef<'_, Self>,
@@ -91,19 +94,18 @@ impl<A: AllocHandle> BlobChange<A> for RowChange<A> {
         }
     }
 
-    fn apply_to(
+    fn row_after(
         change: &EntryRef<'_, Self>,
-        applied: &mut Applied<A>,
-        decision: Decision,
-        table: &Name<A>,
+        alloc: A,
         columns: &Schema<A>,
-    ) -> Result<(), Fault<Refusal>> {
+        width: usize,
+        before: Option<&Row<A>>,
+    ) -> Result<Option<Row<A>>, OutOfMemory> {
+        let flags = columns.flags();
         match change.read() {
-            ChangeRef::Insert { new, .. } => applied.insert(decision, table, columns, &new),
-            ChangeRef::Update { old, new, .. } => {
-                applied.update(decision, table, columns, &old, &old, &new)
-            }
-            ChangeRef::Delete { old, .. } => applied.delete(decision, table, columns, &old, &old),
+            ChangeRef::Insert { new, .. } => Ok(Some(new_row(alloc, width, flags, &new)?)),
+            ChangeRef::Update { old, new, .. } => updated(alloc, flags, &old, &new, before),
+            ChangeRef::Delete { .. } => Ok(None),
         }
     }
 }
@@ -112,6 +114,8 @@ impl<A: AllocHandle> BlobChange<A> for Patch<A> {
     ghost use Rattle.cap_apply.specs.Requested.{requested_by_patch};
 
     ghost requested = { λ flags patch. requested_by_patch flags patch };
+
+    ghost fits = { λ flags patch fits. fits };
 
     fn key(
         change: &EntryRef<'_, Self>,
@@ -139,20 +143,18 @@ impl<A: AllocHandle> BlobChange<A> for Patch<A> {
         }
     }
 
-    fn apply_to(
+    fn row_after(
         change: &EntryRef<'_, Self>,
-        applied: &mut Applied<A>,
-        decision: Decision,
-        table: &Name<A>,
+        alloc: A,
         columns: &Schema<A>,
-    ) -> Result<(), Fault<Refusal>> {
-        let no_old = RecordRef::empty();
+        width: usize,
+        before: Option<&Row<A>>,
+    ) -> Result<Option<Row<A>>, OutOfMemory> {
+        let flags = columns.flags();
         match change.read() {
-            PatchRef::Insert { new, .. } => applied.insert(decision, table, columns, &new),
-            PatchRef::Update { new, .. } => {
-                applied.update(decision, table, columns, &no_old, &new, &new)
-            }
-            PatchRef::Delete { key, .. } => applied.delete(decision, table, columns, &no_old, &key),
+            PatchRef::Insert { new, .. } => Ok(Some(new_row(alloc, width, flags, &new)?)),
+            PatchRef::Update { new, .. } => updated(alloc, flags, &new, &new, before),
+            PatchRef::Delete { .. } => Ok(None),
         }
     }
 }

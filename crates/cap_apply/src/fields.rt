@@ -1,6 +1,6 @@
 //! Rows, keys and assignments from the fields of a change.
 ghost use Rattle.std.specs.Prelude.{◌≡◌, ◌∷◌, [], ◌++◌, Option, map, take, drop, IfOk, IfSome, IsTrue, OnOk};
-ghost use Rattle.std.specs.Option.{unwrap_or};
+ghost use Rattle.std.specs.Option.{option_copied, option_map, unwrap_or};
 ghost use Rattle.cap_value.specs.Value.{IsValue};
 ghost use Rattle.cap_value.specs.declared.value.Value.{Value};
 ghost use Rattle.cap_field.specs.FieldReading.{value_of};
@@ -97,20 +97,24 @@ pub(crate) fn new_row<A: AllocHandle>(
     builder.finish()
 }
 
-// The row after an update: the key fields and the defined other fields are set.
+// The row after an update, where there is one: the key fields and the defined other fields are set.
 pub(crate) fn updated<A: AllocHandle>(
     alloc: A,
     flags: &[bool],
     key: &RecordRef<'_, A>,
     new: &RecordRef<'_, A>,
-    row: &Row<A>,
-) -> Result<Row<A>, OutOfMemory>
-    ensures { IfOk result (λ made. made ≡ set_fields (update_record flags.now key.now new.now) row.now) }
+    row: Option<&Row<A>>,
+) -> Result<Option<Row<A>>, OutOfMemory>
+    ensures { IfOk result (λ made. made ≡ option_map (set_fields (update_record flags.now key.now new.now))
+        (option_copied row.entry)) }
 {
+    let Some(row) = row else {
+        return Ok(None);
+    };
     let fields = row.fields();
     let mut builder = RowBuilder::with_room(alloc, fields.as_bytes().len())?;
     set_fields(&mut builder, flags, key, new, fields)?;
-    builder.finish()
+    Ok(Some(builder.finish()?))
 }
 
 // Appends the values of the row, with the fields set.

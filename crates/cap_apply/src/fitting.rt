@@ -4,8 +4,7 @@ ghost use Rattle.cap_apply.specs.Fitting.{FitsItsColumns};
 use cap_codec::Contents;
 use cap_value::AllocHandle;
 
-/// A law: each group of a blob has a key column, and its changes fit its columns. At run time it only visits
-/// each group.
+/// A law of every blob: each group has a key column, and its changes fit its columns. The call does nothing.
 pub fn blob_fits_its_columns<A: AllocHandle>(blob: &Contents<A>)
     ensures { FitsItsColumns blob.now }
 {

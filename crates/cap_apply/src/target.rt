@@ -1,8 +1,6 @@
 //! The table that a group is applied to.
-ghost use Rattle.std.specs.Prelude.{◌≡◌, Some, is_some, length};
+ghost use Rattle.std.specs.Prelude.{◌≡◌, is_some};
 ghost use Rattle.cap_row.specs.Schema.{has_key};
-ghost use Rattle.cap_table.specs.Table.{TableState};
-ghost use Rattle.cap_database.specs.Tables.{table_of};
 ghost use Rattle.cap_apply.specs.Target.{columns_fit, target};
 
 use cap_database::Database;
@@ -20,17 +18,6 @@ pub(crate) fn has_target<A: AllocHandle>(
     match database.table(name) {
         Some(table) => columns_fit(columns.flags(), table.schema().flags()),
         None => false,
-    }
-}
-
-// How many columns the table has.
-pub(crate) fn width_of<A: AllocHandle>(database: &Database<A>, table: &Name<A>) -> usize
-    ensures { (found : TableState A) → table_of database.now table.now ≡ Some found
-        → result ≡ length found.schema }
-{
-    match database.table(table) {
-        Some(table) => table.schema().width(),
-        None => 0,
     }
 }
 

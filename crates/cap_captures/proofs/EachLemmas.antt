@@ -26,12 +26,12 @@ use Rattle.cap_core.specs.Capture.{session_changes}
 use Rattle.cap_core.specs.Flags.{command_to}
 use Rattle.cap_core.specs.History.{main}
 use Rattle.cap_core.specs.Past.{Past, is_accepted}
-use Rattle.cap_core.specs.Restarts.{AppliesEach, HoldsFirst, IsSteady, captures, first_touched, touches_over}
+use Rattle.cap_core_laws.specs.Restarts.{AppliesEach, HoldsFirst, IsSteady, captures, first_touched, touches_over}
 use Rattle.cap_core.specs.Session.{session_of}
 use Rattle.cap_core.specs.Table.{BlobsFitPast}
 use Rattle.cap_core.specs.Touch.{event_touches, restarts, touches}
 use Rattle.cap_core.proofs.AppliedCaptureLemmas.{capture_fits, changes_apply}
-use Rattle.cap_core.proofs.RestartLemmas.{sooner, touched-attached}
+use Rattle.cap_core_laws.proofs.RestartLemmas.{sooner, touched-attached}
 use Rattle.cap_captures.specs.Captures.{session_over}
 use Rattle.cap_captures.proofs.ApplyLemmas.{same-tables}
 use Rattle.cap_captures.proofs.ConcatLemmas.{some_same}

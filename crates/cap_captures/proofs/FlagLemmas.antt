@@ -28,11 +28,11 @@ use Rattle.cap_core.specs.declared.event.Event.{Event}
 use Rattle.cap_core.specs.Flags.{command_to}
 use Rattle.cap_core.specs.History.{main}
 use Rattle.cap_core.specs.Past.{Past, is_accepted}
-use Rattle.cap_core.specs.Restarts.{IsSteady, captures, first_touched, touches_over}
+use Rattle.cap_core_laws.specs.Restarts.{IsSteady, captures, first_touched, touches_over}
 use Rattle.cap_core.specs.Session.{all_indirect}
 use Rattle.cap_core.specs.Table.{BlobsFitPast}
 use Rattle.cap_core.specs.Touch.{Touch, event_touches, restarts, touches, touches_of}
-use Rattle.cap_core.proofs.RestartLemmas.{first-append, sooner}
+use Rattle.cap_core_laws.proofs.RestartLemmas.{first-append, sooner}
 use Rattle.cap_captures.specs.Captures.{IsChangedEachTime, IsChangedSince, first_row}
 use Rattle.cap_captures.specs.Rows.{all_row_changes}
 use Rattle.cap_captures.proofs.CaptureLemmas.{row-under}

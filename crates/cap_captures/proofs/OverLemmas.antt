@@ -18,7 +18,7 @@ use Rattle.cap_core.specs.declared.event.Event.{Event}
 use Rattle.cap_core.specs.Flags.{command_to}
 use Rattle.cap_core.specs.History.{main}
 use Rattle.cap_core.specs.Past.{Past, is_accepted}
-use Rattle.cap_core.specs.Restarts.{IsSteady, captures, touches_over}
+use Rattle.cap_core_laws.specs.Restarts.{IsSteady, captures, touches_over}
 use Rattle.cap_core.specs.Table.{BlobsFitPast}
 use Rattle.cap_core.specs.Touch.{restarts, touches}
 use Rattle.cap_captures.specs.Captures.{HasCaptureOver, as_direct, capture_over, first_row}

@@ -28,7 +28,7 @@ use Rattle.cap_core.specs.Capture.{CaptureState, session_changes}
 use Rattle.cap_core.specs.Flags.{asks_enabled, command_to, is_enabled}
 use Rattle.cap_core.specs.History.{main}
 use Rattle.cap_core.specs.Past.{HasRoom, Past, is_accepted}
-use Rattle.cap_core.specs.Restarts.{AppliesAll, HoldsFirst, IsSteady, captures}
+use Rattle.cap_core_laws.specs.Restarts.{AppliesAll, HoldsFirst, IsSteady, captures}
 use Rattle.cap_core.specs.Session.{session_of}
 use Rattle.cap_core.specs.Table.{BlobsFit, BlobsFitPast}
 use Rattle.cap_core.specs.Touch.{diff_by, event_touches, restarts, touches}

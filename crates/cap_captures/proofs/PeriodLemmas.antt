@@ -28,18 +28,18 @@ use Rattle.cap_core.specs.History.{event_effect, main, snapshot}
 use Rattle.cap_core.specs.Outcome.{Effect, no_effect}
 use Rattle.cap_database.specs.Carried.{is_of_row}
 use Rattle.cap_core.specs.Past.{Past, is_accepted}
-use Rattle.cap_core.specs.Restarts.{HoldsFirst, IsSteady, captures, first_touched, touches_over}
+use Rattle.cap_core_laws.specs.Restarts.{HoldsFirst, IsSteady, captures, first_touched, touches_over}
 use Rattle.cap_core.specs.Session.{records_of, session_of}
 use Rattle.cap_core.specs.Table.{BlobsFitPast}
 use Rattle.cap_core.specs.Touch.{attach_list, attachings, event_touches, restarts, touches, touches_of}
 use Rattle.cap_core.proofs.AppliedCaptureLemmas.{AreDistinct, first_of_each-distinct, names_of, records-named, session-distinct, session-sorted}
-use Rattle.cap_core.proofs.DiffedLemmas.{quiet-effect}
+use Rattle.cap_core_laws.proofs.DiffedLemmas.{quiet-effect}
 use Rattle.cap_core.proofs.HistoryLemmas.{is_among, table_names}
 use Rattle.cap_core.proofs.KeyedLemmas.{ordered}
 use Rattle.cap_core.proofs.LawLemmas.{first_image, truth}
-use Rattle.cap_core.proofs.RestartLemmas.{first-append, sooner, stays-listed, touched-absent, touched-attached, touched-listed}
+use Rattle.cap_core_laws.proofs.RestartLemmas.{first-append, sooner, stays-listed, touched-absent, touched-attached, touched-listed}
 use Rattle.cap_core.proofs.SessionLemmas.{cond-same}
-use Rattle.cap_core.proofs.StayLemmas.{event-keeps, row_stays}
+use Rattle.cap_core_laws.proofs.StayLemmas.{event-keeps, row_stays}
 use Rattle.cap_core.proofs.TouchedLemmas.{is_sorted-records_of}
 use Rattle.cap_captures.specs.Captures.{capture_over, first_row, session_over}
 use Rattle.cap_captures.specs.Rows.{AreInARow, all_row_changes, row_changes}

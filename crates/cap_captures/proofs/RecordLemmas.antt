@@ -22,12 +22,12 @@ use Rattle.cap_core.specs.declared.event.Event.{Event}
 use Rattle.cap_core.specs.Flags.{command_to}
 use Rattle.cap_core.specs.History.{is_write}
 use Rattle.cap_core.specs.Past.{Past, is_accepted}
-use Rattle.cap_core.specs.Restarts.{first_touched}
+use Rattle.cap_core_laws.specs.Restarts.{first_touched}
 use Rattle.cap_core.specs.Session.{all_indirect, session_of}
 use Rattle.cap_core.specs.Touch.{Touch, attach_list, restarts, touches, touches_of}
 use Rattle.cap_core.proofs.HistoryLemmas.{is_among, touches-none, touches_of-append}
 use Rattle.cap_core.proofs.LawLemmas.{first_image}
-use Rattle.cap_core.proofs.RestartLemmas.{sooner}
+use Rattle.cap_core_laws.proofs.RestartLemmas.{sooner}
 use Rattle.cap_core.proofs.SessionLemmas.{and_false, kept}
 use Rattle.cap_core.proofs.SmallLemmas.{second}
 use Rattle.cap_captures.specs.Captures.{as_direct}

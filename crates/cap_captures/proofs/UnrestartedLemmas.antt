@@ -22,7 +22,7 @@ use Rattle.cap_core.specs.Flags.{asks_enabled, asks_for_all, asks_indirect, comm
 use Rattle.cap_core.specs.History.{Databases, effect_of, event_effect, is_write, main, saved, saved_after, snapshot, version}
 use Rattle.cap_core.specs.Outcome.{Effect, Refused, no_effect, outcome}
 use Rattle.cap_core.specs.Past.{Past, is_accepted}
-use Rattle.cap_core.specs.Restarts.{touches_over}
+use Rattle.cap_core_laws.specs.Restarts.{touches_over}
 use Rattle.cap_core.specs.Session.{records_of, session_of}
 use Rattle.cap_core.specs.Touch.{Attaching, found_in, attaching_at, attachings, diff_by, diff_touches, event_attachings, event_changes, event_diff, event_touches, first_of_each, is_recorded, names_attached, names_compared, restarts, touches, touches_of}
 use Rattle.cap_captures.specs.Captures.{AreUnrestarted, capture_over, without_restart}

@@ -20,7 +20,7 @@ use Rattle.cap_core.specs.Capture.{session_changes}
 use Rattle.cap_core.specs.Flags.{command_to}
 use Rattle.cap_core.specs.History.{main}
 use Rattle.cap_core.specs.Past.{Past, is_accepted}
-use Rattle.cap_core.specs.Restarts.{first_touched, touches_over}
+use Rattle.cap_core_laws.specs.Restarts.{first_touched, touches_over}
 use Rattle.cap_core.specs.Session.{records_of, session_of}
 use Rattle.cap_core.specs.Touch.{Touch, attach_list, restarts, touches, touches_of}
 use Rattle.cap_captures.specs.Rows.{row_changes}

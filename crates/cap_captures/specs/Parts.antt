@@ -18,7 +18,7 @@ use Rattle.cap_core.specs.declared.event.Event.{Event}
 use Rattle.cap_core.specs.Answer.{IsLegal, IsLegalPast, State, event_by, reply_of, state}
 use Rattle.cap_core.specs.History.{version}
 use Rattle.cap_core.specs.Past.{HasRoom, Past, is_accepted}
-use Rattle.cap_core.specs.Restarts.{AppliesAll, HoldsFirst, captures}
+use Rattle.cap_core_laws.specs.Restarts.{AppliesAll, HoldsFirst, captures}
 use Rattle.cap_core.specs.Table.{BlobsFit}
 use Rattle.cap_captures.specs.Captures.{HasCaptureOver, capture_over}
 use Rattle.cap_captures.specs.declared.parts.InParts.{InParts}

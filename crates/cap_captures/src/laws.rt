@@ -16,7 +16,7 @@ ghost use Rattle.cap_core.specs.Capture.{session_changes};
 ghost use Rattle.cap_core.specs.Flags.{command_to};
 ghost use Rattle.cap_core.specs.History.{main};
 ghost use Rattle.cap_core.specs.Past.{Past, is_accepted};
-ghost use Rattle.cap_core.specs.Restarts.{AppliesAll, AppliesAllPatches, HoldsFirst, IsSteady, captures};
+ghost use Rattle.cap_core_laws.specs.Restarts.{AppliesAll, AppliesAllPatches, HoldsFirst, IsSteady, captures};
 ghost use Rattle.cap_core.specs.Session.{session_of};
 ghost use Rattle.cap_core.specs.Table.{BlobsFitPast};
 ghost use Rattle.cap_core.specs.Touch.{restarts, touches};
@@ -24,9 +24,9 @@ ghost use Rattle.cap_captures.specs.Captures.{AreUnrestarted, HasCaptureOver, as
 ghost use Rattle.cap_captures.specs.Captures.{first_row, session_over};
 ghost use Rattle.cap_captures.specs.Rows.{AreInARow, HasTogether, row_changes};
 
-use cap_apply::{
-    a_changeset_gives_the_rows_now, a_patchset_gives_the_rows_now, applied_blobs_keep_order,
-    captures_fit_their_columns,
+use cap_apply::applied_blobs_keep_order;
+use cap_apply_laws::{
+    a_changeset_gives_the_rows_now, a_patchset_gives_the_rows_now, captures_fit_their_columns,
 };
 use cap_database::{tables_keep_columns, tables_keep_order};
 use cap_value::AllocHandle;

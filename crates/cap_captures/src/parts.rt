@@ -19,9 +19,8 @@ use crate::laws::{
     the_one_capture_is_without_restarts,
 };
 use cap_codec::{Contents, read_blob};
-use cap_core::{
-    Capture, Command, Core, EVENTS_MAX, Reply, SessionCommand, bytes_of_a_capture_give_the_rows_now,
-};
+use cap_core::{Capture, Command, Core, EVENTS_MAX, Reply, SessionCommand};
+use cap_core_laws::bytes_of_a_capture_give_the_rows_now;
 use cap_group::concat;
 use cap_session::SessionChange;
 use cap_value::{AllocHandle, Fault, OutOfMemory};

@@ -66,9 +66,6 @@ abbrev pub Begins : {X : Type 0} → (X → List ℕ → Type 0) → ℕ → Lis
 Begins one op bytes x = (front : List ℕ) × (bytes ≡ front ++ x.1) × one x.0 (op ∷ front)
 
 module _ {A : Type 0} where
-  abbrev one_record : (RecordFields A → RowChange A) → RecordFields A × List ℕ → Result (RowChange A × List ℕ) BlobFault
-  one_record make x = Ok (make x.0, x.1)
-
   pub change_spelled : (total : ℕ) (flags : List Bool) (op : ℕ) (bytes : List ℕ) (x : RowChange A × List ℕ) → AreLow bytes → is_operation op ≡ true → change_at total flags op bytes ≡ Ok x → Begins (SpellsChange flags) op bytes x
   unfolding change_at
   change_spelled total flags op [] x low operation e = absurd cc

@@ -6,7 +6,7 @@ use Rattle.cap_changes.specs.Entries.{AllFit}
 use Rattle.cap_changes.specs.FieldRecord.{RecordFields}
 use Rattle.cap_changes.specs.Fits.{change_fits}
 use Rattle.cap_changes.specs.Invert.{inverse_of}
-use Rattle.cap_changes.specs.Record.{stored_fields, AreFields, IsStored, BeginsWithField}
+use Rattle.cap_changes.specs.Record.{stored_fields, IsStored, BeginsWithField}
 use Rattle.cap_changes.specs.declared.row_change.RowChange.{RowChange}
 use Rattle.cap_changes.proofs.InvertLemmas.{inverse_of-back}
 use Rattle.cap_changes.proofs.StoredRecord.{few_fields}
@@ -41,10 +41,6 @@ pub none_left : {X : Type 0} (xs : List X) (passed : ℕ) → drop passed xs ≡
 none_left [] passed is = omega arith
 none_left (x ∷ xs) zero is = cc
 none_left (x ∷ xs) (suc passed) is = omega (arith, none_left xs passed is)
-
-pub stored_each : (A : Type 0) (keys : Option (List Bool)) (bytes : List ℕ) → IsStored A keys bytes → AreFields (stored_fields {A = A} keys bytes)
-stored_each A None bytes is = is.each
-stored_each A (Some flags) bytes is = is.each
 
 module _ {A : Type 0} where
   pub whole_few : (keys : Option (List Bool)) (bytes : List ℕ) (fields : RecordFields A) → keys ≡ None → IsStored A keys bytes → stored_fields keys bytes ≡ fields → length fields ≤ length bytes

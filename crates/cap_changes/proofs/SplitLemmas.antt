@@ -22,9 +22,6 @@ module _ (A : Type 0) where
   abbrev pub Passed : ℕ → List ℕ → ℕ → List ℕ → Type 0
   Passed width bytes at rest = (fields : RecordFields A) (behind : List ℕ) → AreFields fields → length fields ≡ width → bytes ≡ record_bytes fields ++ behind → rest ≡ record_bytes (drop at fields) ++ behind
 
-  pub starts : (width : ℕ) (bytes : List ℕ) → Passed width bytes 0 bytes
-  starts width bytes fields behind each wide parts = parts
-
   abbrev Next : RecordFields A → ℕ → Type 0
   Next fields at = (field : Option (Value A)) × (drop at fields ≡ field ∷ drop (at + 1) fields) × IfSome field IsValue
 

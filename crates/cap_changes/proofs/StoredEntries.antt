@@ -1,5 +1,5 @@
 -- Entries as their bytes, one after another, and where each ends.
-use Rattle.std.proofs.Common.{◌≡◌, ℕ, zero, suc, ◌-◌, ◌≤◌, ◌<◌, Bool, List, [], ◌∷◌, ◌++◌, length, take, drop, get_or, slice_get, Option, Some, None, IsTrue, Result, Ok, Err, is_ok, if◌then◌else◌, refl, sym, ap, subst, ◌∙◌, append_assoc, append-nil, length-append, length-drop, arith}
+use Rattle.std.proofs.Common.{◌≡◌, ℕ, zero, suc, ◌-◌, ◌≤◌, ◌<◌, Bool, List, [], ◌∷◌, ◌++◌, length, take, drop, get_or, slice_get, Option, Some, None, IsTrue, Result, Ok, Err, is_ok, refl, sym, ap, subst, ◌∙◌, append_assoc, append-nil, length-append, length-drop, arith, if◌then◌else◌}
 use mathlib.Core.List.{IsPrefix}
 use Rattle.std.specs.Prelude.{All, OnOk, OnErr}
 use Rattle.std.specs.List.{AllByRecursion, flat_map}
@@ -231,9 +231,6 @@ module _ {C : Type 0} (fits_in : List Bool → C → Bool) (has_values : C → T
     pub keeps : Keeps schema new new_ends
     pub ok : OnOk result (Seen table schema new new_ends ≡ record before { changes = before.changes ++ entry ∷ [] })
     pub err : OnErr result (Seen table schema new new_ends ≡ before)
-
-  abbrev Done : {E : Type 0} → Result (Unit {0}) E
-  Done = Ok tt
 
   ended_on : {E : Type 0} (result : Result (Unit {0}) E) (table : List ℕ) (schema : List Bool) (old ends piece new new_ends : List ℕ) (before : TableEntries C) (entry : C) → Keeps schema old ends → Seen table schema old ends ≡ before
       → IsEntry fits_in has_values bytes_of schema (stored schema piece) piece → stored schema piece ≡ entry → new ≡ old ++ piece → new_ends ≡ ends ++ length new ∷ [] → Leaves {E = E} (Ok tt) table schema new new_ends before entry

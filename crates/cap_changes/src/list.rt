@@ -12,7 +12,7 @@ pub type ChangeList<A> = GroupList<RowChange<A>, A>;
 /// A patchset: groups of its changes.
 pub type PatchList<A> = GroupList<Patch<A>, A>;
 
-/// A list of groups: a changeset or a patchset.
+/// A list of groups: a changeset or a patchset. The changes of each fit its columns.
 #[derive(Drop)]
 pub struct GroupList<C: Entry, A: AllocHandle> {
     groups: Vec<TableGroup<C, A>, A>,
@@ -20,11 +20,13 @@ pub struct GroupList<C: Entry, A: AllocHandle> {
 
 impl<C: Entry, A: AllocHandle> Model for GroupList<C, A> {
     ghost use Rattle.std.specs.Prelude.{List};
-    ghost use Rattle.cap_changes.specs.Entries.{TableEntries};
+    ghost use Rattle.cap_changes.specs.Entries.{AreFitting, TableEntries};
 
     ghost Value = { List (TableEntries C) };
 
     ghost view = { λ l. l.groups.items };
+
+    ghost invariant = { λ l. AreFitting C.fits_in l.groups.items };
 }
 
 impl<C: Entry, A: AllocHandle> GroupList<C, A> {
@@ -42,6 +44,7 @@ impl<C: Entry, A: AllocHandle> GroupList<C, A> {
         ensures ok { OnOk result (self.new ≡ self.old ++ group ∷ []) }
         ensures err { OnErr result (self.new ≡ self.old) }
     {
+        group.fits();
         self.groups.push(group)?;
         Ok(())
     }
@@ -53,13 +56,11 @@ impl<C: Entry, A: AllocHandle> GroupList<C, A> {
         self.groups.as_slice()
     }
 
-    /// A law: the schema of each group has a key column, and its changes fit it. At run time it only visits
-    /// each group.
+    /// A law of every list: the schema of each group has a key column, and its changes fit it. The call does
+    /// nothing.
     pub fn groups_fit(&self)
         ensures { AreFitting C.fits_in self.now }
     {
-        for group in self.groups() {
-            group.fits();
-        }
+        let _groups = &self.groups;
     }
 }

@@ -5,9 +5,6 @@ pub mod KeyFlagLemmas
 pub mod BlobAgain
 pub mod SpelledBlob
 pub mod Steady
-pub mod FaultFields
-pub mod FaultHeaders
-pub mod FaultBlobs
 pub mod FieldSteps
 pub mod Looking
 pub mod LookingSteps

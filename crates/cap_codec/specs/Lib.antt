@@ -6,6 +6,5 @@ pub mod FirstByte
 pub mod ChangeLeft
 pub mod Writable
 pub mod Spelling
-pub mod FaultPlace
 pub mod Pieces
 pub mod Stream

@@ -1,15 +1,11 @@
 //! Laws of blobs, over the grammar alone. The functions do nothing at run time.
-
-ghost use Rattle.std.specs.Prelude.{◌≡◌, ◌++◌, ℕ, List, Ok, Err};
+ghost use Rattle.std.specs.Prelude.{◌≡◌, ℕ, List, Ok};
 ghost use Rattle.cap_value.specs.Bytes.{AreBytes};
 ghost use Rattle.cap_codec.specs.declared.key_flags.KeyFlags.{KeyFlags};
 ghost use Rattle.cap_codec.specs.declared.read.Contents.{Contents};
 ghost use Rattle.cap_codec.specs.BlobReading.{blob_at};
-ghost use Rattle.cap_field.specs.declared.fault.BlobFault.{BlobFault};
-ghost use Rattle.cap_codec.specs.FaultPlace.{IsFaultAt};
-ghost use Rattle.cap_codec.specs.Pieces.{lasting};
 ghost use Rattle.cap_codec.specs.Spelling.{Spells};
-ghost use Rattle.cap_codec.specs.Writable.{IsWritable, HasNoEmptyGroup, blob_bytes, blob_bytes_with};
+ghost use Rattle.cap_codec.specs.Writable.{IsWritable, blob_bytes_with};
 ghost use Rattle.cap_codec.specs.Writable.{with_some};
 
 use cap_value::AllocHandle;
@@ -21,21 +17,6 @@ pub fn read_is_spelled<A: AllocHandle>()
         Spells blob bytes }
 {}
 
-/// Bytes spell at most one blob.
-pub fn no_bytes_spell_two<A: AllocHandle>()
-    ensures { (bytes : List ℕ) (a b : Contents A) → Spells a bytes → Spells b bytes → a ≡ b }
-{}
-
-/// The written bytes of a list spell that list, without its empty groups.
-pub fn written_is_spelled<A: AllocHandle>()
-    ensures { (blob : Contents A) → IsWritable blob → Spells (with_some blob) (blob_bytes blob) }
-{}
-
-/// The written bytes of a list are read as that list, without its empty groups.
-pub fn written_is_read_again<A: AllocHandle>()
-    ensures { (blob : Contents A) → IsWritable blob → blob_at (blob_bytes blob) ≡ Ok (with_some blob) }
-{}
-
 /// With either key flags, the written bytes of a list spell and are read as that list, without its empty
 /// groups.
 pub fn key_flags_read_alike<A: AllocHandle>()
@@ -43,23 +24,4 @@ pub fn key_flags_read_alike<A: AllocHandle>()
         Spells (with_some blob) (blob_bytes_with key_flags blob) }
     ensures read { (key_flags : KeyFlags) (blob : Contents A) → IsWritable blob →
         blob_at (blob_bytes_with key_flags blob) ≡ Ok (with_some blob) }
-{}
-
-/// No two lists without empty groups have the same bytes, be they changesets or patchsets.
-pub fn no_two_have_the_same_bytes<A: AllocHandle>()
-    ensures { (a b : Contents A) → IsWritable a → IsWritable b → HasNoEmptyGroup a → HasNoEmptyGroup b →
-        blob_bytes a ≡ blob_bytes b → a ≡ b }
-{}
-
-/// A fault other than `Truncated` of a prefix is the fault of the blob, whatever follows.
-pub fn a_fault_lasts<A: AllocHandle>()
-    ensures { (front more : List ℕ) (fault : BlobFault) → lasting (blob_at {A = A} front) ≡ Err fault →
-        lasting (blob_at {A = A} (front ++ more)) ≡ Err fault }
-{}
-
-/// A fault other than `Truncated` is reported at the part that has it: some blob begins with the bytes before
-/// its offset, and none with these and that part.
-pub fn fault_place<A: AllocHandle>()
-    ensures { (bytes : List ℕ) (fault : BlobFault) → AreBytes bytes →
-        lasting (blob_at {A = A} bytes) ≡ Err fault → IsFaultAt A bytes fault }
 {}

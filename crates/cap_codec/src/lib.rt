@@ -22,10 +22,7 @@ pub use decoder::Decoder;
 pub use group::{own_name, own_schema};
 pub use header::{HeaderRef, take_header};
 pub use key_flags::KeyFlags;
-pub use laws::{
-    a_fault_lasts, fault_place, key_flags_read_alike, no_bytes_spell_two,
-    no_two_have_the_same_bytes, read_is_spelled, written_is_read_again, written_is_spelled,
-};
+pub use laws::{key_flags_read_alike, read_is_spelled};
 pub use read::{Contents, read_blob, wrong_kind};
 pub use stream::{ReadFault, WriteFault, read_from, write_changes_to, write_patches_to};
 pub use writable::{changes_are_writable, patches_are_writable};

@@ -17,7 +17,7 @@ use Rattle.cap_changes.specs.declared.row_change.RowChange.{RowChange}
 use Rattle.cap_codec.specs.declared.read.Contents.TheVariants.{Changes}
 use Rattle.cap_apply.specs.Applied.{AppliedState}
 use Rattle.cap_apply.specs.Apply.{and_then, change_applied, changes_applied, counted, groups_applied, nothing_applied, with_row_in}
-use Rattle.cap_apply.specs.Counted.{change_count}
+use Rattle.cap_apply_laws.specs.Counted.{change_count}
 use Rattle.cap_apply.specs.Report.{ReportState}
 use Rattle.cap_apply.specs.Requested.{requested_by_change, requested_in}
 use Rattle.cap_apply.specs.declared.policy.Policy.{Policy}

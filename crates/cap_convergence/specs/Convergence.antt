@@ -8,7 +8,7 @@ use Rattle.cap_database.specs.Read.{row_at}
 use Rattle.cap_database.specs.Tables.{Tables, schema_of}
 use Rattle.cap_apply.specs.Applied.{AppliedState}
 use Rattle.cap_apply.specs.Apply.{apply}
-use Rattle.cap_apply.specs.Counted.{change_count}
+use Rattle.cap_apply_laws.specs.Counted.{change_count}
 use Rattle.cap_apply.specs.Fitting.{FitsItsColumns}
 use Rattle.cap_apply.specs.declared.policy.Policy.{Policy}
 use Rattle.cap_captures.specs.Rows.{AreInARow, row_changes}

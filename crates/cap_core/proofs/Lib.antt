@@ -1,4 +1,3 @@
-pub mod AgreeLemmas
 pub mod AppliedCaptureLemmas
 pub mod BytesLemmas
 pub mod CanCaptureLemmas
@@ -8,14 +7,11 @@ pub mod ChangeLemmas
 pub mod CommitLemmas
 pub mod Crossing
 pub mod DiffLemmas
-pub mod DiffedLemmas
-pub mod EmptyLemmas
 pub mod FitLemmas
 pub mod FlagLemmas
 pub mod GroupLemmas
 pub mod HistoryLemmas
 pub mod InPlaceLemmas
-pub mod InsertLemmas
 pub mod KeyedLemmas
 pub mod LawLemmas
 pub mod ListedLemmas
@@ -24,12 +20,9 @@ pub mod NumberLemmas
 pub mod OutcomeLemmas
 pub mod PrepareLemmas
 pub mod RefusedLemmas
-pub mod RestartLemmas
-pub mod SavedLemmas
 pub mod SessionLemmas
 pub mod SessionStandLemmas
 pub mod SmallLemmas
 pub mod SoundLemmas
-pub mod StayLemmas
 pub mod ToldLemmas
 pub mod TouchedLemmas

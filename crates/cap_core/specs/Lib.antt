@@ -7,13 +7,11 @@ pub mod Commit
 pub mod Diff
 pub mod Flags
 pub mod History
-pub mod Insert
 pub mod Listed
 pub mod Outcome
 pub mod Past
 pub mod RefusedFirst
 pub mod Replies
-pub mod Restarts
 pub mod Session
 pub mod Table
 pub mod Touch

@@ -83,8 +83,8 @@ impl<A: AllocHandle> Command<A> {
         }
     }
 
-    /// A law: the changes of the blob that a command applies fit the columns of their groups. At run time it
-    /// only visits each group.
+    /// A law of every command: the changes of the blob that it applies fit the columns of their groups. The
+    /// call does nothing.
     pub fn blob_fits(&self)
         ensures { BlobFits self.now }
     {

@@ -30,14 +30,8 @@ pub use commit_hook::{CommitHook, Never, NoHook};
 pub use dump::Dump;
 pub use event::Event;
 pub use laws::{
-    a_capture_after_a_diff_gives_the_rows_now, a_capture_gives_the_rows_now,
-    a_row_that_no_change_names_stays, a_session_changes_no_others_capture,
-    bytes_of_a_capture_give_the_rows_now, captures_have_no_empty_group,
-    captures_in_a_row_give_the_rows_now, database_rises, empty_without_touches,
-    fitting_histories_grow, insert_is_captured, legal_histories_grow, legal_histories_were_legal,
-    one_record_a_key, order_of_two_sessions_does_not_matter, quiet_sessions_stay,
-    refusal_changes_no_reply, restored_row_is_no_change, rows_stand_under_own_keys,
-    transactions_commit_if_unchanged, untouched_captures_nothing,
+    fitting_histories_grow, legal_histories_grow, legal_histories_were_legal,
+    rows_stand_under_own_keys, transactions_commit_if_unchanged,
 };
 pub use limits::{EVENTS_MAX, SAVED_MAX, SESSIONS_MAX};
 pub use listed_session::ListedSession;

@@ -55,6 +55,7 @@ impl<A: AllocHandle> NameList<A> {
 }
 
 // The names of the saved databases.
+#[inline(never)]
 pub(crate) fn names_of<A: AllocHandle>(
     alloc: A,
     saved: &Tree<Name<A>, Database<A>, A>,

@@ -23,6 +23,7 @@ type Why = (Option<u64>, Refusal);
 
 impl<A: AllocHandle> Core<A> {
     // What a command is refused that is known without memory.
+    #[inline(never)]
     pub(crate) fn refused_first(&self, command: &Command<A>) -> Option<Why>
         ensures { result ≡ refused_first self.now command.now }
     {

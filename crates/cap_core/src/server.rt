@@ -259,6 +259,7 @@ impl<A: AllocHandle> Core<A> {
         })
     }
 
+    #[inline(never)]
     fn read<C: CommitHook<A>>(&mut self, hook: &mut C) -> Result<Reply<A>, Fault<C::Refusal>>
         requires room { HasRoom self.old.events }
         requires can_ask { C.can_ask hook.old (Reply.Snapshot (snapshot_of self.old)) }
@@ -269,6 +270,7 @@ impl<A: AllocHandle> Core<A> {
         self.reply_only(Reply::Snapshot(snapshot), hook)
     }
 
+    #[inline(never)]
     fn dump<C: CommitHook<A>>(&mut self, hook: &mut C) -> Result<Reply<A>, Fault<C::Refusal>>
         requires room { HasRoom self.old.events }
         requires can_ask { C.can_ask hook.old (Reply.Dump (snapshot_of self.old)) }
@@ -280,6 +282,7 @@ impl<A: AllocHandle> Core<A> {
     }
 
     // Saves the tables under a name, and replaces what was saved under it.
+    #[inline(never)]
     fn save_as<C: CommitHook<A>>(
         &mut self,
         name: &Name<A>,
@@ -326,6 +329,7 @@ impl<A: AllocHandle> Core<A> {
     }
 
     // Drops the database that is saved under a name.
+    #[inline(never)]
     fn drop_database<C: CommitHook<A>>(
         &mut self,
         name: &Name<A>,

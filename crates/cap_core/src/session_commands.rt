@@ -25,6 +25,7 @@ use cap_session::{Session, SessionChange};
 use cap_value::{AllocHandle, Fault, Name, OutOfMemory, Refusal};
 
 impl<A: AllocHandle> Core<A> {
+    #[inline(never)]
     pub(crate) fn new_session<C: CommitHook<A>>(
         &mut self,
         hook: &mut C,
@@ -70,6 +71,7 @@ impl<A: AllocHandle> Core<A> {
     }
 
     // Carries out a command to the session with this number, if there is one.
+    #[inline(never)]
     pub(crate) fn session_command<C: CommitHook<A>>(
         &mut self,
         number: u64,

@@ -30,6 +30,7 @@ impl<A: AllocHandle> Drop for SessionList<A> {
 
 impl<A: AllocHandle> SessionList<A> {
     // These sessions.
+    #[inline(never)]
     pub(crate) fn of(alloc: A, sessions: &Sessions<A>) -> Result<Self, OutOfMemory>
         ensures { IfOk result (λ list. list ≡ listed_sessions sessions.now) }
     {

@@ -30,6 +30,7 @@ impl<A: AllocHandle> Drop for TableList<A> {
 
 impl<A: AllocHandle> TableList<A> {
     // The tables of this database.
+    #[inline(never)]
     pub(crate) fn of(alloc: A, database: &Database<A>) -> Result<Self, OutOfMemory>
         ensures { IfOk result (λ list. list ≡ listed_tables database.now) }
     {

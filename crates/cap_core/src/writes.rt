@@ -29,6 +29,7 @@ use cap_value::{AllocHandle, Fault, Name, Refusal};
 
 impl<A: AllocHandle> Core<A> {
     // Makes an empty table.
+    #[inline(never)]
     pub(crate) fn create_table<C: CommitHook<A>>(
         &mut self,
         name: &Name<A>,
@@ -104,6 +105,7 @@ impl<A: AllocHandle> Core<A> {
     }
 
     // Commits operations on a snapshot.
+    #[inline(never)]
     fn commit_ops<C: CommitHook<A>>(
         &mut self,
         ops: &[Op<A>],
@@ -208,6 +210,7 @@ impl<A: AllocHandle> Core<A> {
     }
 
     // Applies a changeset or a patchset under a policy, and leaves these sessions as they are.
+    #[inline(never)]
     pub(crate) fn apply<C: CommitHook<A>>(
         &mut self,
         blob: &Contents<A>,

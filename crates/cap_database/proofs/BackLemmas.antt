@@ -1,6 +1,6 @@
--- A row that is put under its key in one table of a database, or taken out from under it, and may go back.
-use Rattle.std.proofs.Common.{◌≡◌, ℕ, Bool, true, cond, Option, Some, None, Result, Ok, Err, List, [], ◌∷◌, length, refl, sym, ap, ap₂, subst, ◌∙◌, Ordering, Less, Equal, Greater}
-use Rattle.std.specs.Prelude.{IfOk, IfSome, IfNone, OnOk, OnErr, is_some, option_and_then}
+-- A row that is put under its key in one table of a database, or taken out from under it.
+use Rattle.std.proofs.Common.{◌≡◌, ℕ, true, cond, Option, Some, None, Result, Ok, Err, List, [], ◌∷◌, length, refl, sym, ap, ap₂, subst, ◌∙◌, Ordering, Less, Equal, Greater}
+use Rattle.std.specs.Prelude.{IfOk, IfNone, OnOk, OnErr, is_some, option_and_then}
 use Rattle.std.specs.Cmp.{IsTotalOrder, tied_itself}
 use Rattle.std.specs.FinMap.{IsAntisymmetric}
 use Rattle.std.specs.List.{AllByRecursion}
@@ -16,12 +16,12 @@ use Rattle.cap_table.specs.Operation.{with_key, without}
 use Rattle.cap_table.specs.Sound.{IsRising}
 use Rattle.cap_table.specs.Table.{TableState}
 use Rattle.cap_table.specs.declared.row_ref.RowRef.TheVariants.{Key}
-use Rattle.cap_database.specs.Keyed.{GoesBack, IsOwnRow, row_set, set_in, with_row}
+use Rattle.cap_database.specs.Keyed.{IsOwnRow, row_set, set_in, with_row}
 use Rattle.cap_database.specs.Read.{row_at}
 use Rattle.cap_database.specs.Tables.{AreTables, Tables, table_of}
+use Rattle.cap_table.proofs.BackLemmas.{none-taken}
 use Rattle.cap_database.proofs.KeptLemmas.{each-found, each-put, names_same}
-use Rattle.cap_database.proofs.PlaceLemmas.{ordered_put}
-use Rattle.cap_database.proofs.UndoneLemmas.{put-found}
+use Rattle.cap_tree.proofs.EntryLemmas.{ordered_put}
 
 module _ {K V : Type 0} (R : K → K → Ordering) (o : IsTotalOrder R) where
   -- the last of two puts at a key stands
@@ -51,7 +51,7 @@ module _ {K V : Type 0} (R : K → K → Ordering) (o : IsTotalOrder R) where
         | Greater ↦ λ p found. ap (λ x. e ∷ x) (there-already same es k v s.1 found)
       ] refl is
 
-one_table : {X : Type 0} (found : Option X) (x y : X) → found ≡ Some x → found ≡ Some y → x ≡ y
+pub one_table : {X : Type 0} (found : Option X) (x y : X) → found ≡ Some x → found ≡ Some y → x ≡ y
 one_table found x y first second = cc
 
 module _ {A : Type 0} where
@@ -88,24 +88,6 @@ module _ {A : Type 0} where
       each = subst (λ (ts : Tables A). AllByRecursion (λ named. IsRising named.1) ts) (sym is) (each-put IsRising tables name table h.each rise);
     }
 
-    -- the row goes back where the table that came has the same columns
-    goes-back : (new : Tables A) (table : TableState A) (key row : Fields A) → new ≡ put_entry bytes_cmp tables name table → table.schema ≡ its.table.schema
-        → (length row ≡ length its.table.schema) × (key_of its.table.schema row ≡ Some key) → with_key table key row ≡ its.table → GoesBack tables new name key row
-    goes-back new table key row is columns own back =
-        let at : table_of new name ≡ Some table = ap (λ (ts : Tables A). table_of ts name) is ∙ put-found tables name table in
-        record {
-          there = ap is_some at;
-          own = λ other other_is.
-              subst (λ (t : TableState A). (length row ≡ length t.schema) × (key_of t.schema row ≡ Some key)) (one_table (table_of new name) table other at other_is)
-              (subst (λ (s : List Bool). (length row ≡ length s) × (key_of s row ≡ Some key)) (sym columns) own);
-          back =
-              ap (set_in new name key (Some row)) at
-              ∙ ap (λ (ts : Tables A). put_entry bytes_cmp ts name (with_key table key row)) is
-              ∙ again bytes_cmp nat_list_cmp_total tables name (with_key table key row) table
-              ∙ ap (put_entry bytes_cmp tables name) back
-              ∙ there-already bytes_cmp nat_list_cmp_total names_same tables name its.table h.ordered its.is;
-        }
-
     module _ (new : Tables A) (key : Fields A) where
       -- after a put
       pub put-tables : {X E : Type 0} → ((t : TableState A) (k row : Fields A) → IsRising t → length row ≡ length t.schema → key_of t.schema row ≡ Some k → IsRising (with_key t k row))
@@ -115,37 +97,16 @@ module _ {A : Type 0} where
           with_table new (with_key its.table key row) (law its.table key row rises stands.0 stands.1) (set ∙ set_is key (Some row)) long
       put-tables law (Err e) row own set kept long = subst AreTables (sym kept) h
 
-      pub put-back : {E : Type 0} → ((t : TableState A) (k row : Fields A) → IsRising t → get fields_cmp t.keyed k ≡ Some row → (length row ≡ length t.schema) × (key_of t.schema row ≡ Some k))
-          → ((t : TableState A) (k row other : Fields A) → IsRising t → get fields_cmp t.keyed k ≡ Some row → with_key (with_key t k other) k row ≡ t)
-          → (r : Result (Option (Fields A)) E) (row : Fields A) → OnOk r (new ≡ row_set tables name key (Some row)) → IfOk r (λ before. before ≡ row_at tables name key)
-          → IfOk r (λ before. IfSome before (GoesBack tables new name key))
-      put-back stands law (Ok None) row set before = tt
-      put-back stands law (Ok (Some old)) row set before =
-          let was = sym (at_is key) ∙ sym before in
-          goes-back new (with_key its.table key row) key old (set ∙ set_is key (Some row)) refl (stands its.table key old rises was) (law its.table key old row rises was)
-      put-back stands law (Err e) row set before = tt
-
       -- after a take
       pub take-tables : {X E : Type 0} → ((t : TableState A) (k : Fields A) → IsRising t → IsRising (without t (Key k)))
           → (r : Result X E) → OnOk r (new ≡ row_set tables name key None) → OnErr r (new ≡ tables) → length new ≡ length tables → AreTables new
       take-tables law (Ok x) set kept long = with_table new (without its.table (Key key)) (law its.table key rises) (set ∙ set_is key None) long
       take-tables law (Err e) set kept long = subst AreTables (sym kept) h
 
-      pub take-back : {E : Type 0} → ((t : TableState A) (k row : Fields A) → IsRising t → get fields_cmp t.keyed k ≡ Some row → (length row ≡ length t.schema) × (key_of t.schema row ≡ Some k))
-          → ((t : TableState A) (k row : Fields A) → IsRising t → get fields_cmp t.keyed k ≡ Some row → with_key (without t (Key k)) k row ≡ t)
-          → (r : Result (Option (Fields A)) E) → OnOk r (new ≡ row_set tables name key None) → IfOk r (λ before. before ≡ row_at tables name key)
-          → IfOk r (λ before. IfSome before (GoesBack tables new name key))
-      take-back stands law (Ok None) set before = tt
-      take-back stands law (Ok (Some old)) set before =
-          let was = sym (at_is key) ∙ sym before in
-          goes-back new (without its.table (Key key)) key old (set ∙ set_is key None) refl (stands its.table key old rises was) (law its.table key old rises was)
-      take-back stands law (Err e) set before = tt
-
-      pub take-none : {E : Type 0} → ((t : TableState A) (k : Fields A) → get fields_cmp t.keyed k ≡ None → without t (Key k) ≡ t)
-          → (r : Result (Option (Fields A)) E) → OnOk r (new ≡ row_set tables name key None) → IfOk r (λ before. before ≡ row_at tables name key)
+      pub take-none : {E : Type 0} (r : Result (Option (Fields A)) E) → OnOk r (new ≡ row_set tables name key None) → IfOk r (λ before. before ≡ row_at tables name key)
           → IfOk r (λ before. IfNone before (new ≡ tables))
-      take-none law (Ok None) set before =
-          set ∙ set_is key None ∙ ap (put_entry bytes_cmp tables name) (law its.table key (sym (at_is key) ∙ sym before))
+      take-none (Ok None) set before =
+          set ∙ set_is key None ∙ ap (put_entry bytes_cmp tables name) (none-taken its.table key (sym (at_is key) ∙ sym before))
           ∙ there-already bytes_cmp nat_list_cmp_total names_same tables name its.table h.ordered its.is
-      take-none law (Ok (Some old)) set before = tt
-      take-none law (Err e) set before = tt
+      take-none (Ok (Some old)) set before = tt
+      take-none (Err e) set before = tt

@@ -16,7 +16,7 @@ use Rattle.cap_table.specs.WithHook.{LeavesOnceAllowed}
 use Rattle.cap_table.specs.declared.not_made.NotMade.{NotMade}
 use Rattle.cap_table.specs.declared.row_ref.RowRef.TheVariants.{Key, Loose}
 use Rattle.cap_table.proofs.KeptKeyLemmas.{same_key}
-use Rattle.cap_table.proofs.RenewLemmas.{own_row}
+use Rattle.cap_table.proofs.BackLemmas.{own-row}
 use Rattle.cap_database.specs.Assigned.{Assigned}
 use Rattle.cap_database.specs.KeptKey.{AreOfKey, kept_in, kept_key}
 use Rattle.cap_database.specs.Operation.{Changed, act, changed_rows, changes, changes_in, changes_to, in_place, step, stepped, updated_rows}
@@ -51,7 +51,7 @@ module _ {A : Type 0} where
         → updated_rows t (Key key) fields found ≡ (Some key, found) ∷ (Some key, None) ∷ []
     updated-twice fields keeps None there after is = absurd cc
     updated-twice fields keeps (Some row) there after is =
-        ap (λ own. (Some key, Some row) ∷ (own, None) ∷ []) (same_key t.schema fields keeps row ∙ (own_row t key row h there).1)
+        ap (λ own. (Some key, Some row) ∷ (own, None) ∷ []) (same_key t.schema fields keeps row ∙ (own-row t key row h there).1)
 
   -- the changes of one key: the row before it goes, and where it is replaced another comes
   abbrev OfKey : Fields A → Option (Fields A) → List (Changed A) → Type 0

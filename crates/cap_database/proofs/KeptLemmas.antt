@@ -1,12 +1,12 @@
 -- What operations and new tables keep of a database: the columns of its tables, and that names, keys and ids rise.
-use Rattle.std.proofs.Common.{◌≡◌, ℕ, Bool, true, false, cond, Option, Some, None, Result, Ok, Err, List, [], ◌∷◌, refl, sym, ap, subst, ◌∙◌, Less, Equal, Greater, T}
+use Rattle.std.proofs.Common.{◌≡◌, ℕ, Bool, true, false, cond, Option, Some, None, Result, Ok, Err, List, [], ◌∷◌, refl, sym, ap, subst, ◌∙◌, Less, Equal, Greater}
 use Rattle.std.specs.Prelude.{IfOk, OnErr, is_some, length, nat_lt}
 use Rattle.std.specs.Option.{option_map}
 use Rattle.std.specs.List.{AllByRecursion}
 use Rattle.std.specs.Ordering.{eq_by_cmp, match_ordering}
-use Rattle.std.specs.Cmp.{Equal-is}
+use Rattle.std.specs.Cmp.{Equal-is, eq_by_cmp_equiv}
 use Rattle.std.specs.FinMap.{IsAntisymmetric, nat_cmp-IsAntisymmetric, slice_cmp-IsAntisymmetric}
-use Rattle.std.specs.FinMap.Entries.{by_order, find, find-put, is_sorted, is_sorted-put, put}
+use Rattle.std.specs.FinMap.Entries.{find, is_sorted}
 use Rattle.std.proofs.lemmas.Cmp.{nat_list_cmp_total}
 use Rattle.cap_value.specs.Bytes.{bytes_cmp}
 use Rattle.cap_value.specs.Memory.{LeavesUnlessMemory}
@@ -15,12 +15,14 @@ use Rattle.cap_value.specs.declared.refusal.Refusal.{Refusal}
 use Rattle.cap_value.specs.declared.refusal.Refusal.TheVariants.{TableExists, TooMany}
 use Rattle.cap_row.specs.Fields.{Fields}
 use Rattle.cap_tree.specs.Tree.{get, put_entry}
+use Rattle.cap_tree.proofs.EntryLemmas.{put_entry-Updates}
 use Rattle.cap_table.specs.WithHook.{LeavesOnceAllowed}
 use Rattle.cap_table.specs.Operation.{delete_row, empty_table, insert_row, update_row}
 use Rattle.cap_table.specs.Sound.{IsRising}
 use Rattle.cap_table.specs.Table.{TableState}
 use Rattle.cap_table.specs.declared.not_made.NotMade.{NotMade}
 use Rattle.cap_table.specs.declared.row_ref.RowRef.{RowRef}
+use Rattle.cap_table.proofs.KeptLemmas.{sorted-put as sorted-entries}
 use Rattle.cap_database.specs.Assigned.{Assigned}
 use Rattle.cap_database.specs.Operation.{act, and_then, changes, in_place, one_later, run, step, stepped, with_changes}
 use Rattle.cap_database.specs.Outcome.{OutcomeState}
@@ -30,10 +32,6 @@ use Rattle.cap_database.specs.declared.op.Action.{Action}
 use Rattle.cap_database.specs.declared.op.Action.TheVariants.{Insert, Update, Delete}
 use Rattle.cap_database.specs.declared.op.Op.{Op}
 use Rattle.cap_database.specs.declared.refused_at.RefusedAt.{RefusedAt}
-
-truth : (b : Bool) → T b → b ≡ true
-truth true t = refl
-truth false t = absurd t
 
 -- what is so of an answer is so where it says more
 pub if_ok : {X E : Type 0} (P Q : X → Type 0) → ((x : X) → P x → Q x) → (r : Result X E) → IfOk r P → IfOk r Q
@@ -50,23 +48,13 @@ module _ {X : Type 0} where
   get-find [] q = refl
   get-find (e ∷ es) q = ap (cond (eq_by_cmp bytes_cmp q e.0) (Some e.1)) (get-find es q)
 
-  put_entry-put : (es : List (List ℕ × X)) (k : List ℕ) (v : X) → put_entry bytes_cmp es k v ≡ put bytes_cmp k v es
-  put_entry-put [] k v = refl
-  put_entry-put (e ∷ es) k v =
-      elim (bytes_cmp k e.0) as (λ r. bytes_cmp k e.0 ≡ r → match_ordering r ((k, v) ∷ e ∷ es) ((k, v) ∷ es) (e ∷ put_entry bytes_cmp es k v) ≡ by_order r ((k, v) ∷ e ∷ es) ((e.0, v) ∷ es) (e ∷ put bytes_cmp k v es)) [
-        | Less ↦ λ p. refl
-        | Equal ↦ λ p. ap (λ x. (x, v) ∷ es) (names_same k e.0 p)
-        | Greater ↦ λ p. ap (λ x. e ∷ x) (put_entry-put es k v)
-      ] refl
-
   -- what a name has after a put
   pub get-put : (es : List (List ℕ × X)) (name : List ℕ) (x : X) (q : List ℕ) → get bytes_cmp (put_entry bytes_cmp es name x) q ≡ cond (eq_by_cmp bytes_cmp q name) (Some x) (get bytes_cmp es q)
   get-put es name x q =
-      ap (λ l. get bytes_cmp l q) (put_entry-put es name x) ∙ get-find _ q ∙ find-put bytes_cmp nat_list_cmp_total q name x es
-      ∙ ap (λ found. cond (eq_by_cmp bytes_cmp q name) (Some x) found) (sym (get-find es q))
+      put_entry-Updates bytes_cmp nat_list_cmp_total name x es q ∙ ap (λ b. cond b (Some x) (get bytes_cmp es q)) ((eq_by_cmp_equiv nat_list_cmp_total).symm name q)
 
   pub sorted-put : (es : List (List ℕ × X)) (name : List ℕ) (x : X) → is_sorted bytes_cmp es ≡ true → is_sorted bytes_cmp (put_entry bytes_cmp es name x) ≡ true
-  sorted-put es name x s = ap (is_sorted bytes_cmp) (put_entry-put es name x) ∙ truth _ (is_sorted-put bytes_cmp nat_list_cmp_total name x es (subst T (sym s) tt))
+  sorted-put es name x s = sorted-entries bytes_cmp nat_list_cmp_total names_same es name x s
 
   module _ (P : X → Type 0) where
     pub each-put : (es : List (List ℕ × X)) (name : List ℕ) (x : X) → AllByRecursion (λ e. P e.1) es → P x → AllByRecursion (λ e. P e.1) (put_entry bytes_cmp es name x)

@@ -1,16 +1,9 @@
 pub mod Crossing
 pub mod BackLemmas
-pub mod BatchesLemmas
-pub mod CommuteLemmas
-pub mod FrontLemmas
-pub mod IdLemmas
 pub mod KeptKeyLemmas
 pub mod KeptLemmas
 pub mod PlaceLemmas
 pub mod PlanLemmas
-pub mod ReplaceLemmas
-pub mod RowsInLemmas
-pub mod RowsLemmas
 pub mod RunLemmas
 pub mod StayLemmas
 pub mod StepLemmas

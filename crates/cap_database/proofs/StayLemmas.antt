@@ -7,13 +7,12 @@ use Rattle.std.specs.Cmp.Lexicographic.{bytes_decides}
 use Rattle.std.specs.Ordering.{eq_by_cmp}
 use Rattle.std.specs.BTreeMap.{is_at}
 use Rattle.std.specs.Cmp.{Equal-is, eq_by_cmp_equiv}
-use Rattle.std.specs.FinMap.{IsAntisymmetric}
 use Rattle.std.proofs.lemmas.List.Folds.{find-append, list_any-append}
 use Rattle.cap_value.specs.Bytes.{bytes_cmp, bytes_eq}
 use Rattle.cap_value.specs.declared.refusal.Refusal.{Refusal}
 use Rattle.cap_value.specs.declared.refusal.Refusal.TheVariants.{BadColumn, IdsSpent, NoRow, WrongWidth}
 use Rattle.cap_row.specs.Fields.{Fields}
-use Rattle.cap_row.specs.Key.{fields_cmp, fields_cmp_total, fields_cmp-Equal, fields_eq, key_of}
+use Rattle.cap_row.specs.Key.{fields_cmp, fields_cmp_total, fields_eq, key_of}
 use Rattle.cap_row.specs.Row.{are_columns, columns_of, row_with}
 use Rattle.cap_tree.specs.Tree.{get, put_entry, take_entry}
 use Rattle.cap_table.specs.Operation.{key_of_name, moved, placed, row_of, under_key, under_next_id, updated, with_id, with_key, without}
@@ -21,6 +20,7 @@ use Rattle.cap_table.specs.Sound.{is_key_of}
 use Rattle.cap_table.specs.Table.{TableState}
 use Rattle.cap_table.specs.declared.row_ref.RowRef.{RowRef}
 use Rattle.cap_table.specs.declared.row_ref.RowRef.TheVariants.{Key, Loose}
+use Rattle.cap_table.proofs.TableLemmas.{fields_same}
 use Rattle.cap_database.specs.Assigned.{Assigned}
 use Rattle.cap_database.specs.Carried.{CarryFirstRows, is_of_row}
 use Rattle.cap_database.specs.Operation.{Changed, act, and_then, changed_rows, changes, changes_in, changes_to, goes, in_place, run, step, stepped, updated_rows}
@@ -46,20 +46,12 @@ pub other_false : (a b : Bool) → (a || b) ≡ false → b ≡ false
 other_false true b is = cc
 other_false false b is = is
 
-second_true : (a b : Bool) → (a && b) ≡ true → b ≡ true
-second_true true b is = is
-second_true false b is = cc
-
 -- what was found
 pub same_found : {X : Type 0} (a b : X) → Some a ≡ Some b → a ≡ b
 same_found a b is = cc
 
 -- an item that is found in the first list, or in the second where none is in the first
 module _ {X : Type 0} (test : X → Bool) where
-  pub none-any : (xs : List X) → list_any test xs ≡ false → find test xs ≡ None
-  none-any [] none = refl
-  none-any (x ∷ xs) none = elim (test x) as (λ b. (b || list_any test xs) ≡ false → cond b (Some x) (find test xs) ≡ None) [ true ↦ λ e. cc | false ↦ λ e. none-any xs e ] none
-
   pub any-none : (xs : List X) → find test xs ≡ None → list_any test xs ≡ false
   any-none [] none = refl
   any-none (x ∷ xs) none = elim (test x) as (λ b. cond b (Some x) (find test xs) ≡ None → (b || list_any test xs) ≡ false) [ true ↦ λ e. cc | false ↦ λ e. any-none xs e ] none
@@ -73,9 +65,6 @@ module _ {X : Type 0} (test : X → Bool) where
       inner None at same = later (any-none xs at) x same
 
 module _ {A : Type 0} where
-  pub fields_same : IsAntisymmetric (fields_cmp {A = A})
-  fields_same a b = (fields_cmp-Equal a b).0
-
   -- ---- entries at other keys
 
   pub get-put-other : (es : List (Fields A × Fields A)) (key row q : Fields A) → eq_by_cmp fields_cmp q key ≡ false → get fields_cmp (put_entry fields_cmp es key row) q ≡ get fields_cmp es q

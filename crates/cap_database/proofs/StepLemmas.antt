@@ -1,17 +1,17 @@
 -- An operation on the table at its place, and what it does to the database.
-use Rattle.std.proofs.Common.{Bool, true, false, cond, ◌==◌, ◌≡◌, ℕ, zero, suc, ◌+◌, ◌<◌, ◌≤◌, Option, Some, None, Result, Ok, Err, List, [], ◌∷◌, ◌++◌, length, take, get_or, set, refl, sym, ap, subst, ◌∙◌, arith}
-use Rattle.std.specs.Prelude.{IfOk, OnErr, is_some, nat_lt}
+use Rattle.std.proofs.Common.{Bool, true, false, cond, ◌==◌, ◌≡◌, ℕ, ◌+◌, ◌<◌, Option, Some, None, Result, Ok, Err, List, [], ◌∷◌, ◌++◌, length, take, get_or, refl, sym, ap, subst, ◌∙◌, arith}
+use Rattle.std.specs.Prelude.{is_some, nat_lt}
 use Rattle.std.proofs.lemmas.Bool.Decides.{nat_tests}
-use Rattle.cap_value.specs.declared.refusal.Refusal.TheVariants.{BadColumn, NoRow, TableExists, TooMany, WrongWidth}
+use Rattle.cap_value.specs.declared.refusal.Refusal.TheVariants.{BadColumn, NoRow, WrongWidth}
 use Rattle.cap_database.specs.Tables.{refused_create}
 use Rattle.std.proofs.lemmas.Cmp.{nat_list_cmp_total}
 use Rattle.cap_value.specs.Bytes.{bytes_cmp}
 use Rattle.cap_value.specs.declared.memory.Fault.{Fault}
-use Rattle.cap_value.specs.declared.memory.Fault.TheVariants.{Refused, OutOfMemory}
+use Rattle.cap_value.specs.declared.memory.Fault.TheVariants.{Refused}
 use Rattle.cap_value.specs.declared.refusal.Refusal.{Refusal}
 use Rattle.cap_row.specs.Fields.{Fields}
 use Rattle.cap_tree.specs.Tree.{IsOrdered, put_entry}
-use Rattle.cap_value.specs.Memory.{LeavesUnlessMemory, RefusesFirst}
+use Rattle.cap_value.specs.Memory.{RefusesFirst}
 use Rattle.cap_row.specs.Key.{key_of}
 use Rattle.cap_row.specs.Row.{are_columns, columns_of}
 use Rattle.cap_table.specs.Operation.{empty_table, placed, row_of, updated, without}
@@ -23,35 +23,16 @@ use Rattle.cap_table.specs.Sound.{IsRising}
 use Rattle.std.proofs.lemmas.List.{take_more}
 use Rattle.cap_database.specs.Tables.{create, created}
 use Rattle.cap_table.specs.Table.{TableState}
-use Rattle.cap_database.specs.declared.change.Change.{Change}
 use Rattle.cap_database.specs.declared.op.Op.{Op}
-use Rattle.cap_database.specs.Operation.{act, changed_rows, changes_in, changes_to, changes, in_place, refused_act, step, stepped}
+use Rattle.cap_database.specs.Operation.{act, in_place, refused_act, step, stepped}
 use Rattle.cap_database.specs.Tables.{AreTables, EachRises, Tables, table_of}
 use Rattle.cap_database.proofs.KeptLemmas.{each-put}
-use Rattle.cap_database.proofs.PlaceLemmas.{ordered_put, put_entry-longer}
-
-set_same : {X : Type 0} (xs : List X) (i : ℕ) (d : X) → i < length xs → set xs i (get_or xs i d) ≡ xs
-set_same [] i d l = absurd (omega arith)
-set_same (x ∷ xs) zero d l = refl
-set_same (x ∷ xs) (suc i) d l = ap (λ t. x ∷ t) (set_same xs i d (omega arith))
-
-module _ {A : Type 0} (ts : Tables A) (op : Op A) (t : TableState A) (there : table_of ts op.table ≡ Some t) where
-  pub step_leaves : {X : Type 0} (r : Result X (Fault Refusal)) (new : TableState A) → LeavesUnlessMemory r (act t op.action) new → LeavesUnlessMemory r (step ts op) (put_entry bytes_cmp ts op.table new)
-  step_leaves (Ok x) new l = ap (λ found. stepped ts found op) there ∙ ap (in_place ts op.table) l
-  step_leaves (Err (Refused why)) new l = ap (λ found. stepped ts found op) there ∙ ap (in_place ts op.table) l
-  step_leaves (Err OutOfMemory) new l = tt
-
-  pub told : {X : Type 0} (r : Result X (Fault Refusal)) (f : X → List (Change A)) → IfOk r (λ x. f x ≡ changes_to op.table op.cause (changed_rows t op.action)) → IfOk r (λ x. f x ≡ changes ts op)
-  told (Ok x) f l = l ∙ ap (λ found. changes_in found op) (sym there)
-  told (Err e) f l = tt
+use Rattle.cap_tree.proofs.EntryLemmas.{ordered_put}
+use Rattle.cap_database.proofs.PlaceLemmas.{put_entry-longer}
 
 -- what an operation on its table leaves of the database
 pub act_step : {A : Type 0} (ts : Tables A) (op : Op A) (t after : TableState A) → table_of ts op.table ≡ Some t → act t op.action ≡ Ok after → step ts op ≡ Ok (put_entry bytes_cmp ts op.table after)
 act_step ts op t after there is = ap (λ found. stepped ts found op) there ∙ ap (in_place ts op.table) is
-
-pub kept_all : {X A : Type 0} (r : Result X (Fault Refusal)) (ts : Tables A) (i : ℕ) (d : List ℕ × TableState A) (new : TableState A) → i < length ts → OnErr r (new ≡ (get_or ts i d).1) → OnErr r (set ts i ((get_or ts i d).0, new) ≡ ts)
-kept_all (Ok x) ts i d new l same = tt
-kept_all (Err e) ts i d new l same = ap (λ t. set ts i ((get_or ts i d).0, t)) same ∙ set_same ts i d l
 
 module _ {A : Type 0} where
   pub after_create : (ts new : Tables A) (name : List ℕ) (t : TableState A) → AreTables ts → IsRising t → new ≡ put_entry bytes_cmp ts name t → length ts < 64 → AreTables new
@@ -65,16 +46,7 @@ module _ {A : Type 0} where
   pub after_step : (ts new : Tables A) → AreTables ts → IsOrdered bytes_cmp new → length new ≡ length ts → EachRises new → AreTables new
   after_step ts new h ordered same each = record { ordered = ordered; few = rw same h.few; each = each }
 
-  pub absent_table : (ts : Tables A) (op : Op A) → table_of ts op.table ≡ None → step ts op ≡ stepped ts None op
-  absent_table ts op none = ap (λ found. stepped ts found op) none
-
 module _ {A : Type 0} (ts : Tables A) (name : List ℕ) where
-  pub exists_already : is_some (table_of ts name) ≡ true → refused_create ts name ≡ Some TableExists
-  exists_already there = rw there
-
-  pub too_many : is_some (table_of ts name) ≡ false → 64 ≤ length ts → refused_create ts name ≡ Some TooMany
-  too_many there many = let below : nat_lt (length ts) 64 ≡ false = grind (arith, nat_tests) in rw (there, below)
-
   pub is_free : is_some (table_of ts name) ≡ false → length ts < 64 → refused_create ts name ≡ None
   is_free there few = let below : nat_lt (length ts) 64 ≡ true = grind (arith, nat_tests) in rw (there, below)
 

@@ -3,11 +3,12 @@ use Rattle.std.proofs.Common.{◌≡◌, Bool, true, false, cond, ◌&&◌, Opti
 use Rattle.std.specs.List.{AllByRecursion}
 use Rattle.std.specs.BTreeMap.{is_at}
 use Rattle.std.specs.Ordering.{eq_by_cmp, is_eq, is_lt}
-use Rattle.std.specs.Cmp.{Equal-is, IsTotalOrder}
+use Rattle.std.specs.Cmp.{Equal-is, IsTotalOrder, eq_by_cmp_equiv}
 use Rattle.std.specs.FinMap.{IsAntisymmetric}
-use Rattle.std.specs.FinMap.Entries.{below_all, find, find-put, is_sorted, put, same_entries}
+use Rattle.std.specs.FinMap.Entries.{below_all, find, is_sorted, same_entries}
 use Rattle.cap_tree.specs.Tree.{get, put_entry, take_entry}
-use Rattle.cap_table.proofs.KeptLemmas.{put_entry-put, sorted-put, sorted-remove}
+use Rattle.cap_tree.proofs.EntryLemmas.{put_entry-Updates}
+use Rattle.cap_table.proofs.KeptLemmas.{sorted-put, sorted-remove}
 use Rattle.cap_table.proofs.TableLemmas.{first, second}
 
 module _ {X : Type 0} where
@@ -26,9 +27,7 @@ module _ {K X : Type 0} (R : K → K → Ordering) (o : IsTotalOrder R) (same : 
   get-find (e ∷ es) q = ap (cond (eq_by_cmp R q e.0) (Some e.1)) (get-find es q)
 
   pub get-put : (es : List (K × X)) (k : K) (x : X) (q : K) → get R (put_entry R es k x) q ≡ cond (eq_by_cmp R q k) (Some x) (get R es q)
-  get-put es k x q =
-      ap (λ l. get R l q) (put_entry-put R same es k x) ∙ get-find (put R k x es) q ∙ find-put R o q k x es
-      ∙ ap (λ found. cond (eq_by_cmp R q k) (Some x) found) (sym (get-find es q))
+  get-put es k x q = put_entry-Updates R o k x es q ∙ ap (λ b. cond b (Some x) (get R es q)) ((eq_by_cmp_equiv o).symm k q)
 
   absent-below : (x : K) (es : List (K × X)) → below_all R x es ≡ true → get R es x ≡ None
   absent-below x [] below = refl
@@ -86,10 +85,6 @@ module _ {K X : Type 0} (R : K → K → Ordering) (o : IsTotalOrder R) (same : 
   abbrev pub sets : List (K × X) → List (K × Option X) → List (K × X)
   sets es [] = es
   sets es (w ∷ ws) = sets (set_at es w.0 w.1) ws
-
-  pub sorted-sets : (es : List (K × X)) (ws : List (K × Option X)) → is_sorted R es ≡ true → is_sorted R (sets es ws) ≡ true
-  sorted-sets es [] s = s
-  sorted-sets es (w ∷ ws) s = sorted-sets (set_at es w.0 w.1) ws (sorted-set es w.0 w.1 s)
 
   -- what no write is at stays
   pub get-sets : (es : List (K × X)) (ws : List (K × Option X)) (q : K) → is_sorted R es ≡ true → AllByRecursion (λ w. w.0 ≡ q → ⊥) ws → get R (sets es ws) q ≡ get R es q

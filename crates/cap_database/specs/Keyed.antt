@@ -1,5 +1,5 @@
 -- A row put under its key in one table of a database, or taken out from under it.
-use Rattle.std.specs.Prelude.{◌≡◌, ℕ, true, Option, Some, None, List, length, is_some}
+use Rattle.std.specs.Prelude.{◌≡◌, ℕ, Option, Some, None, List, length}
 use Rattle.cap_value.specs.Bytes.{bytes_cmp}
 use Rattle.cap_row.specs.Fields.{Fields}
 use Rattle.cap_row.specs.Key.{key_of}
@@ -29,9 +29,3 @@ module _ {A : Type 0} where
   IsOwnRow tables name key row =
       (table : TableState A) → table_of tables name ≡ Some table → (length row ≡ length table.schema)
       × (key_of table.schema row ≡ Some key)
-
-  -- the row may go back under the key, and the database is then as it was
-  pub record GoesBack (before after : Tables A) (name : List ℕ) (key row : Fields A) : Type 0 where
-    pub there : is_some (table_of after name) ≡ true
-    pub own : IsOwnRow after name key row
-    pub back : row_set after name key (Some row) ≡ before

@@ -1,14 +1,9 @@
-pub mod Apart
 pub mod Assigned
-pub mod Batches
 pub mod Carried
-pub mod Front
-pub mod Ids
 pub mod Keyed
 pub mod Operation
 pub mod Outcome
 pub mod Read
-pub mod Replace
 pub mod Snapshot
 pub mod Tables
 pub mod KeptKey

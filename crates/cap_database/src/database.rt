@@ -11,19 +11,17 @@ ghost use Rattle.cap_database.specs.Tables.{EachRises, Tables, create, refused_c
 ghost use Rattle.cap_table.specs.NotMade.{RefusesAtOnce};
 ghost use Rattle.cap_database.specs.Operation.{step, changes_made, changes, refused_step};
 ghost use Rattle.cap_database.specs.KeptKey.{AreOfKey, kept_key, row_left};
-ghost use Rattle.cap_database.specs.Keyed.{GoesBack, IsOwnRow, row_set};
-ghost use Rattle.cap_row.specs.Fields.{Fields};
+ghost use Rattle.cap_database.specs.Keyed.{IsOwnRow, row_set};
 ghost use Rattle.cap_database.specs.Read.{read, row_at, rows_of, Lends};
-ghost use Rattle.cap_database.specs.Replace.{MakesOwnRows, ReplacesRow};
 
 use crate::kept_key::kept_in;
-use crate::keyed::{put_under, replace_under, take_under};
+use crate::keyed::{put_under, take_under};
 use crate::limits::TABLES_MAX;
 use crate::place::{copies, place_of, put_at, step_at, step_keyed_at};
 use crate::{Effect, Op};
 use cap_row::{Key, Row, Schema};
 use cap_table::{NotMade, RowRef, Scan, Table, operations_keep_tables};
-use cap_tree::{Hook, Remake};
+use cap_tree::Hook;
 use cap_value::{AllocHandle, Exact, Fault, Name, OutOfMemory, Refusal};
 use std::marker::Model;
 
@@ -98,6 +96,16 @@ impl<A: AllocHandle> Database<A> {
         }
     }
 
+    /// The row of a key in the table of this name, or none where no row has the key or no table the name.
+    pub fn row(&self, table: &Name<A>, key: &Key<A>) -> Option<&Row<A>>
+        ensures { option_copied result ≡ row_at self.now table.now key.now }
+    {
+        match self.table(table) {
+            Some(table) => table.keyed().get(key),
+            None => None,
+        }
+    }
+
     /// Adds a table without rows. Refused with `TableExists` where a table has the name already, and then
     /// with `TooMany` where there are `TABLES_MAX`. On an error the database is as before.
     pub fn create(&mut self, name: Name<A>, schema: Schema<A>) -> Result<(), Fault<Refusal>>
@@ -145,7 +153,7 @@ impl<A: AllocHandle> Database<A> {
         }
     }
 
-    /// Makes an operation on a row that keeps this key, by one search, if the hook allows it, with `step`'s
+    /// Makes an operation on a row that keeps this key in place, if the hook allows it, with `step`'s
     /// refusals. The hook is asked once, after all memory is reserved, and only if the rules accept the
     /// operation. It is shown the row under the key before and after. On an error the database is as before.
     pub fn step_keyed<H: Hook<Row<A>>>(
@@ -173,8 +181,8 @@ impl<A: AllocHandle> Database<A> {
         step_keyed_at(&mut self.tables, place, op, key, hook)
     }
 
-    /// Puts a row under its own key in the table of this name, and answers the row that was there, if any,
-    /// which may go back. The table is searched once. On an error the database is as before.
+    /// Puts a row under its own key in the table of this name, and answers the row that was there, if any. The
+    /// table is searched once. On an error the database is as before.
     pub fn put_row(
         &mut self,
         table: &Name<A>,
@@ -186,42 +194,18 @@ impl<A: AllocHandle> Database<A> {
         ensures set { OnOk result (self.new ≡ row_set self.old table.now key (Some row)) }
         ensures kept { OnErr result (self.new ≡ self.old) }
         ensures before { IfOk result (λ before. before ≡ row_at self.old table.now key) }
-        ensures back { IfOk result (λ before.
-            IfSome before (GoesBack self.old self.new table.now key)) }
     {
         put_under(&mut self.tables, table, key, row)
     }
 
-    /// Replaces the row of a key in the table of this name by one that `hook` makes of it, and answers the
-    /// row that was there, or none where no row has the key. The table is searched once.
-    ///
-    /// `hook` is asked once, after all other memory is reserved, and only if there is a row. If it refuses,
-    /// or on `OutOfMemory`, the database is as before.
-    pub fn replace_row<H: Remake<Row<A>>>(
-        &mut self,
-        table: &Name<A>,
-        key: &Key<A>,
-        hook: &mut H,
-    ) -> Result<Option<Row<A>>, Fault<H::Refusal>>
-        requires there { IsTrue (is_some (table_of self.old table.now)) }
-        requires can_remake { (row : Fields A) → IsOwnRow self.old table.now key.now row
-            → H.can_remake hook.old row }
-        requires own { MakesOwnRows H.gives hook.old self.old table.now key.now }
-        ensures { ReplacesRow H.gives result self.old table.now key.now self.new hook.old hook.new }
-    {
-        replace_under(&mut self.tables, table, key, hook)
-    }
-
-    /// Takes the row of a key out of the table of this name, and answers it, if any; it may go back. The
-    /// table is searched once. On an error the database is as before.
+    /// Takes the row of a key out of the table of this name, and answers it, if any. The table is searched
+    /// once. On an error the database is as before.
     pub fn take_row(&mut self, table: &Name<A>, key: &Key<A>) -> Result<Option<Row<A>>, OutOfMemory>
         requires there { IsTrue (is_some (table_of self.old table.now)) }
         ensures set { OnOk result (self.new ≡ row_set self.old table.now key.now None) }
         ensures kept { OnErr result (self.new ≡ self.old) }
         ensures before { IfOk result (λ before. before ≡ row_at self.old table.now key.now) }
         ensures none { IfOk result (λ before. IfNone before (self.new ≡ self.old)) }
-        ensures back { IfOk result (λ before.
-            IfSome before (GoesBack self.old self.new table.now key.now)) }
     {
         take_under(&mut self.tables, table, key)
     }

@@ -1,4 +1,4 @@
-//! Operations on a row that has a key and keeps it: each is made in place, by one search.
+//! Operations on a row that has a key and keeps it: each is made in place.
 ghost use Rattle.std.specs.Prelude.{◌≡◌, IfOk, OnErr, Ok, Some};
 ghost use Rattle.cap_row.specs.Key.{fields_cmp};
 ghost use Rattle.cap_tree.specs.Tree.{get};

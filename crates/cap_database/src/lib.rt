@@ -22,12 +22,7 @@ pub use cause::Cause;
 pub use change::Change;
 pub use database::Database;
 pub use effect::Effect;
-pub use laws::{
-    deletes_undo_inserts, first_changes_carry_the_rows_before, first_refusal_ends_the_list,
-    last_operation_adds_its_changes, lists_give_ids_once, operations_in_front_are_accepted,
-    operations_on_different_rows_commute, operations_on_different_tables_commute,
-    refused_batches_leave_nothing, tables_keep_columns, tables_keep_order,
-};
+pub use laws::{tables_keep_columns, tables_keep_order};
 pub use limits::TABLES_MAX;
 pub use op::{Action, Op};
 pub use outcome::Outcome;

@@ -1,5 +1,5 @@
 -- Two records of one row, field by field, by the bytes of their fields.
-use Rattle.std.proofs.Common.{◌≡◌, ℕ, ◌+◌, ◌<◌, ◌≤◌, List, [], ◌∷◌, ◌++◌, Bool, true, false, not, ◌&&◌, ◌||◌, cond, length, drop, get_or, Option, Some, None, IfSome, refl, sym, ap, ◌∙◌}
+use Rattle.std.proofs.Common.{◌≡◌, ℕ, ◌+◌, ◌<◌, List, [], ◌∷◌, ◌++◌, Bool, true, false, not, ◌&&◌, ◌||◌, cond, length, drop, get_or, Option, Some, None, IfSome, refl, sym, ap, ◌∙◌}
 use Rattle.cap_value.specs.Bytes.{bytes_eq}
 use Rattle.cap_value.specs.declared.value.Value.{Value}
 use Rattle.cap_value.specs.declared.value.Value.TheVariants.{Null, Int, Text, Blob}
@@ -8,10 +8,9 @@ use Rattle.cap_changes.specs.Column.{by_column}
 use Rattle.cap_changes.specs.Field.{record_bytes, field_bytes}
 use Rattle.cap_changes.specs.FieldRecord.{RecordFields}
 use Rattle.cap_changes.specs.Record.{BeginsWithField}
-use Rattle.cap_changes.proofs.PassLemmas.{flags-cons, flags-past}
-use Rattle.cap_changes.proofs.PutLemmas.{goes_on, put_all}
+use Rattle.cap_changes.proofs.PassLemmas.{flags-cons}
+use Rattle.cap_changes.proofs.PutLemmas.{goes_on}
 use Rattle.cap_changes.proofs.TouchedLemmas.{choose, eq_by_bytes}
-use Rattle.cap_changes.proofs.WholeLemmas.{undefined}
 use Rattle.cap_group.specs.Record as together
 
 -- a key field, or one that is not the same
@@ -33,27 +32,6 @@ module _ {A : Type 0} where
   field_eq_bytes (Some (Blob t)) None p q = refl
   field_eq_bytes (Some b) (Some a) p q = sym (eq_by_bytes b a p q)
 
-  -- the next field of a record over another
-  pub over_begins : (below belows above aboves : RecordFields A) (b a : List ℕ) → BeginsWithField below b belows → BeginsWithField above a aboves →
-      BeginsWithField (together.record_over below above) (cond (bytes_eq a (0 ∷ [])) b a) (together.record_over belows aboves)
-  over_begins below belows above aboves b a (f, parts, spelled, fits) (f', parts', spelled', fits') = (
-    together.field_over f f',
-    (λ i. together.record_over (parts i) (parts' i)),
-    (elim (bytes_eq a (0 ∷ [])) as (λ t. bytes_eq a (0 ∷ []) ≡ t → cond t b a ≡ field_bytes (together.field_over f f')) [
-      | true ↦ λ same. spelled ∙ sym (ap (λ (o : (Option (Value A))). field_bytes (together.field_over f o)) (undefined f' a spelled' same))
-      | false ↦ λ other. spelled' ∙ over_defined f f' (ap (λ (l : List ℕ). bytes_eq l (0 ∷ [])) (sym spelled') ∙ other)
-    ] refl),
-    over_fits f f' fits fits',
-  )
-    where
-      over_defined : (f f' : (Option (Value A))) → bytes_eq (field_bytes f') (0 ∷ []) ≡ false → field_bytes f' ≡ field_bytes (together.field_over f f')
-      over_defined f None other = cc
-      over_defined f (Some v) other = refl
-
-      over_fits : (f f' : (Option (Value A))) → IfSome f IsValue → IfSome f' IsValue → IfSome (together.field_over f f') IsValue
-      over_fits f None p q = p
-      over_fits f (Some v) p q = q
-
   pub over_none : (below : RecordFields A) → together.record_over below [] ≡ []
   over_none [] = refl
   over_none (f ∷ fs) = refl
@@ -72,11 +50,6 @@ module _ {A : Type 0} where
         → out' ≡ out ++ piece → out ++ record_bytes (by_column f (drop i flags) before after) ≡ all → out' ++ record_bytes (by_column f (drop (i + 1) flags) befores afters) ≡ all
     column_put flags i before befores after afters was is piece out out' all lt (b, parts, spelled, fits) (a, parts', spelled', fits') made put so_far =
         goes_on f flags i before after befores afters b a out out' all lt so_far parts parts' (put ∙ ap (λ (l : List ℕ). out ++ l) (made b a fits fits' spelled spelled'))
-
-    -- no column is left
-    pub columns_end : (flags : List Bool) (i : ℕ) (before after : RecordFields A) (out all : List ℕ) → length flags ≤ i → out ++ record_bytes (by_column f (drop i flags) before after) ≡ all → out ≡ all
-    columns_end flags i before after out all le so_far =
-        put_all out _ all (ap (λ (l : List Bool). record_bytes (by_column f l before after)) (flags-past flags i le)) so_far
 
   -- the old and the new field of a column
   modified_is : (key : Bool) (b a : (Option (Value A))) → IfSome b IsValue → IfSome a IsValue → (not key && not (bytes_eq (field_bytes b) (field_bytes a))) ≡ together.is_modified key b a
@@ -143,6 +116,3 @@ module _ {A : Type 0} where
       no_after_differ [] before = refl
       no_after_differ (key ∷ flags) [] = refl
       no_after_differ (key ∷ flags) (b ∷ before) = refl
-
-  pub differ_past : (flags : List Bool) (i : ℕ) (before after : RecordFields A) → length flags ≤ i → together.differ (drop i flags) before after ≡ false
-  differ_past flags i before after le = ap (λ (l : List Bool). together.differ l before after) (flags-past flags i le)

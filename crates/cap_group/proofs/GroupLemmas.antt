@@ -7,17 +7,16 @@ use Rattle.std.specs.Option.{unwrap_or}
 use Rattle.std.proofs.lemmas.List.{take_more}
 use Rattle.cap_value.specs.declared.memory.Fault.{Fault}
 use Rattle.cap_value.specs.declared.memory.Fault.TheVariants.{Refused, OutOfMemory}
-use Rattle.cap_value.specs.Memory.{LeavesUnlessMemory, RefusesUnlessMemory}
+use Rattle.cap_value.specs.Memory.{LeavesUnlessMemory}
 use Rattle.cap_row.specs.Fields.{Fields}
 use Rattle.cap_row.specs.Schema.{flags_eq}
 use Rattle.cap_changes.specs.Entries.{TableEntries}
 use Rattle.cap_changes.proofs.LeftLemmas.{drop_here}
 use Rattle.cap_codec.specs.Writable.{has_some}
 use Rattle.cap_group.specs.KeyedChanges.{KeyedChanges, entries_of, no_changes, table_at, with_change, with_changes, with_table}
-use Rattle.cap_group.specs.ChangeGroup.{GroupContent, added, all_added, and_then, groups_of, with_group, with_groups}
+use Rattle.cap_group.specs.ChangeGroup.{and_then, groups_of, with_group, with_groups}
 use Rattle.cap_group.specs.declared.refusal.GroupRefusal.{GroupRefusal}
 use Rattle.cap_group.specs.declared.refusal.GroupRefusal.TheVariants.{OtherColumns}
-use Rattle.cap_codec.specs.declared.read.Contents.{Contents}
 
 module _ {A X : Type 0} (key : List Bool → X → Fields A) (combine : List Bool → X → X → Option X) where
   module _ (i : ℕ) (tables : List (KeyedChanges A X)) (groups : List (TableEntries X)) (group : TableEntries X) (within : i < length groups) (is : group ≡ get_or groups i group) where
@@ -42,16 +41,6 @@ module _ {A X : Type 0} (key : List Bool → X → Fields A) (combine : List Boo
     group_empty none =
         at_group
         ∙ ap (λ b. cond b (and_then (with_group key combine i tables group) (λ more. with_groups key combine (i + 1) more (drop (i + 1) groups))) (with_groups key combine (i + 1) tables (drop (i + 1) groups))) none
-
-module _ {A : Type 0} (i : ℕ) (group : GroupContent A) (blobs : List (Contents A)) (blob : Contents A) (within : i < length blobs) (is : blob ≡ get_or blobs i blob) where
-  at_blob : all_added group (drop i blobs) ≡ all_added group (blob ∷ drop (i + 1) blobs)
-  at_blob = ap (all_added group) (drop_here blobs i blob within is)
-
-  pub blob_more : (next : GroupContent A) → added group blob ≡ Ok next → all_added group (drop i blobs) ≡ all_added next (drop (i + 1) blobs)
-  blob_more next made = at_blob ∙ ap (λ (r : Result (GroupContent A) GroupRefusal). and_then r (λ more. all_added more (drop (i + 1) blobs))) made
-
-  pub blob_refused : (why : GroupRefusal) → added group blob ≡ Err why → all_added group (drop i blobs) ≡ Err why
-  blob_refused why made = at_blob ∙ ap (λ (r : Result (GroupContent A) GroupRefusal). and_then r (λ more. all_added more (drop (i + 1) blobs))) made
 
 pub flags_same : (a b : List Bool) → flags_eq a b ≡ true → a ≡ b
 flags_same [] [] e = refl
@@ -102,12 +91,6 @@ module _ {A X : Type 0} (key : List Bool → X → Fields A) (combine : List Boo
         cond (flags_eq t.schema group.schema) (Ok (with_table tables (with_changes key combine t group.changes))) (Err (OtherColumns place))) at
         ∙ ap (λ b. cond b (Ok (with_table tables (with_changes key combine (no_changes group.table group.schema) group.changes))) (Err (OtherColumns place))) (flags_self group.schema)
         ∙ ap (λ (ts : List (KeyedChanges A X)). Ok ts) (push (with_changes key combine (no_changes group.table group.schema) group.changes) (kept_table (no_changes group.table group.schema) group.changes) ∙ ap (λ (t : KeyedChanges A X). tables ++ t ∷ []) (sym made))
-
--- a refusal, or out of memory, in what comes first is that of the whole
-pub leaves_err : {X Y E : Type 0} (fault : Fault E) (answer : Result X E) (next : X → Result Y E) (left : Y) → RefusesUnlessMemory fault answer →
-    LeavesUnlessMemory {X = Unit {0}} (Err fault) (and_then answer next) left
-leaves_err (Refused why) answer next left is = ap (λ (r : Result _ _). and_then r next) is
-leaves_err OutOfMemory answer next left is = tt
 
 -- what follows from a call that left this
 pub leaves_then : {X Y E : Type 0} (result : Result (Unit {0}) (Fault E)) (answer : Result X E) (x : X) (f : X → Y) → LeavesUnlessMemory result answer x →

@@ -34,14 +34,6 @@ module _ {X : Type 0} where
     parts = append_assoc so_far.more (x ∷ []) rest ∙ ap (λ (l : List X). so_far.more ++ l) (sym parts) ∙ so_far.parts;
   }
 
-  pub pushed_all : (first now : TableEntries X) (left all : List X) → Pushed first now left all → left ≡ [] → now ≡ record { table = first.table; schema = first.schema; changes = first.changes ++ all }
-  pushed_all first now left all so_far none =
-      let more : so_far.more ≡ all = sym (append-nil so_far.more) ∙ ap (λ (l : List X). so_far.more ++ l) (sym none) ∙ so_far.parts in
-      so_far.is ∙ (λ i. record { table = first.table; schema = first.schema; changes = first.changes ++ more i })
-
-  pub pushed_grown : (first now next : TableEntries X) (left all : List X) → Pushed first now left all → next ≡ now → IsGrown first next
-  pushed_grown first now next left all so_far same = (so_far.more, same ∙ so_far.is)
-
   pub all_same : (gs : List (TableEntries X)) → HaveGrown gs gs
   all_same [] = tt
   all_same (g ∷ gs) = (grown_same g, all_same gs)
@@ -105,15 +97,3 @@ module _ {X : Type 0} where
       ∙ ap (λ (l : List (TableEntries X)). set l i (record { table = (get_or l i d).table; schema = (get_or l i d).schema; changes = take (get_or ns i e) (get_or l i d).changes })) so_far
       ∙ cut_more i ns gs d e long within
       ∙ ap (λ (k : ℕ). cut_below k ns gs) n
-
-  pub cut_all : (i : ℕ) (ns : List ℕ) (gs : List (TableEntries X)) → length ns ≡ length gs → length gs ≤ i → cut_below i ns gs ≡ cut_back ns gs
-  cut_all i [] [] long end = none i
-    where
-      none : (i : ℕ) → cut_below i [] [] ≡ []
-      none zero = refl
-      none (suc i) = refl
-  cut_all i [] (g ∷ gs) long end = absurd (omega arith)
-  cut_all i (n ∷ ns) [] long end = absurd (omega arith)
-  cut_all zero (n ∷ ns) (g ∷ gs) long end = absurd (omega arith)
-  cut_all (suc i) (n ∷ ns) (g ∷ gs) long end =
-      ap (λ l. record { table = g.table; schema = g.schema; changes = take n g.changes } ∷ l) (cut_all i ns gs (omega arith) (omega arith))

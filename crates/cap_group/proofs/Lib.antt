@@ -12,6 +12,4 @@ pub mod RunLemmas
 pub mod GrownLemmas
 pub mod FieldLemmas
 pub mod ValueLemmas
-pub mod TogetherLemmas
 pub mod PutLemmas
-pub mod KeyLemmas

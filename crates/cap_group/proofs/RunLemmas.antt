@@ -1,5 +1,5 @@
 -- Changes in the order of their keys, put row by row.
-use Rattle.std.proofs.Common.{◌≡◌, ℕ, ◌+◌, ◌-◌, ◌<◌, ◌≤◌, Bool, true, false, List, [], ◌∷◌, ◌++◌, length, map, drop, get_or, Option, Some, None, refl, ap, sym, ◌∙◌, append-nil, arith}
+use Rattle.std.proofs.Common.{◌≡◌, ℕ, ◌+◌, ◌-◌, ◌<◌, Bool, true, false, List, [], ◌∷◌, ◌++◌, length, map, drop, get_or, Option, Some, None, refl, ap, sym, ◌∙◌, append-nil, arith}
 use Rattle.std.specs.Option.{option_to_list}
 use Rattle.std.specs.List.Sorted.{IsSorted}
 use Rattle.std.specs.Ordering.{is_lt, ordering_reverse}
@@ -7,13 +7,13 @@ use Rattle.std.specs.declared.cmp.Ordering.{Ordering}
 use Rattle.std.specs.declared.cmp.Ordering.TheVariants.{Less, Equal, Greater}
 use Rattle.std.specs.Cmp.{tied_itself}
 use Rattle.std.specs.Ordering.{is_eq}
-use Rattle.std.proofs.lemmas.List.{drop_all, get_or_default}
+use Rattle.std.proofs.lemmas.List.{get_or_default}
 use Rattle.cap_row.specs.Fields.{Fields}
 use Rattle.cap_row.specs.Key.{fields_cmp, fields_cmp_total, fields_cmp-Equal}
 use Rattle.cap_tree.specs.Tree.{get}
 use Rattle.cap_tree.proofs.EntryLemmas.{Each, get-past, put_entry-past, take_entry-past, reversed}
 use Rattle.cap_changes.proofs.LeftLemmas.{drop_here}
-use Rattle.cap_group.specs.KeyedChanges.{KeyedChanges, change_after, entries_of, no_changes, set_change, with_change, with_changes}
+use Rattle.cap_group.specs.KeyedChanges.{KeyedChanges, change_after, no_changes, set_change, with_change, with_changes}
 use Rattle.cap_group.specs.Place.{Place, place_cmp, place_eq}
 
 less : (i : ℕ) → (i + 1) - 1 ≡ i
@@ -158,13 +158,3 @@ module _ {A X : Type 0} (key : List Bool → X → Fields A) (combine : List Boo
               ∙ ap (λ (es : List (Fields A × X)). with_changes key combine (keyed es) (map (λ (q : Place A X). q.change) (drop i all))) (append-nil (before.es ++ at_key before.k row))
               ∙ before.left;
         }
-
-    -- all of them
-    pub put_all : (i : ℕ) (put made : List X) (row : Option X) → length all ≤ i → IsPut i put row → made ≡ put ++ option_to_list row →
-        record { table = table; schema = flags; changes = made } ≡ entries_of whole
-    put_all i put made row end before is =
-        let left : keyed (before.es ++ at_key before.k row) ≡ whole =
-        ap (λ (l : List (Place A X)). with_changes key combine (keyed (before.es ++ at_key before.k row)) (map (λ (q : Place A X). q.change) l)) (sym (drop_all i all end)) ∙ before.left in
-        let changes : made ≡ map (λ (e : Fields A × X). e.1) (before.es ++ at_key before.k row) =
-        is ∙ ap (λ (l : List X). l ++ option_to_list row) before.is ∙ sym (values_of_row before.es before.k row) in
-        (λ i. record { table = table; schema = flags; changes = changes i }) ∙ ap entries_of left

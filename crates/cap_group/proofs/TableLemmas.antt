@@ -1,6 +1,6 @@
 -- The tables of a changegroup, found by their names, and the groups that are added to them.
-use Rattle.std.proofs.Common.{◌≡◌, ℕ, suc, ◌+◌, ◌<◌, ◌≤◌, List, [], ◌∷◌, ◌++◌, length, take, drop, get_or, set, true, false, Some, None, drop-cons, arith, refl, ap, sym, ◌∙◌}
-use Rattle.std.proofs.lemmas.List.{take_more, append_assoc, drop_all, length-take-le, take-append-drop, get_or_default, take_all}
+use Rattle.std.proofs.Common.{◌≡◌, ℕ, suc, ◌+◌, ◌<◌, List, [], ◌∷◌, ◌++◌, length, take, drop, get_or, set, true, false, Some, None, drop-cons, arith, refl, ap, sym, ◌∙◌}
+use Rattle.std.proofs.lemmas.List.{take_more, append_assoc, length-take-le, take-append-drop, get_or_default}
 use Rattle.std.proofs.Math.Seq.{set-append_seam}
 use Rattle.std.specs.Prelude.{nat_eq}
 use Rattle.std.proofs.lemmas.Bool.{and_parts}
@@ -32,9 +32,6 @@ module _ {A X : Type 0} where
   pub record IsPast (i : ℕ) (tables : List (KeyedChanges A X)) (name : List ℕ) : Type 0 where
     pub at : table_at tables name ≡ table_at (drop i tables) name
     pub put : (t : KeyedChanges A X) → t.table ≡ name → with_table tables t ≡ take i tables ++ with_table (drop i tables) t
-
-  pub past_none : (tables : List (KeyedChanges A X)) (name : List ℕ) → IsPast 0 tables name
-  past_none tables name = record { at = refl; put = λ t is. refl }
 
   other_at : (u : KeyedChanges A X) (us : List (KeyedChanges A X)) (name : List ℕ) → bytes_eq u.table name ≡ false → table_at (u ∷ us) name ≡ table_at us name
   other_at u us name other = rw other
@@ -71,9 +68,6 @@ module _ {A X : Type 0} where
         past.at ∙ ap (λ (us : List (KeyedChanges A X)). table_at us name) here ∙ own_at u (drop (i + 1) tables) name own
         ∙ ap Some (is ∙ get_or_default tables i u d within)
 
-    pub found_named : bytes_eq u.table name ≡ true → (d : KeyedChanges A X) → (get_or tables i d).table ≡ name
-    found_named own d = ap (λ (t : KeyedChanges A X). t.table) (get_or_default tables i d u within ∙ sym is) ∙ bytes_same u.table name own
-
     whole : tables ≡ take i tables ++ u ∷ drop (i + 1) tables
     whole = sym (take-append-drop i tables) ∙ ap (λ (us : List (KeyedChanges A X)). take i tables ++ us) here
 
@@ -88,16 +82,6 @@ module _ {A X : Type 0} where
         ∙ ap (λ (us : List (KeyedChanges A X)). take i tables ++ with_table us t) here
         ∙ ap (λ (us : List (KeyedChanges A X)). take i tables ++ us) (own_put u (drop (i + 1) tables) t (ap (bytes_eq u.table) named ∙ own))
         ∙ sym (set_here t)
-
-  -- no table has the name
-  pub none_at : (i : ℕ) (tables : List (KeyedChanges A X)) (name : List ℕ) → length tables ≤ i → IsPast i tables name → table_at tables name ≡ None
-  none_at i tables name end past = past.at ∙ ap (λ (us : List (KeyedChanges A X)). table_at us name) (drop_all i tables end)
-
-  pub none_put : (i : ℕ) (tables : List (KeyedChanges A X)) (name : List ℕ) → length tables ≤ i → IsPast i tables name → (t : KeyedChanges A X) → t.table ≡ name →
-      with_table tables t ≡ tables ++ t ∷ []
-  none_put i tables name end past t named =
-      past.put t named
-      ∙ (λ k. take_all i tables end k ++ with_table (drop_all i tables end k) t)
 
 -- ---- the groups that have the changes of the tables
 

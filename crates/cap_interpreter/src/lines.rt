@@ -39,6 +39,7 @@ pub(crate) fn run_alone<A: AllocHandle>(
 }
 
 // Runs a step where nothing is open.
+#[inline(never)]
 fn step_alone<A: AllocHandle>(
     alloc: A,
     core: &mut Core<A>,
@@ -63,6 +64,7 @@ fn step_alone<A: AllocHandle>(
 }
 
 // Runs a line where this is open. The answer is what is open after it.
+#[inline(never)]
 pub(crate) fn run_open<A: AllocHandle>(
     alloc: A,
     core: &mut Core<A>,

@@ -54,19 +54,6 @@ before_rest bytes front rest parts = subst (λ (all : List ℕ). take (length al
 pub no_more_behind : (bytes front rest : List ℕ) → bytes ≡ front ++ rest → length rest ≤ length bytes
 no_more_behind bytes front rest parts = omega (arith, ap length parts, length-append front rest)
 
-pub drop_none : {X : Type 0} (xs : List X) (i j : ℕ) → drop i xs ≡ [] → i ≤ j → drop j xs ≡ []
-drop_none [] i zero e le = refl
-drop_none [] i (suc j) e le = refl
-drop_none (x ∷ xs) zero j e le = absurd cc
-drop_none (x ∷ xs) (suc i) zero e le = absurd (omega arith)
-drop_none (x ∷ xs) (suc i) (suc j) e le = drop_none xs i j e (omega arith)
-
-pub passes : {X Y : Type 0} (f : Y → X) (xs : List X) (i : ℕ) (y : Y) (rest ys : List X) → rest ≡ drop i xs → TakesFirst f rest (Some y) ys → ys ≡ drop (i + 1) xs
-passes f xs i y rest ys is first = passed xs i (f y) rest ys is first
-
-pub at_end : {X : Type 0} (xs : List X) (i j : ℕ) (rest ys : List X) → rest ≡ drop i xs → (rest ≡ []) × (ys ≡ []) → i ≤ j → ys ≡ drop j xs
-at_end xs i j rest ys is none le = none.1 ∙ sym (drop_none xs i j (sym is ∙ none.0) le)
-
 -- how many elements there are, by what is left behind so many
 pub counted : {X : Type 0} (xs rest : List X) (i : ℕ) → rest ≡ drop i xs → i ≤ length xs → rest ≡ [] → i ≡ length xs
 counted xs rest i left le none = let e : length (drop i xs) ≡ 0 = ap length (sym left ∙ none) in omega (arith, e, length-drop i xs)

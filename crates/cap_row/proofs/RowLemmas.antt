@@ -11,8 +11,7 @@ use Rattle.cap_row.specs.Row.{are_columns, columns_of, new_value, row_with}
 use Rattle.cap_row.specs.Fields.{Fields}
 use Rattle.cap_row.proofs.EncodingLemmas.{passed}
 use Rattle.std.specs.Option.{unwrap_or}
-use Rattle.std.proofs.lemmas.List.{drop_all}
-use Rattle.std.proofs.Common.{Option, Some, None, append_assoc, append-nil, length-drop}
+use Rattle.std.proofs.Common.{Option, append_assoc, length-drop}
 
 named_in : (c : ℕ) (xs ys : List ℕ) → list_any (nat_eq c) (xs ++ c ∷ ys) ≡ true
 named_in c [] ys = grind (arith, nat_tests)
@@ -49,9 +48,6 @@ module _ {A : Type 0} where
     pub put_so_far : out ++ row_from changes i rest ≡ before ++ row_with changes row
     pub left : rest ≡ drop i row
 
-  pub put_begins : (changes : List (ℕ × Value A)) (row before : Fields A) → PutSoFar changes row before 0 row before
-  put_begins changes row before = record { put_so_far = refl; left = refl }
-
   pub put_more : (changes : List (ℕ × Value A)) (row before rest rest' out new : Fields A) (i : ℕ) (found : Option (Value A)) → i < length row → ((old : Value A) → new_value changes i old ≡ unwrap_or found old)
       → PutSoFar changes row before i rest out → rest' ≡ drop 1 rest → new ≡ out ++ map (unwrap_or found) (take 1 rest) → PutSoFar changes row before (i + 1) rest' new
   put_more changes row before [] rest' out new i found lt is so one put_is =
@@ -64,10 +60,6 @@ module _ {A : Type 0} where
             (ap (λ (v : Value A). out ++ (v ∷ row_from changes (i + 1) others)) (sym (is value)) ∙ so.put_so_far);
         left = one ∙ passed row i value (value ∷ others) others so.left refl;
       }
-
-  pub put_ends : (changes : List (ℕ × Value A)) (row before rest out : Fields A) (i : ℕ) → length row ≤ i → PutSoFar changes row before i rest out → out ≡ before ++ row_with changes row
-  put_ends changes row before rest out i le so =
-      sym (append-nil out) ∙ ap (λ (l : Fields A). out ++ row_from changes i l) (sym (so.left ∙ drop_all i row le)) ∙ so.put_so_far
 
 module _ {A : Type 0} (w i : ℕ) (changes : List (ℕ × Value A)) (change : ℕ × Value A) (lt : i < length changes) (is : change ≡ get_or changes i change) where
   column_at : change.0 ≡ get_or (columns_of changes) i 0

@@ -2,17 +2,13 @@ mod BatchLaws
 mod CommandLaws
 pub mod Crossing
 mod CutLemmas
-mod FilterSize
+pub mod FilterSize
 mod FirstLemmas
-mod FitLemmas
 mod KeptLemmas
 mod LineLaws
-mod LineLemmas
+pub mod LineLemmas
 mod NoLines
 mod OneLine
-mod OpenForms
-mod OpenLaw
-mod PlaceLaw
 mod RowLemmas
 mod SpellLemmas
 mod WordLaws

@@ -1,4 +1,3 @@
-pub mod FaultPlace
 pub mod FaultText
 pub mod FirstRefused
 pub mod Kept

@@ -64,28 +64,32 @@ pub const COMMAND_WORDS: [&str; 38] = [
     "abort",
 ];
 
-// What is spelled behind the worker.
+/// What is spelled behind the worker. It is public for the laws of the grammar.
 #[derive(Drop)]
-pub(crate) enum Spelled<A: AllocHandle> {
-    // A command, and how its reply is printed.
+pub enum Spelled<A: AllocHandle> {
+    /// A command, and how its reply is printed.
     Whole(Command<A>, Show<A>),
-    // A filter for this. Its text is the rest of the line.
+    /// A filter for this. Its text is the rest of the line.
     Filter(Filtering<A>),
 }
 
-// What a filter is for.
+/// What a filter is for.
 #[derive(Drop)]
-pub(crate) enum Filtering<A: AllocHandle> {
-    // The session with this number.
+pub enum Filtering<A: AllocHandle> {
+    /// The session with this number.
     Session(u64),
-    // The application of a blob under a policy, which leaves these sessions as they are.
+    /// The application of a blob under a policy, which leaves these sessions as they are.
     Application {
+        /// The blob.
         blob: Contents<A>,
+        /// The policy.
         policy: Policy,
+        /// The sessions that it leaves as they are.
         quiet: QuietSessions<A>,
+        /// What is printed beside the counts.
         detail: Detail,
     },
-    // The application of a blob that stops at each conflict.
+    /// The application of a blob that stops at each conflict.
     EachConflict(Contents<A>),
 }
 

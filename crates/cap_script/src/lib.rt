@@ -23,13 +23,10 @@ mod stop_text;
 mod words;
 mod workload;
 
-pub use command::COMMAND_WORDS;
+pub use command::{COMMAND_WORDS, Filtering, Spelled};
 pub use fault::ScriptFault;
 pub use fault_text::print_fault;
-pub use laws::{
-    a_line_without_fault, one_workload, spelled_commands_fit, syntax_fault_lasts,
-    syntax_fault_place,
-};
+pub use laws::a_line_without_fault;
 pub use line::{Detail, Line, Show};
 pub use lines::Lines;
 pub use list_text::columns_text;

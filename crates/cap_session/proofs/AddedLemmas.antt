@@ -5,7 +5,7 @@ use Rattle.std.proofs.lemmas.List.{append-nil, get_or-append-add, map-append, se
 use Rattle.std.specs.List.{IsDistinct, position}
 use Rattle.std.specs.Map.{keys_of}
 use Rattle.cap_value.specs.Bytes.{bytes_eq}
-use Rattle.cap_session.specs.Code.Added.{AreBeside, Makes, behind}
+use Rattle.cap_session.specs.Code.Added.{AreReserved, Makes, appended}
 use Rattle.cap_session.specs.Delta.{changed_at, with_records}
 use Rattle.cap_session.specs.Recording.{touch_table}
 use Rattle.cap_session.specs.Records.{Records, Touch, with_touches}
@@ -18,8 +18,8 @@ module _ {P : Type 0} (place : ℕ) where
   abbrev pub paired : List P → List (ℕ × P)
   paired own = map (λ part. (place, part)) own
 
-  pub behind-push : (others : List (ℕ × P)) (own : List P) (last : P) → behind place others own ++ (place, last) ∷ [] ≡ behind place others (own ++ last ∷ [])
-  behind-push others own last = append_assoc others (paired own) ((place, last) ∷ []) ∙ ap (λ parts. others ++ parts) (sym (map-append (λ part. (place, part)) own (last ∷ [])))
+  pub appended-push : (others : List (ℕ × P)) (own : List P) (last : P) → appended place others own ++ (place, last) ∷ [] ≡ appended place others (own ++ last ∷ [])
+  appended-push others own last = append_assoc others (paired own) ((place, last) ∷ []) ∙ ap (λ parts. others ++ parts) (sym (map-append (λ part. (place, part)) own (last ∷ [])))
 
   paired-set : (own : List P) (i : ℕ) (x d : ℕ × P) → d ≡ get_or (paired own) i d → x.0 ≡ d.0 → set (paired own) i x ≡ paired (set own i x.1)
   paired-set [] i x d is same = refl
@@ -44,19 +44,19 @@ module _ {A : Type 0} (session : ℕ) where
 
   module _ (ts : AttachedTables A) where
     -- nothing is beside them yet
-    pub none-beside : (others : List (ℕ × (ℕ × Records A))) → AreBeside session ts ts others others
-    none-beside others = record { own = []; items = sym (append-nil others); made = refl }
+    pub none-reserved : (others : List (ℕ × (ℕ × Records A))) → AreReserved session ts ts others others
+    none-reserved others = record { own = []; items = sym (append-nil others); made = refl }
 
-    pub beside-same : (before after : AttachedTables A) (others touched : List (ℕ × (ℕ × Records A))) → before ≡ after → AreBeside session ts before others touched → AreBeside session ts after others touched
-    beside-same before after others touched is a = record { own = a.own; items = a.items; made = a.made ∙ is }
+    pub reserved-same : (before after : AttachedTables A) (others touched : List (ℕ × (ℕ × Records A))) → before ≡ after → AreReserved session ts before others touched → AreReserved session ts after others touched
+    reserved-same before after others touched is a = record { own = a.own; items = a.items; made = a.made ∙ is }
 
     module _ (start : ℕ) where
       -- nothing is made of the tables
       pub makes-none : (make : AttachedTables A → AttachedTables A) (old : List (ℕ × (ℕ × Records A))) → ((before : AttachedTables A) → before ≡ make before) → Makes start session ts make old old
-      makes-none make old same = λ others before len a. beside-same before (make before) others old (same before) a
+      makes-none make old same = λ others before len a. reserved-same before (make before) others old (same before) a
 
       -- the records of the session, from where they begin
-      module _ (old others : List (ℕ × (ℕ × Records A))) (before : AttachedTables A) (len : length others ≡ start) (a : AreBeside session ts before others old) where
+      module _ (old others : List (ℕ × (ℕ × Records A))) (before : AttachedTables A) (len : length others ≡ start) (a : AreReserved session ts before others old) where
         pub starts : drop start old ≡ paired session a.own
         starts = ap (drop start) a.items ∙ ap (λ n. drop n (others ++ paired session a.own)) (sym len) ∙ drop-append_seam others (paired session a.own)
 
@@ -82,14 +82,14 @@ module _ {A : Type 0} (session : ℕ) where
             }
 
         module _ (none : position (λ o. nat_eq table o.1.0) (drop start old) ≡ None) where
-          absent : (others : List (ℕ × (ℕ × Records A))) (before : AttachedTables A) (len : length others ≡ start) (a : AreBeside session ts before others old) → NonePass (has_place table) a.own
+          absent : (others : List (ℕ × (ℕ × Records A))) (before : AttachedTables A) (len : length others ≡ start) (a : AreReserved session ts before others old) → NonePass (has_place table) a.own
           absent others before len a = own-none table a.own (is-none (λ o. nat_eq table o.1.0) (paired session a.own) (subst (λ xs. position (λ o. nat_eq table o.1.0) xs ≡ None) (starts old others before len a) none))
 
           -- records are put behind them
           pub makes-push : (s : Records A) (new : List (ℕ × (ℕ × Records A))) → new ≡ old ++ (session, (table, s)) ∷ [] → changed_at table (with_records s) ts ≡ make ts → Makes start session ts make old new
           makes-push s new is made = λ others before len a. record {
             own = a.own ++ (table, s) ∷ [];
-            items = is ∙ ap (λ xs. xs ++ (session, (table, s)) ∷ []) a.items ∙ behind-push session others a.own (table, s);
+            items = is ∙ ap (λ xs. xs ++ (session, (table, s)) ∷ []) a.items ∙ appended-push session others a.own (table, s);
             made = parts-push (λ t. (t.0, f t.1)) ts a.own table (absent others before len a) s made ∙ ap make a.made;
           }
 
@@ -103,21 +103,21 @@ module _ {A : Type 0} (session : ℕ) where
 
       -- the table of a name
       module _ (name : List ℕ) (touches : List (Touch A)) (old new : List (ℕ × (ℕ × Records A))) where
-        named : (before : AttachedTables A) (others : List (ℕ × (ℕ × Records A))) → AreBeside session ts before others old → keys_of before ≡ keys_of ts
+        named : (before : AttachedTables A) (others : List (ℕ × (ℕ × Records A))) → AreReserved session ts before others old → keys_of before ≡ keys_of ts
         named before others a = ap keys_of (sym a.made) ∙ keys-parts ts a.own
 
         pub makes-named : (table : ℕ) → position (bytes_eq name) (keys_of ts) ≡ Some table → IsDistinct bytes_eq (keys_of ts)
             → Makes start session ts (changed_at table (λ t. (t.0, with_touches t.1 touches))) old new → Makes start session ts (touch_table name touches) old new
         makes-named table at apart makes = λ others before len a.
-            beside-same (changed_at table (λ t. (t.0, with_touches t.1 touches)) before) (touch_table name touches before) others new
+            reserved-same (changed_at table (λ t. (t.0, with_touches t.1 touches)) before) (touch_table name touches before) others new
             (noted name touches before (keys_of ts) table (named before others a) at apart) (makes others before len a)
 
       pub makes-unnamed : (name : List ℕ) (touches : List (Touch A)) (old : List (ℕ × (ℕ × Records A))) → position (bytes_eq name) (keys_of ts) ≡ None → Makes start session ts (touch_table name touches) old old
       makes-unnamed name touches old none = λ others before len a.
-          beside-same before (touch_table name touches before) others old (noted-none name touches before (keys_of ts) (named name touches old old before others a) none) a
+          reserved-same before (touch_table name touches before) others old (noted-none name touches before (keys_of ts) (named name touches old old before others a) none) a
 
 -- the tables of a session with its records are such that this is made of them
 pub record AreLeft {A : Type 0} (session : ℕ) (tables whole : AttachedTables A) (make : AttachedTables A → AttachedTables A) (others touched : List (ℕ × (ℕ × Records A))) : Type 0 where
   pub now : AttachedTables A
-  pub beside : AreBeside session tables now others touched
+  pub reserved : AreReserved session tables now others touched
   pub left : make now ≡ whole

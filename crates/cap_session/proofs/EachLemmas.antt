@@ -4,7 +4,7 @@ use Rattle.std.proofs.lemmas.Bool.Decides.{nat_tests}
 use Rattle.std.proofs.lemmas.List.{append-nil, drop_all, take_all}
 use Rattle.std.specs.List.{AllByRecursion}
 use Rattle.cap_database.specs.declared.change.Change.{Change}
-use Rattle.cap_session.specs.Code.Added.{Adds, AreBeside, behind, first_or}
+use Rattle.cap_session.specs.Code.Added.{Adds, AreReserved, appended, first_or}
 use Rattle.cap_session.specs.declared.delta.Delta.{Delta}
 use Rattle.cap_session.specs.Delta.{changed_at, published, renewed, with_parts, with_records, with_tables, with_touched}
 use Rattle.cap_session.specs.Recording.{attach_by_rule, record_commit, touch_tables}
@@ -35,7 +35,7 @@ module _ {A : Type 0} (session : ℕ) (before after : SessionState A) where
       made = made;
     }
 
-    pub adds-own : renewed new ≡ renewed old → AreBeside session before.tables tables old.touched.items new.touched.items → Adds session before after old new
+    pub adds-own : renewed new ≡ renewed old → AreReserved session before.tables tables old.touched.items new.touched.items → Adds session before after old new
     adds-own same a = record {
       all = [];
       own = a.own;
@@ -71,9 +71,9 @@ module _ {P : Type 0} where
   before-own place [] = tt
   before-own place (p ∷ ps) = (omega arith, before-own place ps)
 
-  before-behind : (place : ℕ) (parts : List (ℕ × P)) (own : List P) → AreBefore place parts → AreBefore (suc place) (behind place parts own)
-  before-behind place [] own before = before-own place own
-  before-behind place (p ∷ ps) own before = (omega (arith, before.0), before-behind place ps own before.1)
+  before-appended : (place : ℕ) (parts : List (ℕ × P)) (own : List P) → AreBefore place parts → AreBefore (suc place) (appended place parts own)
+  before-appended place [] own before = before-own place own
+  before-appended place (p ∷ ps) own before = (omega (arith, before.0), before-appended place ps own before.1)
 
 module _ {A : Type 0} (session : ℕ) where
   all-own : (all : List (AttachedTables A)) (xs : NumberedSessions A) → with_parts with_tables xs (paired session all) ≡ changed_at session (λ s. with_tables (first_or all s.1.tables) s) xs
@@ -132,8 +132,8 @@ module _ {A : Type 0} (changes : List (Change A)) (quiet : List ℕ) where
           published-own i start x.1 (cond (is_one_of quiet x.0) x.1 (record_commit changes x.1)) old new a sofar.all sofar.own
           ∙ ap (changed_at i (λ s. with_tables (with_parts with_records (first_or a.all s.1.tables) a.own) s)) sofar.published_is
           ∙ changed-step recorded (λ s. with_tables (with_parts with_records (first_or a.all s.1.tables) a.own) s) start i x lt at (ap (λ s. (x.0, s)) a.made);
-      all = subst (AreBefore (suc i)) (sym a.renewed_is) (before-behind i (renewed old) a.all sofar.all);
-      own = subst (AreBefore (suc i)) (sym a.touched_is) (before-behind i old.touched.items a.own sofar.own);
+      all = subst (AreBefore (suc i)) (sym a.renewed_is) (before-appended i (renewed old) a.all sofar.all);
+      own = subst (AreBefore (suc i)) (sym a.touched_is) (before-appended i old.touched.items a.own sofar.own);
     })
 
     pub all-added : (i : ℕ) (delta : Delta A) → length start ≤ i → AreAdded i delta → published delta start ≡ record_commit_each changes quiet start

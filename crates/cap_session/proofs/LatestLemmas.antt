@@ -1,14 +1,15 @@
 -- Records of a tree with one more at its key: their number, and what is found.
-use Rattle.std.proofs.Common.{◌≡◌, ◌+◌, ℕ, Bool, true, false, cond, Option, Some, List, [], ◌∷◌, length, sym, ap, ap₂, ◌∙◌, Ordering, Less, Equal, Greater}
-use Rattle.std.specs.Ordering.{match_ordering}
+use Rattle.std.proofs.Common.{◌≡◌, ◌+◌, ℕ, Bool, true, false, cond, Option, Some, None, List, [], ◌∷◌, length, refl, sym, ap, ap₂, subst, ◌∙◌, Ordering, Less, Equal, Greater}
+use Rattle.std.specs.Ordering.{is_eq, match_ordering}
 use Rattle.std.specs.Prelude.{is_some}
 use Rattle.cap_row.specs.Fields.{Fields}
 use Rattle.cap_row.specs.Key.{fields_cmp, fields_cmp_total, fields_eq}
+use Rattle.cap_tree.specs.Shape.{EachBelow}
 use Rattle.cap_tree.specs.Tree.{IsOrdered, get, put_entry}
-use Rattle.cap_tree.proofs.EntryLemmas.{length-put_entry}
+use Rattle.cap_tree.proofs.EntryLemmas.{each_put, each_turn, length-put_entry, reversed}
 use Rattle.cap_session.specs.declared.record.Record.{Record}
 use Rattle.cap_session.specs.Records.{Records}
-use Rattle.cap_session.specs.Code.Latest.{with_latest}
+use Rattle.cap_session.specs.Code.Latest.{IsLast, with_latest}
 use Rattle.cap_session.proofs.RecordLemmas.{get-put}
 
 module _ {K V : Type 0} (R : K → K → Ordering) where
@@ -22,6 +23,16 @@ module _ {K V : Type 0} (R : K → K → Ordering) where
       ] e
 
 module _ {A : Type 0} where
+  -- a key above one that is above those of the records is above them too
+  above_all : (q k : Fields A) (records : Records A) → fields_cmp q k ≡ Greater → EachBelow fields_cmp k records → EachBelow fields_cmp q records
+  above_all q k records above each =
+      each_turn fields_cmp (λ y. fields_cmp k y ≡ Greater) (λ y. fields_cmp q y ≡ Greater)
+      (λ y below. reversed fields_cmp_total y q Less (fields_cmp_total.trans y k q (reversed fields_cmp_total k y Greater below) (reversed fields_cmp_total q k Greater above))) records each
+
+  above_none : (q : Fields A) (records : Records A) → EachBelow fields_cmp q records → get fields_cmp records q ≡ None
+  above_none q [] each = refl
+  above_none q (r ∷ rs) each = rw each.0 (above_none q rs each.1)
+
   -- The records of a tree and the one that was put last, where there is one.
   module _ (tree : Records A) (latest : Option (Fields A × Record A)) (last : Fields A × Record A) (is : latest ≡ Some last) where
     pub latest_some : with_latest tree latest ≡ [] → ⊥
@@ -34,8 +45,25 @@ module _ {A : Type 0} where
     found : (q : Fields A) (same : Bool) → fields_eq q last.0 ≡ same → get fields_cmp (with_latest tree latest) q ≡ cond same (Some last.1) (get fields_cmp tree q)
     found q same e = ap (λ l. get fields_cmp (with_latest tree l) q) is ∙ get-put tree last.0 last.1 q ∙ ap (λ b. cond b (Some last.1) (get fields_cmp tree q)) e
 
-    pub get_latest : (q : Fields A) → fields_eq q last.0 ≡ true → Some last.1 ≡ get fields_cmp (with_latest tree latest) q
-    get_latest q same = sym (found q true same)
+    pub get_latest : (q : Fields A) → fields_cmp q last.0 ≡ Equal → Some last.1 ≡ get fields_cmp (with_latest tree latest) q
+    get_latest q same = sym (found q true (ap is_eq same))
 
-    pub get_other : (q : Fields A) → fields_eq q last.0 ≡ false → get fields_cmp tree q ≡ get fields_cmp (with_latest tree latest) q
-    get_other q other = sym (found q false other)
+    pub get_below : (q : Fields A) → fields_cmp q last.0 ≡ Less → get fields_cmp tree q ≡ get fields_cmp (with_latest tree latest) q
+    get_below q below = sym (found q false (ap is_eq below))
+
+    pub get_above : (q : Fields A) → fields_cmp q last.0 ≡ Greater → get fields_cmp tree q ≡ get fields_cmp (with_latest tree latest) q
+    get_above q above = sym (found q false (ap is_eq above))
+
+    pub get_past : (q : Fields A) → fields_cmp q last.0 ≡ Greater → IsLast tree latest → None ≡ get fields_cmp (with_latest tree latest) q
+    get_past q above past =
+        sym (above_none q tree (above_all q last.0 tree above (subst (IsLast tree) is past))) ∙ get_above q above
+
+    -- a key above the latest is above all where it is above the tree
+    pub above_both : (q : Fields A) → fields_cmp q last.0 ≡ Greater → EachBelow fields_cmp q tree → EachBelow fields_cmp q (with_latest tree latest)
+    above_both q above each =
+        subst (λ l. EachBelow fields_cmp q (with_latest tree l)) (sym is)
+        (each_put fields_cmp fields_cmp_total (λ y. fields_cmp q y ≡ Greater) last.0 last.1 tree above each)
+
+    -- and so it is where the latest is the last
+    pub above_last : (q : Fields A) → fields_cmp q last.0 ≡ Greater → IsLast tree latest → EachBelow fields_cmp q (with_latest tree latest)
+    above_last q above past = above_both q above (above_all q last.0 tree above (subst (IsLast tree) is past))

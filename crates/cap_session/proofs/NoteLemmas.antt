@@ -1,6 +1,5 @@
 -- Touches of the table of a name.
-use Rattle.std.proofs.Common.{◌≡◌, ◌<◌, ◌||◌, ℕ, Bool, true, false, cond, Some, None, List, [], ◌∷◌, length, refl, sym, ap, ap₂, subst, arith}
-use Rattle.std.proofs.lemmas.List.{length-map}
+use Rattle.std.proofs.Common.{◌≡◌, ◌||◌, ℕ, Bool, true, false, cond, Some, None, List, [], ◌∷◌, refl, sym, ap, ap₂, subst}
 use Rattle.std.specs.List.{IsDistinct, position}
 use Rattle.std.specs.Map.{keys_of}
 use Rattle.std.specs.Cmp.Lexicographic.{bytes_decides}
@@ -11,13 +10,10 @@ use Rattle.cap_session.specs.Delta.{changed_at}
 use Rattle.cap_session.specs.Recording.{is_cascade, record_diff, touch_table, touches_of}
 use Rattle.cap_session.specs.Records.{Touch, with_touches}
 use Rattle.cap_session.specs.Session.{AttachedTables, SessionState, attach, attached}
-use Rattle.cap_session.proofs.PlaceLemmas.{IsFirst, NonePass, is-first, is-none, place-within}
+use Rattle.cap_session.proofs.PlaceLemmas.{IsFirst, NonePass, is-first, is-none}
 use Rattle.cap_session.proofs.TableLemmas.{touch-none, touched-first}
 
 module _ {A : Type 0} where
-  pub place-there : (name : List ℕ) (ts : AttachedTables A) (place : ℕ) → position (bytes_eq name) (keys_of ts) ≡ Some place → place < length ts
-  place-there name ts place at = let lt = place-within (bytes_eq name) (keys_of ts) place at in omega (arith, lt, length-map ts (λ t. t.0))
-
   module _ (name : List ℕ) (touches : List (Touch A)) (ts : AttachedTables A) where
     -- touches of the table that stands at the place of the name, among these tables or others with their names
     pub noted : (keys : List (List ℕ)) (place : ℕ) → keys_of ts ≡ keys → position (bytes_eq name) keys ≡ Some place → IsDistinct bytes_eq keys

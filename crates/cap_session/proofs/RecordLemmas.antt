@@ -1,45 +1,30 @@
 -- The records of a table after touches.
-use Rattle.std.proofs.Common.{◌≡◌, Bool, true, false, cond, Option, Some, None, List, [], ◌∷◌, ◌&&◌, ◌||◌, not, refl, sym, ap, ap₂, ◌∙◌, Ordering, Less, Equal, Greater}
+use Rattle.std.proofs.Common.{◌≡◌, Bool, true, false, cond, Option, Some, None, List, [], ◌∷◌, ◌&&◌, ◌||◌, not, refl, sym, ap, ap₂, ◌∙◌, Equal}
 use Rattle.std.specs.Prelude.{fold}
 use Rattle.std.proofs.Math.Bool.{and-true}
 use Rattle.std.specs.List.{cons_option}
-use Rattle.std.specs.List.Sorted.{IsStrictlySortedBy}
-use Rattle.std.specs.Ordering.{eq_by_cmp, match_ordering, is_eq}
-use Rattle.std.specs.Cmp.{IsTotalOrder, Equal-is, eq_by_cmp_equiv, tied_itself}
-use Rattle.std.specs.FinMap.{IsAntisymmetric}
+use Rattle.std.specs.Ordering.{eq_by_cmp}
+use Rattle.std.specs.Cmp.{Equal-is, eq_by_cmp_equiv, tied_itself}
 use Rattle.cap_row.specs.Fields.{Fields}
-use Rattle.cap_row.specs.Key.{fields_cmp, fields_cmp_total, fields_cmp-Equal, fields_eq}
+use Rattle.cap_row.specs.Key.{fields_cmp, fields_cmp_total, fields_eq}
 use Rattle.cap_tree.specs.Tree.{IsOrdered, get, put_entry}
-use Rattle.cap_tree.proofs.EntryLemmas.{get-below, less_than_back, put_entry-Updates}
+use Rattle.cap_tree.proofs.EntryLemmas.{put_entry-Updates}
+use Rattle.cap_table.proofs.TableLemmas.{fields_same}
+use Rattle.cap_database.proofs.BackLemmas.{there-already}
 use Rattle.cap_session.specs.declared.record.Record.{Record}
 use Rattle.cap_session.specs.Records.{AreTouched, Records, Touch, are_indirect, record_after, touch, touch_if, touches_at, with_touches}
-
-module _ {K V : Type 0} (R : K → K → Ordering) (o : IsTotalOrder R) where
-  -- an entry that is there is put without a change
-  pub put_entry-there : IsAntisymmetric R → (es : List (K × V)) (k : K) (v : V) → IsOrdered R es → get R es k ≡ Some v → put_entry R es k v ≡ es
-  unfolding IsStrictlySortedBy
-  put_entry-there same [] k v s is = absurd cc
-  put_entry-there same (e ∷ es) k v s is =
-      elim (R k e.0) as (λ r. R k e.0 ≡ r → cond (is_eq r) (Some e.1) (get R es k) ≡ Some v → match_ordering r ((k, v) ∷ e ∷ es) ((k, v) ∷ es) (e ∷ put_entry R es k v) ≡ e ∷ es) [
-        | Less ↦ λ p found. let none : get R es k ≡ None = get-below R k es (less_than_back R o k [] e es s p) in absurd cc
-        | Equal ↦ λ p found. let value : v ≡ e.1 = cc in ap₂ (λ a b. (a, b) ∷ es) (same k e.0 p) value
-        | Greater ↦ λ p found. ap (λ x. e ∷ x) (put_entry-there same es k v s.1 found)
-      ] refl is
 
 unchanged_mark : (a b : Bool) → (not a || b) ≡ true → (a && b) ≡ a
 unchanged_mark true b is = is
 unchanged_mark false b is = refl
 
 module _ {A : Type 0} where
-  pub fields_same : IsAntisymmetric (fields_cmp {A = A})
-  fields_same a b = (fields_cmp-Equal a b).0
-
   -- a key that was touched directly, or indirectly as now, stays as it is
   pub touch-unchanged : (records : Records A) (t : Touch A) (r : Record A) → IsOrdered fields_cmp records → get fields_cmp records t.key ≡ Some r → (not r.indirect || t.indirect) ≡ true → touch records t ≡ records
   touch-unchanged records t r ordered is unchanged =
       let kept : record_after (get fields_cmp records t.key) t.image t.indirect ≡ r =
       ap (λ found. record_after found t.image t.indirect) is ∙ ap (λ b. record { image = r.image; indirect = b }) (unchanged_mark r.indirect t.indirect unchanged) in
-      ap (put_entry fields_cmp records t.key) kept ∙ put_entry-there fields_cmp fields_cmp_total fields_same records t.key r ordered is
+      ap (put_entry fields_cmp records t.key) kept ∙ there-already fields_cmp fields_cmp_total fields_same records t.key r ordered is
 
   -- a touch more or none, and then others
   pub touch-first : (records : Records A) (first : Option (Touch A)) (others : List (Touch A)) → fold touch (touch_if records first) others ≡ fold touch records (cons_option first others)

@@ -1,5 +1,5 @@
 -- The tables of an attach list by name: the one with a name, and what a change of it makes of all.
-use Rattle.std.proofs.Common.{◌≡◌, ℕ, zero, suc, Bool, true, false, not, cond, Option, Some, None, List, [], ◌∷◌, ◌++◌, ◌&&◌, refl, sym, ap, ap₂, subst, ◌∙◌}
+use Rattle.std.proofs.Common.{◌≡◌, ℕ, zero, suc, true, false, not, cond, Option, Some, None, List, [], ◌∷◌, ◌++◌, ◌&&◌, refl, sym, ap, ap₂, subst, ◌∙◌}
 use Rattle.std.specs.Prelude.{is_some}
 use Rattle.std.specs.Cmp.Lexicographic.{bytes_decides}
 use Rattle.std.specs.List.{AllByRecursion, IsDistinct}
@@ -57,10 +57,6 @@ module _ {A : Type 0} (name : List ℕ) where
       nothing : {X : Type 0} (o : Option X) → is_some o ≡ false → o ≡ None
       nothing None is = refl
       nothing (Some x) is = cc
-
-pub new-absent : (l a : Bool) → (not l && a) ≡ true → l ≡ false
-new-absent true a is = cc
-new-absent false a is = refl
 
 -- no rule attaches a table
 pub nothing-attached : {A : Type 0} (changes : List (Change A)) (ts : AttachedTables A) → attach_by_rule Nothing changes ts ≡ ts

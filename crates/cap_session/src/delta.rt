@@ -4,7 +4,7 @@ ghost use Rattle.std.specs.Prelude.{OnOk};
 ghost use Rattle.std.specs.Map.{values_of};
 ghost use Rattle.std.specs.List.{position};
 ghost use Rattle.std.specs.Option.{option_copied};
-ghost use Rattle.cap_session.specs.Code.Added.{AreBeside, Makes};
+ghost use Rattle.cap_session.specs.Code.Added.{AreReserved, Makes};
 ghost use Rattle.cap_session.specs.Delta.{changed_at};
 ghost use Rattle.cap_session.specs.Recording.{touch_table, touch_tables, touches_of};
 ghost use Rattle.cap_session.specs.Records.{touch};
@@ -75,7 +75,7 @@ struct Place {
 
 // Puts the records after the touches by the changes of a commit behind those of other sessions. The tables
 // stay.
-pub(crate) fn touch_beside<A: AllocHandle>(
+pub(crate) fn reserve_touches<A: AllocHandle>(
     touched: &mut Touched<A>,
     session: usize,
     room: usize,
@@ -84,7 +84,7 @@ pub(crate) fn touch_beside<A: AllocHandle>(
     changes: &[Change<A>],
 ) -> Result<(), OutOfMemory>
     ensures kept { tables.new.entries ≡ tables.old.entries }
-    ensures touched { OnOk result (AreBeside session tables.old.entries
+    ensures touched { OnOk result (AreReserved session tables.old.entries
         (touch_tables indirect changes.now tables.old.entries) touched.old.items touched.new.items) }
 {
     let place = Place {
@@ -175,7 +175,7 @@ fn touch_at<A: AllocHandle>(
             let (_, (_, records)) = &mut touched[place.start + index];
             touch(records, key, image, indirect)
         }
-        None => put_beside(
+        None => reserve_record(
             touched,
             place,
             table,
@@ -189,7 +189,7 @@ fn touch_at<A: AllocHandle>(
 
 // The same where none are there of that table, which has these records.
 #[inline(always)]
-fn put_beside<A: AllocHandle>(
+fn reserve_record<A: AllocHandle>(
     touched: &mut Touched<A>,
     place: &Place,
     table: usize,

@@ -1,9 +1,10 @@
 //! The records of one table.
-ghost use Rattle.std.specs.Prelude.{◌≡◌, ◌≤◌, ◌^◌, ◌↔◌, [], None, length, IfOk, IsTrue, OnErr, OnOk};
+ghost use Rattle.std.specs.Prelude.{◌≡◌, ◌≤◌, ◌^◌, ◌↔◌, [], None, length, true, IfOk, IsTrue, OnErr, OnOk};
 ghost use Rattle.std.specs.Map.Iter.{ShowsInOrder, deref_pair};
 ghost use Rattle.std.specs.Option.{option_copied};
 ghost use Rattle.cap_row.specs.Fields.{Fields};
 ghost use Rattle.cap_row.specs.Key.{fields_cmp};
+ghost use Rattle.cap_tree.specs.Shape.{EachBelow};
 ghost use Rattle.cap_tree.specs.Tree.{IsOrdered, get, put_entry};
 ghost use Rattle.cap_session.specs.Code.Latest.{with_latest};
 ghost use Rattle.cap_session.specs.declared.record.Record.{Record};
@@ -13,6 +14,7 @@ use crate::records_iter::RecordsIter;
 use cap_row::Key;
 use cap_tree::Tree;
 use cap_value::{AllocHandle, OutOfMemory};
+use std::cmp::Ordering;
 use std::marker::Model;
 
 /// The records of one table: its touched keys in order, each with its record.
@@ -23,25 +25,33 @@ use std::marker::Model;
 pub struct Records<A: AllocHandle> {
     tree: Tree<Key<A>, Record<A>, A>,
     latest: Option<(Key<A>, Record<A>)>,
+    // Whether the latest key is known to be above those of the tree, so that no key above it is searched for.
+    is_last: bool,
 }
 
 impl<A: AllocHandle> Model for Records<A> {
     ghost use Rattle.cap_row.specs.Key.{fields_cmp};
     ghost use Rattle.cap_tree.specs.Tree.{IsOrdered};
     ghost use Rattle.cap_session.specs.Records.{Records};
-    ghost use Rattle.cap_session.specs.Code.Latest.{with_latest};
+    ghost use Rattle.cap_session.specs.Code.Latest.{IsLast, with_latest};
+    ghost use Rattle.std.specs.Prelude.{◌≡◌, true};
 
     ghost Value = { Records A };
 
     ghost view = { λ r. with_latest r.tree r.latest };
 
-    ghost invariant = { λ r. IsOrdered fields_cmp (with_latest r.tree r.latest) };
+    ghost invariant = { λ r. IsOrdered fields_cmp (with_latest r.tree r.latest)
+        × (r.is_last ≡ true → IsLast r.tree r.latest) };
 }
 
 // A derived `Drop` would be opened in each caller's loop.
 impl<A: AllocHandle> Drop for Records<A> {
     fn drop(self) {
-        let Records { tree: _, latest: _ } = self;
+        let Records {
+            tree: _,
+            latest: _,
+            is_last: _,
+        } = self;
     }
 }
 
@@ -53,6 +63,7 @@ impl<A: AllocHandle> Records<A> {
         Records {
             tree: Tree::empty(alloc),
             latest: None,
+            is_last: true,
         }
     }
 
@@ -89,13 +100,30 @@ impl<A: AllocHandle> Records<A> {
     {
         match &self.latest {
             None => self.tree.get(key),
-            Some((latest, record)) => {
-                if key == latest {
-                    Some(record)
-                } else {
-                    self.tree.get(key)
+            Some((latest, record)) => match key.order(latest) {
+                Ordering::Equal => Some(record),
+                Ordering::Less => self.tree.get(key),
+                Ordering::Greater => {
+                    if self.is_last {
+                        None
+                    } else {
+                        self.tree.get(key)
+                    }
                 }
-            }
+            },
+        }
+    }
+
+    // Whether the key is above those of all records. Where the latest is the last, it alone is compared.
+    fn is_above(&self, key: &Key<A>) -> bool
+        ensures { result ≡ true → EachBelow fields_cmp key.now self.now }
+    {
+        match &self.latest {
+            None => is_above_tree(&self.tree, key),
+            Some((latest, _)) => match key.order(latest) {
+                Ordering::Greater => self.is_last || is_above_tree(&self.tree, key),
+                Ordering::Less | Ordering::Equal => false,
+            },
         }
     }
 
@@ -110,6 +138,7 @@ impl<A: AllocHandle> Records<A> {
         Ok(Records {
             tree: self.tree.snapshot()?,
             latest,
+            is_last: self.is_last,
         })
     }
 
@@ -117,8 +146,10 @@ impl<A: AllocHandle> Records<A> {
     pub(crate) fn put(&mut self, key: Key<A>, kept: Record<A>) -> Result<(), OutOfMemory>
         ensures { OnOk result (self.new ≡ put_entry fields_cmp self.old key kept) }
     {
+        let is_last = self.is_above(&key);
         move_latest(&mut self.tree, &mut self.latest)?;
         self.latest = Some((key, kept));
+        self.is_last = is_last;
         Ok(())
     }
 
@@ -128,10 +159,12 @@ impl<A: AllocHandle> Records<A> {
         ensures kept { self.new ≡ self.old }
         ensures put { IfOk result (λ after. after ≡ put_entry fields_cmp self.old key kept) }
     {
+        let is_last = self.is_above(&key);
         move_latest(&mut self.tree, &mut self.latest)?;
         Ok(Records {
             tree: self.tree.snapshot()?,
             latest: Some((key, kept)),
+            is_last,
         })
     }
 
@@ -146,6 +179,21 @@ impl<A: AllocHandle> Records<A> {
             None => None,
         };
         RecordsIter::over(latest, self.tree.iter())
+    }
+}
+
+// Whether the key is above those of the tree.
+fn is_above_tree<A: AllocHandle>(tree: &Tree<Key<A>, Record<A>, A>, key: &Key<A>) -> bool
+    ensures { result ≡ true → EachBelow fields_cmp key.now tree.now }
+{
+    // The length shows that the keys rise.
+    let _length = tree.len();
+    match tree.last() {
+        None => true,
+        Some((last, _)) => match key.order(last) {
+            Ordering::Greater => true,
+            Ordering::Less | Ordering::Equal => false,
+        },
     }
 }
 

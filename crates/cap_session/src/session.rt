@@ -9,7 +9,7 @@ ghost use Rattle.cap_session.specs.Session.{indirect_as, new_session, record_of,
 ghost use Rattle.cap_session.specs.Session.{set_filter, stored};
 
 use crate::attached::Attached;
-use crate::delta::{Delta, touch_beside};
+use crate::delta::{Delta, reserve_touches};
 use crate::tables::{
     Tables, attach_by, attach_by_rule, copy_of, is_any_new, touch_changed, touch_found,
 };
@@ -202,7 +202,7 @@ impl<A: AllocHandle> Session<A> {
             return Ok(());
         }
         let touched = &mut delta.touched;
-        touch_beside(
+        reserve_touches(
             touched,
             place,
             room,

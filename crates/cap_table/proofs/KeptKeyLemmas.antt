@@ -1,14 +1,24 @@
--- An update that sets no key column leaves each row its key.
-use Rattle.std.proofs.Common.{◌≡◌, ℕ, suc, ◌+◌, Bool, true, false, List, [], ◌∷◌, map, get_or, refl, ap, subst, arith}
-use Rattle.std.specs.Prelude.{◌==◌, not, Option, Some, None, length, cond}
+-- An update that sets no key column leaves each row its key, and the table with the new row under it.
+use Rattle.std.proofs.Common.{◌≡◌, ℕ, suc, ◌+◌, Bool, true, false, cond, Some, List, [], ◌∷◌, Ok, Err, length, map, get_or, refl, sym, ap, subst, ◌∙◌, arith}
+use Rattle.std.specs.Prelude.{is_some, not}
+use Rattle.std.specs.Cmp.{Equal-is, tied_itself}
 use Rattle.std.specs.List.{list_any, enumerate_from}
+use Rattle.std.specs.Option.{option_map}
 use Rattle.std.proofs.lemmas.Bool.Decides.{nat_tests}
+use Rattle.std.proofs.lemmas.List.{length-map}
+use Rattle.std.proofs.lemmas.List.FromFn.{length-enumerate_from}
+use Rattle.cap_value.specs.declared.refusal.Refusal.TheVariants.{BadColumn}
 use Rattle.cap_value.specs.declared.value.Value.{Value}
 use Rattle.cap_row.specs.Fields.{Fields}
-use Rattle.cap_row.specs.Key.{key_fields, key_from, key_of}
-use Rattle.cap_row.specs.Row.{new_value, row_with}
-use Rattle.cap_table.specs.KeptKey.{keeps_key, new_key}
+use Rattle.cap_row.specs.Key.{fields_cmp, fields_cmp_total, key_fields, key_from, key_of}
+use Rattle.cap_row.specs.Row.{are_columns, columns_of, new_value, row_with, with_fields}
+use Rattle.cap_tree.specs.Tree.{get}
+use Rattle.cap_table.specs.KeptKey.{keeps_key}
+use Rattle.cap_table.specs.Operation.{moved, row_of, under_key, update_row, updated, with_key, without}
+use Rattle.cap_table.specs.Sound.{IsTable}
 use Rattle.cap_table.specs.Table.{TableState}
+use Rattle.cap_table.specs.declared.row_ref.RowRef.TheVariants.{Key}
+use Rattle.cap_table.proofs.BackLemmas.{own-row}
 
 not_any : (b : Bool) → not b ≡ true → b ≡ false
 not_any true is = cc
@@ -36,3 +46,31 @@ module _ {A : Type 0} where
   same_key flags fields keeps row =
       let none : list_any (λ (field : ℕ × Value A). get_or flags field.0 false) fields ≡ false = not_any _ keeps in
       ap key_from (kept_fields fields flags 0 row (λ i v key. subst (λ m. new_value fields m v ≡ v) (omega arith) (unset flags i v fields none key)))
+
+  -- the new row of an update, and what the update leaves
+  pub record IsUpdated (t : TableState A) (key : Fields A) (changes : List (ℕ × Value A)) (made : Fields A) : Type 0 where
+    pub width : length made ≡ length t.schema
+    pub own : key_of t.schema made ≡ Some key
+    pub next : option_map (row_with changes) (get fields_cmp t.keyed key) ≡ Some made
+    pub left : update_row t (Key key) changes ≡ Ok (with_key t key made)
+
+  if_ok : (b : Bool) (row made : Fields A) → cond b (Ok row) (Err BadColumn) ≡ Ok made → (b ≡ true) × (row ≡ made)
+  if_ok true row made is = (refl, cc)
+  if_ok false row made is = cc
+
+  pub updated_to : (t : TableState A) (key : Fields A) (changes : List (ℕ × Value A)) → keeps_key t.schema changes ≡ true → IsTable t → (row made : Fields A) → Some row ≡ get fields_cmp t.keyed key → with_fields t.schema row changes ≡ Ok made → IsUpdated t key changes made
+  updated_to t key changes keeps h row made there with =
+      let own = own-row t key row h (sym there) in
+      let is = if_ok (are_columns (length t.schema) (columns_of changes)) (row_with changes row) made with in
+      let same : key_of t.schema made ≡ Some key = ap (λ (r : Fields A). key_of t.schema r) (sym is.1) ∙ same_key t.schema changes keeps row ∙ own.1 in
+      record {
+        width = ap length (sym is.1) ∙ length-map _ _ ∙ length-enumerate_from 0 row ∙ own.0;
+        own = same;
+        next = ap (option_map (row_with changes)) (sym there) ∙ ap Some is.1;
+        left =
+            ap (λ b. cond b (updated t (Key key) changes (row_of t (Key key))) (Err BadColumn)) is.0
+            ∙ ap (λ o. updated t (Key key) changes o) (sym there)
+            ∙ ap (λ (r : Fields A). moved t (Key key) r (key_of t.schema r)) is.1
+            ∙ ap (λ k. moved t (Key key) made k) same
+            ∙ ap (λ b. cond b (Ok (with_key t key made)) (under_key (is_some (get fields_cmp t.keyed key)) (without t (Key key)) key made)) ((Equal-is (fields_cmp key key)).1 (tied_itself fields_cmp_total key));
+      }

@@ -8,7 +8,6 @@ use Rattle.std.specs.Ordering.{is_lt, match_ordering, nat_cmp}
 use Rattle.std.specs.Cmp.{IsTotalOrder}
 use Rattle.std.specs.FinMap.{IsAntisymmetric, nat_cmp-IsAntisymmetric}
 use Rattle.std.specs.FinMap.Entries.{below_all, by_order, is_sorted, is_sorted-put, put}
-use Rattle.std.proofs.lemmas.Bool.Decides.{nat_tests}
 use Rattle.std.proofs.lemmas.Cmp.{nat_cmp_total}
 use Rattle.std.proofs.lemmas.List.{length-map}
 use Rattle.std.proofs.lemmas.List.FromFn.{length-enumerate_from}
@@ -24,17 +23,11 @@ use Rattle.cap_table.specs.declared.row_ref.RowRef.TheVariants.{Key, Loose}
 use Rattle.cap_table.specs.Operation.{delete_row, empty_table, insert_row, moved, placed, rekeyed, row_of, under_key, under_next_id, updated, update_row, with_id, with_key, without}
 use Rattle.cap_table.specs.Sound.{IsRising, IsTable, is_given, is_key_of, keyed_stands, loose_stands}
 use Rattle.cap_table.specs.Table.{TableState}
-use Rattle.cap_table.proofs.TableLemmas.{both, fields_same, first, found-passes, given_from_1, put_keyed, put_loose, put_next, second, take_keyed, take_loose, was_given}
+use Rattle.cap_table.proofs.TableLemmas.{both, fields_same, first, found-passes, given_from_1, is_below, is_same_length, put_keyed, put_loose, put_next, second, take_keyed, take_loose, was_given}
 
 truth : (b : Bool) → T b → b ≡ true
 truth true t = refl
 truth false t = absurd t
-
-same_length : (m n : ℕ) → (m == n) ≡ true → m ≡ n
-same_length m n e = grind (arith, nat_tests)
-
-is_below : (m n : ℕ) → nat_lt m n ≡ true → m < n
-is_below m n h = grind (arith, nat_tests)
 
 -- ---- keys that rise
 
@@ -123,7 +116,7 @@ module _ {A : Type 0} where
   pub insert-rises : (t : TableState A) (row : Fields A) → IsRising t → IfOk (insert_row t row) IsRising
   insert-rises t row h =
       elim (length row == length t.schema) as (λ b. (length row == length t.schema) ≡ b → IfOk (cond b (placed t row (key_of t.schema row)) (Err WrongWidth)) IsRising) [
-        | true ↦ λ e. placed-rises t row (key_of t.schema row) h (same_length (length row) (length t.schema) e) refl
+        | true ↦ λ e. placed-rises t row (key_of t.schema row) h (is_same_length (length row) (length t.schema) e) refl
         | false ↦ λ e. tt
       ] refl
 
@@ -131,11 +124,11 @@ module _ {A : Type 0} where
 
   found-wide : (t : TableState A) (name : RowRef A) (row : Fields A) → IsTable t → row_of t name ≡ Some row → length row ≡ length t.schema
   found-wide t (Key key) row h is =
-      same_length (length row) (length t.schema)
+      is_same_length (length row) (length t.schema)
       (first (length row == length t.schema) (is_key_of (key_of t.schema row) key) (found-passes fields_cmp (λ row. keyed_stands t.schema row.0 row.1) fields_same t.keyed key row h.keyed is))
   found-wide t (Loose id) row h is =
       let stands = found-passes nat_cmp (λ row. loose_stands t.schema t.next_id row.0 row.1) nat_cmp-IsAntisymmetric t.loose id row h.loose is in
-      same_length (length row) (length t.schema) (first (length row == length t.schema) _ (first _ (is_given t.next_id id) stands))
+      is_same_length (length row) (length t.schema) (first (length row == length t.schema) _ (first _ (is_given t.next_id id) stands))
 
   row_with-wide : (changes : List (ℕ × Value A)) (row : Fields A) → length (row_with changes row) ≡ length row
   row_with-wide changes row = length-map (enumerate_from 0 row) (λ field. new_value changes field.0 field.1) ∙ length-enumerate_from 0 row

@@ -1,10 +1,6 @@
 pub mod Crossing
 pub mod HookedLemmas
 pub mod BackLemmas
-pub mod IdLemmas
 pub mod KeptLemmas
-pub mod LawLemmas
 pub mod TableLemmas
 pub mod KeptKeyLemmas
-pub mod RenewLemmas
-pub mod ReplaceLemmas

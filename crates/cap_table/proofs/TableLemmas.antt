@@ -81,7 +81,7 @@ is_same_length m n e = grind (arith, nat_tests)
 below : (m n : ℕ) → m < n → nat_lt m n ≡ true
 below m n h = grind (arith, nat_tests)
 
-is_below : (m n : ℕ) → nat_lt m n ≡ true → m < n
+pub is_below : (m n : ℕ) → nat_lt m n ≡ true → m < n
 is_below m n h = grind (arith, nat_tests)
 
 -- an id that is given: it is at least 1, and below the next one

@@ -1,10 +1,7 @@
 pub mod WithHook
-pub mod Ids
 pub mod Operation
-pub mod Replace
 pub mod Scan
 pub mod Sound
 pub mod Table
 pub mod NotMade
-pub mod Hooked
 pub mod KeptKey

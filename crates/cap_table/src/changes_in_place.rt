@@ -1,7 +1,7 @@
 //! Operations on one table, in place. Each reserves all its memory before it changes anything.
 ghost use Rattle.std.specs.Prelude.{◌≡◌, ◌<◌, ◌^◌, length, IfOk, OnErr, IsTrue, Some, None, is_some};
 ghost use Rattle.std.specs.Ordering.{nat_cmp};
-ghost use Rattle.cap_value.specs.Memory.{AnswersUnlessMemory, LeavesUnlessMemory, RefusesFirst};
+ghost use Rattle.cap_value.specs.Memory.{LeavesUnlessMemory, RefusesFirst};
 ghost use Rattle.cap_row.specs.Key.{key_of, fields_cmp};
 ghost use Rattle.cap_row.specs.Row.{row_with};
 ghost use Rattle.cap_tree.specs.Tree.{get};
@@ -268,49 +268,6 @@ impl<A: AllocHandle> Table<A> {
             return Some(Refusal::BadColumn);
         }
         self.refused_delete(name)
-    }
-
-    /// The table after an insert, with `insert`'s refusals. This table stays as it is.
-    pub fn with_insert(&self, row: Row<A>) -> Result<Self, Fault<Refusal>>
-        ensures table { AnswersUnlessMemory result (insert_row self.now row) }
-        ensures first { RefusesFirst (refused_insert self.now row) result }
-    {
-        if let Some(why) = self.refused_insert(&row) {
-            return Err(Fault::Refused(why));
-        }
-        let mut table = self.snapshot()?;
-        table.insert(row)?;
-        Ok(table)
-    }
-
-    /// The table after an update, with `update`'s refusals. This table stays as it is.
-    pub fn with_update(
-        &self,
-        name: &RowRef<A>,
-        fields: &[(usize, Value<A>)],
-    ) -> Result<Self, Fault<Refusal>>
-        ensures table { AnswersUnlessMemory result (update_row self.now name.now fields.now) }
-        ensures first { RefusesFirst (refused_update self.now name.now fields.now) result }
-    {
-        if let Some(why) = self.refused_update(name, fields) {
-            return Err(Fault::Refused(why));
-        }
-        let mut table = self.snapshot()?;
-        table.update(name, fields)?;
-        Ok(table)
-    }
-
-    /// The table after a delete, with `delete`'s refusals. This table stays as it is.
-    pub fn with_delete(&self, name: &RowRef<A>) -> Result<Self, Fault<Refusal>>
-        ensures table { AnswersUnlessMemory result (delete_row self.now name.now) }
-        ensures first { RefusesFirst (refused_delete self.now name.now) result }
-    {
-        if let Some(why) = self.refused_delete(name) {
-            return Err(Fault::Refused(why));
-        }
-        let mut table = self.snapshot()?;
-        table.delete(name)?;
-        Ok(table)
     }
 }
 

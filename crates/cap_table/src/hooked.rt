@@ -1,5 +1,5 @@
-//! Operations on rows that have a key, each by one search: the tree shows the table's hook the present row of
-//! the key, and the table's hook checks it before it asks the caller's hook.
+//! Operations on rows that have a key. Each looks the present row up and judges it, and then changes the tree,
+//! which asks the caller's hook.
 ghost use Rattle.std.specs.Prelude.{◌≡◌, Result, Ok, Err, Some, None, IfOk, IfErr, OnOk, OnErr, IsTrue};
 ghost use Rattle.std.specs.Prelude.{length, get_or, is_some, option_map, false};
 ghost use Rattle.std.specs.List.{list_any};
@@ -11,118 +11,15 @@ ghost use Rattle.cap_tree.specs.Tree.{get};
 ghost use Rattle.cap_table.specs.WithHook.{LeavesOnceAllowed};
 ghost use Rattle.cap_table.specs.NotMade.{RefusesAtOnce};
 ghost use Rattle.cap_table.specs.Operation.{delete_row, insert_row, under_key, update_row};
-ghost use Rattle.cap_table.specs.Operation.{refused_delete, refused_update};
+ghost use Rattle.cap_table.specs.Operation.{refused_delete, refused_update, with_key, without};
 ghost use Rattle.cap_table.specs.KeptKey.{keeps_key, new_key};
 ghost use Rattle.cap_table.specs.Table.{TableState};
 
 use crate::table::Table;
 use crate::{NotMade, RowRef};
-use cap_row::{Key, Row, Schema, are_columns, key_of};
-use cap_tree::{Hook, Remake};
+use cap_row::{Key, Row, are_columns, key_of};
+use cap_tree::Hook;
 use cap_value::{AllocHandle, Fault, OutOfMemory, Refusal, Value};
-
-// Refuses a row whose key is taken, and otherwise asks the caller's hook.
-#[derive(Drop)]
-pub(crate) struct IfNew<'a, H> {
-    pub(crate) outer: &'a mut H,
-}
-
-impl<'a, A: AllocHandle, H: Hook<Row<A>>> Hook<Row<A>> for IfNew<'a, H> {
-    type Refusal = NotMade<H::Refusal>;
-
-    ghost use Rattle.std.specs.Prelude.{◌≡◌, None};
-    ghost use Rattle.cap_table.specs.Hooked.{GivesIfNew};
-
-    ghost can_ask = { λ step present next. present ≡ None → H.can_ask step.outer.now None next };
-
-    ghost gives = { λ old present next answer new. (new.outer.ghost_name ≡ old.outer.ghost_name)
-        × GivesIfNew H.gives old.outer.now present next answer new.outer.now };
-
-    fn before_change(
-        &mut self,
-        present: Option<&Row<A>>,
-        next: Option<&Row<A>>,
-    ) -> Result<(), NotMade<H::Refusal>> {
-        match present {
-            Some(_) => Err(NotMade::Refused(Refusal::Duplicate)),
-            None => match self.outer.before_change(present, next) {
-                Ok(()) => Ok(()),
-                Err(why) => Err(NotMade::Vetoed(why)),
-            },
-        }
-    }
-}
-
-// Refuses where there is no row, and otherwise asks the caller's hook.
-#[derive(Drop)]
-pub(crate) struct IfThere<'a, H> {
-    pub(crate) outer: &'a mut H,
-}
-
-impl<'a, A: AllocHandle, H: Hook<Row<A>>> Hook<Row<A>> for IfThere<'a, H> {
-    type Refusal = NotMade<H::Refusal>;
-
-    ghost use Rattle.std.specs.Prelude.{◌≡◌, Some};
-    ghost use Rattle.cap_row.specs.Fields.{Fields};
-    ghost use Rattle.cap_table.specs.Hooked.{GivesIfThere};
-
-    ghost can_ask = { λ step present next. (row : Fields A) → present ≡ Some row
-        → H.can_ask step.outer.now (Some row) next };
-
-    ghost gives = { λ old present next answer new. (new.outer.ghost_name ≡ old.outer.ghost_name)
-        × GivesIfThere H.gives old.outer.now present next answer new.outer.now };
-
-    fn before_change(
-        &mut self,
-        present: Option<&Row<A>>,
-        next: Option<&Row<A>>,
-    ) -> Result<(), NotMade<H::Refusal>> {
-        match present {
-            None => Err(NotMade::Refused(Refusal::NoRow)),
-            Some(_) => match self.outer.before_change(present, next) {
-                Ok(()) => Ok(()),
-                Err(why) => Err(NotMade::Vetoed(why)),
-            },
-        }
-    }
-}
-
-// Makes the row with some fields set, if the caller's hook allows it.
-#[derive(Drop)]
-pub(crate) struct Renew<'a, 'b, 'c, 'd, A: AllocHandle, H> {
-    pub(crate) alloc: &'d A,
-    pub(crate) schema: &'b Schema<A>,
-    pub(crate) fields: &'c [(usize, Value<A>)],
-    pub(crate) outer: &'a mut H,
-}
-
-impl<'a, 'b, 'c, 'd, A: AllocHandle, H: Hook<Row<A>>> Remake<Row<A>>
-    for Renew<'a, 'b, 'c, 'd, A, H> {
-    type Refusal = NotMade<H::Refusal>;
-
-    ghost use Rattle.std.specs.Prelude.{◌≡◌, Some, Ok, length};
-    ghost use Rattle.cap_row.specs.Fields.{Fields};
-    ghost use Rattle.cap_row.specs.Row.{with_fields};
-    ghost use Rattle.cap_table.specs.Hooked.{GivesRenewed};
-
-    ghost can_remake = { λ step row. (length step.schema.now ≡ length row)
-        × ((made : Fields A) → with_fields step.schema.now row step.fields.now ≡ Ok made
-        → H.can_ask step.outer.now (Some row) (Some made)) };
-
-    ghost gives = { λ old row answer new. (new.outer.ghost_name ≡ old.outer.ghost_name)
-        × GivesRenewed H.gives old.schema.now old.fields.now old.outer.now row answer new.outer.now };
-
-    fn remake(&mut self, present: &Row<A>) -> Result<Row<A>, NotMade<H::Refusal>> {
-        match present.with_fields(*self.alloc, self.schema, self.fields) {
-            Ok(row) => match self.outer.before_change(Some(present), Some(&row)) {
-                Ok(()) => Ok(row),
-                Err(why) => Err(NotMade::Vetoed(why)),
-            },
-            Err(Fault::Refused(why)) => Err(NotMade::Refused(why)),
-            Err(Fault::OutOfMemory) => Err(NotMade::OutOfMemory),
-        }
-    }
-}
 
 impl<A: AllocHandle> Table<A> {
     /// The primary key of a new row, none where it has none or another width than the table.
@@ -180,11 +77,9 @@ impl<A: AllocHandle> Table<A> {
             (hook.new ≡ hook.old) (λ answer. H.gives hook.old None (Some row) answer hook.new) }
         ensures kept { OnErr result (self.new ≡ self.old) }
     {
-        let mut step = IfNew { outer: hook };
-        match self.keyed.insert_hooked(key, row, &mut step) {
-            Ok(_) => Ok(()),
-            Err(Fault::Refused(why)) => Err(why),
-            Err(Fault::OutOfMemory) => Err(NotMade::OutOfMemory),
+        match self.keyed().get(&key) {
+            Some(_) => Err(NotMade::Refused(Refusal::Duplicate)),
+            None => self.put_hooked(key, row, hook),
         }
     }
 
@@ -203,14 +98,9 @@ impl<A: AllocHandle> Table<A> {
         ensures kept { OnErr result (self.new ≡ self.old) }
         ensures first { RefusesAtOnce (refused_delete self.old (RowRef.Key key.now)) result }
     {
-        let mut step = IfThere { outer: hook };
-        match self.keyed.remove_hooked(key, &mut step) {
-            Ok(_) => Ok(()),
-            Err(Fault::Refused(why)) => Err(why),
-            Err(Fault::OutOfMemory) => match self.keyed.get(key) {
-                Some(_) => Err(NotMade::OutOfMemory),
-                None => Err(NotMade::Refused(Refusal::NoRow)),
-            },
+        match self.keyed().get(key) {
+            None => Err(NotMade::Refused(Refusal::NoRow)),
+            Some(_) => self.take_hooked(key, hook),
         }
     }
 
@@ -238,20 +128,56 @@ impl<A: AllocHandle> Table<A> {
         if !are_columns(self.schema.width(), fields) {
             return Err(NotMade::Refused(Refusal::BadColumn));
         }
-        let mut step = Renew {
-            alloc: &self.alloc,
-            schema: &self.schema,
-            fields,
-            outer: hook,
+        let Some(old) = self.keyed().get(key) else {
+            return Err(NotMade::Refused(Refusal::NoRow));
         };
-        match self.keyed.replace_hooked(key, &mut step) {
-            Ok(Some(_)) => Ok(()),
-            Ok(None) => Err(NotMade::Refused(Refusal::NoRow)),
-            Err(Fault::Refused(why)) => Err(why),
-            Err(Fault::OutOfMemory) => match self.keyed.get(key) {
-                Some(_) => Err(NotMade::OutOfMemory),
-                None => Err(NotMade::Refused(Refusal::NoRow)),
-            },
+        match (
+            key.copy(),
+            old.with_fields(self.alloc, self.schema(), fields),
+        ) {
+            (Ok(key), Ok(row)) => self.put_hooked(key, row, hook),
+            _ => Err(NotMade::OutOfMemory),
+        }
+    }
+
+    // Removes the row of a key, in place.
+    fn take_hooked<H: Hook<Row<A>>>(
+        &mut self,
+        key: &Key<A>,
+        hook: &mut H,
+    ) -> Result<(), NotMade<H::Refusal>>
+        requires { H.can_ask hook.old (get fields_cmp self.old.keyed key.now) None }
+        ensures table { LeavesOnceAllowed result (Ok (without self.old (RowRef.Key key.now))) self.new
+            (hook.new ≡ hook.old)
+            (λ answer. H.gives hook.old (get fields_cmp self.old.keyed key.now) None answer hook.new) }
+        ensures kept { OnErr result (self.new ≡ self.old) }
+    {
+        match self.keyed.remove_hooked(key, hook) {
+            Ok(_) => Ok(()),
+            Err(Fault::Refused(why)) => Err(NotMade::Vetoed(why)),
+            Err(Fault::OutOfMemory) => Err(NotMade::OutOfMemory),
+        }
+    }
+
+    // A row under its own key, in place.
+    fn put_hooked<H: Hook<Row<A>>>(
+        &mut self,
+        key: Key<A>,
+        row: Row<A>,
+        hook: &mut H,
+    ) -> Result<(), NotMade<H::Refusal>>
+        requires width { length row ≡ length self.old.schema }
+        requires key { key_of self.old.schema row ≡ Some key }
+        requires can_ask { H.can_ask hook.old (get fields_cmp self.old.keyed key) (Some row) }
+        ensures table { LeavesOnceAllowed result (Ok (with_key self.old key row)) self.new
+            (hook.new ≡ hook.old)
+            (λ answer. H.gives hook.old (get fields_cmp self.old.keyed key) (Some row) answer hook.new) }
+        ensures kept { OnErr result (self.new ≡ self.old) }
+    {
+        match self.keyed.insert_hooked(key, row, hook) {
+            Ok(_) => Ok(()),
+            Err(Fault::Refused(why)) => Err(NotMade::Vetoed(why)),
+            Err(Fault::OutOfMemory) => Err(NotMade::OutOfMemory),
         }
     }
 }

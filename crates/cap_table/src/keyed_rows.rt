@@ -1,30 +1,15 @@
-//! A row got by its key, put under it, taken out from under it, or replaced by one that is made of it, in
-//! place and by one search. Whoever judges a put or a take by the row that it finds makes the change first,
-//! and puts the row back where the change is not to be.
-ghost use Rattle.std.specs.Prelude.{◌≡◌, length, IfOk, IfSome, OnOk, OnErr, Some};
-ghost use Rattle.std.specs.Option.{option_copied};
+//! A row put under its key, or taken out from under it, in place and by one search.
+ghost use Rattle.std.specs.Prelude.{◌≡◌, length, IfOk, OnOk, OnErr, Some};
 ghost use Rattle.cap_row.specs.Key.{key_of, fields_cmp};
-ghost use Rattle.cap_row.specs.Fields.{Fields};
-ghost use Rattle.cap_tree.specs.Replace.{Replaces};
 ghost use Rattle.cap_tree.specs.Tree.{get};
 ghost use Rattle.cap_table.specs.Operation.{with_key, without};
-ghost use Rattle.cap_table.specs.Replace.{IsOwn, MakesOwn};
 
 use crate::RowRef;
 use crate::table::Table;
 use cap_row::{Key, Row};
-use cap_tree::Remake;
-use cap_value::{AllocHandle, Fault, OutOfMemory};
+use cap_value::{AllocHandle, OutOfMemory};
 
 impl<A: AllocHandle> Table<A> {
-    /// The row of a key.
-    pub fn get_keyed(&self, key: &Key<A>) -> Option<&Row<A>>
-        ensures row { option_copied result ≡ get fields_cmp self.now.keyed key.now }
-        ensures width { IfSome result (λ row. length row.now ≡ length self.now.schema) }
-    {
-        self.keyed.get(key)
-    }
-
     /// Puts a row under its own key, and answers the row that was there, if any. It searches once.
     ///
     /// On an error the table is as before.
@@ -49,24 +34,5 @@ impl<A: AllocHandle> Table<A> {
     {
         let before = self.keyed.remove(key)?;
         Ok(before)
-    }
-
-    /// Replaces the row of a key by one that `hook` makes of it, and answers the row that was there, or none
-    /// where no row has the key. It searches once.
-    ///
-    /// `hook` is asked once, after all other memory is reserved, and only if there is a row. If it refuses,
-    /// or on `OutOfMemory`, the table is as before.
-    pub fn replace_keyed<H: Remake<Row<A>>>(
-        &mut self,
-        key: &Key<A>,
-        hook: &mut H,
-    ) -> Result<Option<Row<A>>, Fault<H::Refusal>>
-        requires can_remake { (row : Fields A) → IsOwn self.old key.now row → H.can_remake hook.old row }
-        requires own { MakesOwn H.gives hook.old self.old key.now }
-        ensures row { Replaces fields_cmp H.gives result self.old.keyed key.now self.new.keyed
-            hook.old hook.new }
-        ensures rest { self.new ≡ record self.old { keyed = self.new.keyed } }
-    {
-        self.keyed.replace_hooked(key, hook)
     }
 }

@@ -14,10 +14,7 @@ mod rows;
 mod scan;
 mod table;
 
-pub use laws::{
-    delete_undoes_insert, ids_are_given_once, insert_takes_next_id, keyed_rows_go_back,
-    keyed_rows_keep_tables, operations_keep_columns, operations_keep_tables,
-};
+pub use laws::{keyed_rows_keep_tables, operations_keep_columns, operations_keep_tables};
 pub use limits::ROW_IDS_END;
 pub use not_made::NotMade;
 pub use replaced::Replaced;

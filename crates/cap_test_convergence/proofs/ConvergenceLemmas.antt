@@ -30,7 +30,7 @@ use Rattle.cap_core.specs.Answer.{State, answer, event_by, state_after}
 use Rattle.cap_core.specs.Capture.{CaptureState, session_changes}
 use Rattle.cap_core.specs.History.{main}
 use Rattle.cap_core.specs.Past.{Past}
-use Rattle.cap_core.specs.Restarts.{first_touched}
+use Rattle.cap_core_laws.specs.Restarts.{first_touched}
 use Rattle.cap_core.specs.Session.{session_of}
 use Rattle.cap_core.specs.Table.{BlobsFitPast}
 use Rattle.cap_core.specs.Touch.{event_touches, restarts, touches}

@@ -29,14 +29,14 @@ use Rattle.cap_core.specs.Diff.{compared, diff, diff_from, diff_to}
 use Rattle.cap_core.specs.Flags.{command_to, is_enabled, is_indirect}
 use Rattle.cap_core.specs.History.{main, saved, snapshot}
 use Rattle.cap_core.specs.Past.{Past, is_accepted}
-use Rattle.cap_core.specs.Restarts.{first_touched}
+use Rattle.cap_core_laws.specs.Restarts.{first_touched}
 use Rattle.cap_core.specs.Table.{BlobsFitPast}
 use Rattle.cap_core.specs.Touch.{Touch, attachings, changes_touch, diff_by, diff_touches, event_changes, event_diff, event_touches, found_in, is_recorded, restarts, touch_found, touch_of, touches, touches_of}
 use Rattle.cap_core.proofs.DiffLemmas.{compared-stand}
-use Rattle.cap_core.proofs.SavedLemmas.{found-rises}
+use Rattle.cap_core_laws.proofs.SavedLemmas.{found-rises}
 use Rattle.cap_core.proofs.SmallLemmas.{first, second}
 use Rattle.cap_core.proofs.SoundLemmas.{image-IsKeyedRow, stands-key_of, stands-wide}
-use Rattle.cap_core.proofs.StayLemmas.{event-keeps}
+use Rattle.cap_core_laws.proofs.StayLemmas.{event-keeps}
 use Rattle.cap_captures.proofs.CaptureLemmas.{row-under}
 use Rattle.cap_captures.proofs.ConcatLemmas.{some_same}
 use Rattle.cap_captures.proofs.RecordLemmas.{all-append, all-turn}

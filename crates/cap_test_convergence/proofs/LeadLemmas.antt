@@ -24,7 +24,7 @@ use Rattle.cap_group.specs.Rows.{Follow, IsRowUnder}
 use Rattle.cap_core.specs.Capture.{session_changes}
 use Rattle.cap_core.specs.History.{main}
 use Rattle.cap_core.specs.Past.{Past}
-use Rattle.cap_core.specs.Restarts.{first_touched}
+use Rattle.cap_core_laws.specs.Restarts.{first_touched}
 use Rattle.cap_core.specs.Session.{session_of}
 use Rattle.cap_core.specs.Table.{BlobsFitPast}
 use Rattle.cap_core.specs.Touch.{touches}

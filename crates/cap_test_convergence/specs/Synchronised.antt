@@ -19,7 +19,7 @@ use Rattle.cap_core.specs.Answer.{State, answer, event_by}
 use Rattle.cap_core.specs.Capture.{CaptureState}
 use Rattle.cap_core.specs.History.{main}
 use Rattle.cap_core.specs.Past.{Past}
-use Rattle.cap_core.specs.Restarts.{first_touched}
+use Rattle.cap_core_laws.specs.Restarts.{first_touched}
 use Rattle.cap_core.specs.Touch.{touches}
 use Rattle.cap_captures.specs.Parts.{IsLeftBy, capturing, restarting}
 use Rattle.cap_test_convergence.specs.Steps.{IsNoCapture}

@@ -20,10 +20,8 @@ use cap_apply::{Answer, Policy, Report, applied_blobs_keep_columns, applied_blob
 use cap_changes::ChangeList;
 use cap_codec::{Contents, changes_are_writable, read_blob, write_changes};
 use cap_convergence::a_rebased_changeset_leads_from_the_hub_to_the_client;
-use cap_core::{
-    Capture, Command, Core, EVENTS_MAX, QuietSessions, Reply, SessionCommand,
-    bytes_of_a_capture_give_the_rows_now,
-};
+use cap_core::{Capture, Command, Core, EVENTS_MAX, QuietSessions, Reply, SessionCommand};
+use cap_core_laws::bytes_of_a_capture_give_the_rows_now;
 use cap_database::{tables_keep_columns, tables_keep_order};
 use cap_rebase::{Rebaser, buffer_of};
 use cap_session::SessionChange;

@@ -10,9 +10,10 @@ ghost use Rattle.cap_test_replicas.specs.Replica.{Explains, IsNoCapture, IsRepli
 use cap_apply::{Applied, Policy, apply};
 use cap_codec::read_blob;
 use cap_core::{
-    Capture, Command, Reply, SessionCommand, bytes_of_a_capture_give_the_rows_now, database_rises,
-    fitting_histories_grow, legal_histories_grow, legal_histories_were_legal,
+    Capture, Command, Reply, SessionCommand, fitting_histories_grow, legal_histories_grow,
+    legal_histories_were_legal,
 };
+use cap_core_laws::{bytes_of_a_capture_give_the_rows_now, database_rises};
 use cap_database::Database;
 use cap_locked::CallFault;
 use cap_server::{Naming, Seat, Server};

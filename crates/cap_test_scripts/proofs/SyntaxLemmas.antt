@@ -1,6 +1,6 @@
 -- Lines with a fault of syntax, whose filter is not reached, and one without.
 use Rattle.std.proofs.Common.{◌≡◌, Option, Some, None, Result, Ok, Err, codes, refl, sym, ◌∙◌}
-use Rattle.cap_script.specs.FaultPlace.{HasSyntaxFault, ReachesFilter}
+use Rattle.cap_script_laws.specs.FaultPlace.{HasSyntaxFault, ReachesFilter}
 use Rattle.cap_language.specs.Forms.{natural, worker}
 use Rattle.cap_language.specs.Scanning.{token_at}
 use Rattle.cap_script.specs.Language.{command, opening}

@@ -1,11 +1,12 @@
 //! Lines with and without a fault of syntax: what the laws on faults say of them.
 ghost use Rattle.std.specs.Prelude.{codes};
-ghost use Rattle.cap_script.specs.FaultPlace.{BeginsLine, KeepsSyntaxFault};
+ghost use Rattle.cap_script_laws.specs.FaultPlace.{BeginsLine, KeepsSyntaxFault};
 ghost use Rattle.cap_script.specs.LineLimits.{LineWithin};
 ghost use Rattle.cap_script.specs.Script.{SpellsLine};
 ghost use Rattle.cap_script.specs.declared.line.Line.{Line};
 
-use cap_script::{a_line_without_fault, syntax_fault_lasts, syntax_fault_place};
+use cap_script::a_line_without_fault;
+use cap_script_laws::{syntax_fault_lasts, syntax_fault_place};
 use cap_value::AllocHandle;
 
 /// The line `frob`, whose word is no command: its fault is at the first byte.

@@ -124,11 +124,19 @@ fn other(
     step: Step,
 ) -> Result<Table<Global>, Fault<Refusal>> {
     let seven = named(alloc, At::Key(7))?;
+    let mut made = table.snapshot()?;
     match step {
-        Step::Insert => table.with_insert(row(alloc, Some(8), "y")?),
-        Step::Update => table.with_update(&seven, &[(1, Value::text(alloc, "z")?)]),
-        Step::Delete => table.with_delete(&seven),
+        Step::Insert => {
+            made.insert(row(alloc, Some(8), "y")?)?;
+        }
+        Step::Update => {
+            made.update(&seven, &[(1, Value::text(alloc, "z")?)])?;
+        }
+        Step::Delete => {
+            made.delete(&seven)?;
+        }
     }
+    Ok(made)
 }
 
 // Whether that table has these rows.

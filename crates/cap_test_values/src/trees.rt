@@ -13,7 +13,7 @@ type Numbers<A> = Tree<u64, u64, A>;
 fn rising<A: AllocHandle>(alloc: A, count: u64) -> Result<Numbers<A>, OutOfMemory> {
     let mut tree = Tree::empty(alloc);
     for n in 1..=count {
-        tree = tree.put(n, n.wrapping_mul(10))?;
+        tree.insert(n, n.wrapping_mul(10))?;
     }
     Ok(tree)
 }
@@ -41,7 +41,7 @@ fn is_rising<A: AllocHandle>(tree: &Numbers<A>, count: u64) -> bool {
 fn without_even(tree: &Numbers<Global>, half: u64) -> Result<Numbers<Global>, OutOfMemory> {
     let mut taken = tree.snapshot()?;
     for n in 1..=half {
-        taken = taken.take(&n.wrapping_mul(2))?;
+        taken.remove(&n.wrapping_mul(2))?;
     }
     Ok(taken)
 }
@@ -60,9 +60,9 @@ fn even_numbers_taken_beside_a_snapshot(rt: HostRuntime) -> Result<(), Fail> {
 
 #[test]
 fn each_call_succeeds_with_ample_memory(rt: HostRuntime) -> Result<(), Fail> {
-    let tree: Numbers<Global> = Tree::empty(rt.alloc());
+    let mut tree: Numbers<Global> = Tree::empty(rt.alloc());
     assert!(rt; tree.is_empty() && tree.height() == 0 && tree.iter().next() == None);
-    let mut tree = tree.put(7, 70)?;
+    assert!(rt; tree.insert(7, 70) == Ok(None));
     assert!(rt; tree.insert(7, 71) == Ok(Some(70)));
     assert!(rt; tree.insert(8, 80) == Ok(None));
     assert!(rt; tree.get(&7) == Some(&71));
@@ -72,68 +72,23 @@ fn each_call_succeeds_with_ample_memory(rt: HostRuntime) -> Result<(), Fail> {
     Ok(())
 }
 
-fn entries(alloc: Global, count: u64) -> Result<Vec<(u64, u64)>, AllocError> {
-    let mut entries = Vec::new(alloc);
-    for n in 1..=count {
-        entries.push((n, n.wrapping_mul(10)))?;
-    }
-    Ok(entries)
-}
-
-// The tree of the entries; none where they do not rise.
-fn sorted(alloc: Global, entries: Vec<(u64, u64)>) -> Option<Numbers<Global>> {
-    match Tree::from_sorted(alloc, entries) {
-        Ok(tree) => tree,
-        Err(_) => None,
-    }
-}
-
-// The height of the tree of so many entries, where it has just these.
-fn sorted_height(alloc: Global, count: u64) -> Option<u64> {
-    let tree = sorted(alloc, entries(alloc, count).ok()?)?;
-    is_rising(&tree, count).then_some(tree.height())
-}
-
-// Whether there is no tree of two entries with one key.
-fn is_refused_twice(alloc: Global) -> Option<bool> {
-    let twice = vec![in alloc; (1, 10), (2, 20), (2, 30)].ok()?;
-    match Tree::<u64, u64, Global>::from_sorted(alloc, twice) {
-        Ok(tree) => Some(tree.is_none()),
-        Err(_) => None,
-    }
-}
-
-#[test]
-fn a_tree_of_a_sorted_list(rt: HostRuntime) {
-    for count in [0u64, 1, 2, 3, 100, 1000] {
-        let highest = u64::from(u64::BITS - count.leading_zeros());
-        let height = sorted_height(rt.alloc(), count);
-        assert!(rt; height.is_some() && height <= Some(highest));
-    }
-    assert!(rt; is_refused_twice(rt.alloc()) == Some(true));
-}
-
 // The changes that are refused their memory in turn: each of the tree of the numbers up to 100.
 #[derive(Clone, Copy, Drop)]
 enum Change {
     Insert,
     InsertHooked,
-    Put,
     Remove,
     RemoveHooked,
-    Take,
 }
 
 const CHANGES: &[Change] = &[
     Change::Insert,
     Change::InsertHooked,
-    Change::Put,
     Change::Remove,
     Change::RemoveHooked,
-    Change::Take,
 ];
 
-// Puts 101 or takes 50, and answers the value that was there before a change in place.
+// Puts 101 or takes 50, and answers the value that was there.
 fn make_change<A: AllocHandle>(
     tree: &mut Numbers<A>,
     change: Change,
@@ -142,30 +97,13 @@ fn make_change<A: AllocHandle>(
     match change {
         Change::Insert => in_place(tree.insert(101, 1010)),
         Change::InsertHooked => tree.insert_hooked(101, 1010, hook),
-        Change::Put => {
-            let made = tree.put(101, 1010);
-            become_made(tree, made)
-        }
         Change::Remove => in_place(tree.remove(&50)),
         Change::RemoveHooked => tree.remove_hooked(&50, hook),
-        Change::Take => {
-            let made = tree.take(&50);
-            become_made(tree, made)
-        }
     }
 }
 
 fn in_place(answer: Result<Option<u64>, OutOfMemory>) -> Result<Option<u64>, Fault<()>> {
     Ok(answer?)
-}
-
-// The tree becomes the one that is made, if there is memory for it.
-fn become_made<A: AllocHandle>(
-    tree: &mut Numbers<A>,
-    made: Result<Numbers<A>, OutOfMemory>,
-) -> Result<Option<u64>, Fault<()>> {
-    *tree = made?;
-    Ok(None)
 }
 
 // Whether the change was made, with this answer, and nothing else.
@@ -175,11 +113,8 @@ fn is_made<A: AllocHandle>(
     answer: Result<Option<u64>, Fault<()>>,
 ) -> bool {
     match change {
-        Change::Insert | Change::InsertHooked | Change::Put => {
-            answer == Ok(None) && is_rising(tree, 101)
-        }
+        Change::Insert | Change::InsertHooked => answer == Ok(None) && is_rising(tree, 101),
         Change::Remove | Change::RemoveHooked => answer == Ok(Some(500)) && lacks_50(tree),
-        Change::Take => answer == Ok(None) && lacks_50(tree),
     }
 }
 
@@ -191,8 +126,8 @@ fn lacks_50<A: AllocHandle>(tree: &Numbers<A>) -> bool {
 // Takes the change back.
 fn undo_change<A: AllocHandle>(tree: &mut Numbers<A>, change: Change) -> Result<(), OutOfMemory> {
     match change {
-        Change::Insert | Change::InsertHooked | Change::Put => tree.remove(&101)?,
-        Change::Remove | Change::RemoveHooked | Change::Take => tree.insert(50, 500)?,
+        Change::Insert | Change::InsertHooked => tree.remove(&101)?,
+        Change::Remove | Change::RemoveHooked => tree.insert(50, 500)?,
     };
     Ok(())
 }

@@ -1,4 +1,4 @@
--- One key is changed, or its value replaced, in a list of entries and below a child.
+-- One key is changed in a list of entries and below a child.
 use Rattle.std.proofs.Common.{◌≡◌, ℕ, ◌+◌, ◌≤◌, ◌≢◌, Bool, true, false, cond, List, [], ◌∷◌, ◌++◌, length, sym, ap, ◌∙◌, arith, inl, inr, Ok, Err, Result}
 use Rattle.std.specs.Prelude.{Option, Some, None, OnOk, OnErr, IfOk, IfErr, IsErr, IsErrAnd, ◌⊎◌}
 use Rattle.std.specs.Option.{is_some}
@@ -14,7 +14,6 @@ use Rattle.cap_value.specs.Memory.{MatchFault}
 use Rattle.cap_tree.specs.Subtree.{Subtree, Branch}
 use Rattle.cap_tree.specs.Tree.{IsOrdered, get}
 use Rattle.cap_tree.specs.Change.{gain, loss, change_entry, Changes}
-use Rattle.cap_tree.specs.Replace.{Replaces}
 use Rattle.cap_tree.specs.Shape.{entries_of, IsChild, EachBelow, AreChildren}
 use Rattle.cap_tree.proofs.EntryLemmas.{Each, reversed, put_entry-past, put_entry-before, take_entry-past, take_entry-before, get-past, get-before, entries_from-past, entries_from-before, each_put, each_take, ordered_put, ordered_take, length-put_entry, length-take_entry}
 use Rattle.cap_tree.proofs.PlaceLemmas.{turn_not_less, below_children}
@@ -171,35 +170,3 @@ module _ {K V E S : Type 0} (cmp : K → K → Ordering) (gives : S → Option V
     pub changes_was : (r : Result (Option V) (Fault E)) → Changes cmp gives r before k next after s t → IfOk r (λ o. o ≡ get cmp before k)
     changes_was (Ok was) h = h.0
     changes_was (Err e) h = tt
-
--- ---- a value replaced by one that a hook makes
-
-module _ {K V E S : Type 0} (cmp : K → K → Ordering) (gives : S → V → Result V E → S → Type 0) (k : K) (s t : S) where
-  pub replaces_of : (r : Result (Option V) (Fault E)) (b c a d : List (K × V)) → b ≡ c → a ≡ d → Replaces cmp gives r b k a s t → Replaces cmp gives r c k d s t
-  replaces_of r b c a d e f h = rw (← e, ← f) h
-
-  module _ (o : IsTotalOrder cmp) where
-    -- as many entries as before
-    pub replaces_length : (r : Result (Option V) (Fault E)) (before after : List (K × V)) → IsOrdered cmp before → Replaces cmp gives r before k after s t → length after ≡ length before
-    replaces_length (Ok None) before after w h = ap length h.1
-    replaces_length (Ok (Some was)) before after w h = rw (h.1.1.1, length-put_entry cmp o k h.1.0 before w, h.0) (omega arith)
-    replaces_length (Err OutOfMemory) before after w h = ap length h.0
-    replaces_length (Err (Refused why)) before after w h = ap length h.0
-
-    pub replaces_ordered : (r : Result (Option V) (Fault E)) (before after : List (K × V)) → IsOrdered cmp before → Replaces cmp gives r before k after s t → IsOrdered cmp after
-    replaces_ordered (Ok None) before after w h = rw h.1 w
-    replaces_ordered (Ok (Some was)) before after w h = rw h.1.1.1 (ordered_put cmp o k h.1.0 before w)
-    replaces_ordered (Err OutOfMemory) before after w h = rw h.0 w
-    replaces_ordered (Err (Refused why)) before after w h = rw h.0 w
-
-    pub replaces_keeps : (r : Result (Option V) (Fault E)) (before after : List (K × V)) → Replaces cmp gives r before k after s t → Keeps k before after
-    replaces_keeps (Ok None) before after h P p each = rw h.1 each
-    replaces_keeps (Ok (Some was)) before after h P p each = rw h.1.1.1 (each_put cmp o P k h.1.0 before p each)
-    replaces_keeps (Err OutOfMemory) before after h P p each = rw h.0 each
-    replaces_keeps (Err (Refused why)) before after h P p each = rw h.0 each
-
-    pub replaces_there : (height : ℕ) (front : List (Branch K V)) (p : Branch K V) (back : List (Branch K V)) → AreChildren cmp height (front ++ p ∷ back) → IsGap cmp k front p.0 back → (c : Subtree K V) (r : Result (Option V) (Fault E)) → Replaces cmp gives r p.1.entries k c.entries s t → Replaces cmp gives r (entries_of (front ++ p ∷ back)) k (entries_of (front ++ (p.0, c) ∷ back)) s t
-    replaces_there height front p back h gap c (Ok None) w = (get_there cmp k o height front p back h gap ∙ w.0, keep_there cmp k o height front p back h gap c w.1, w.2)
-    replaces_there height front p back h gap c (Ok (Some was)) w = (get_there cmp k o height front p back h gap ∙ w.0, (w.1.0, (w.1.1.0, change_there cmp k o height front p back h gap (Some w.1.0) c w.1.1.1)))
-    replaces_there height front p back h gap c (Err OutOfMemory) w = (keep_there cmp k o height front p back h gap c w.0, w.1)
-    replaces_there height front p back h gap c (Err (Refused why)) w = (keep_there cmp k o height front p back h gap c w.0, (w.1.0, (get_there cmp k o height front p back h gap ∙ w.1.1.0, w.1.1.1)))

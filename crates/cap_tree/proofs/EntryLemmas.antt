@@ -1,6 +1,6 @@
 -- Entries in order, around one of them: what a look-up, a put and a take do on its side of it.
-use Rattle.std.proofs.Common.{◌≡◌, ◌+◌, suc, inl, inr, Bool, true, false, cond, List, [], ◌∷◌, ◌++◌, length, refl, ap, ◌∙◌, subst, arith}
-use Rattle.std.specs.Prelude.{Option, Some, None, ◌↔◌, ◌⊎◌}
+use Rattle.std.proofs.Common.{◌≡◌, ◌+◌, suc, inl, inr, Bool, true, false, cond, List, [], ◌∷◌, ◌++◌, length, refl, ap, ◌∙◌, arith}
+use Rattle.std.specs.Prelude.{Option, Some, None, ◌⊎◌}
 use Rattle.std.specs.declared.cmp.Ordering.{Ordering}
 use Rattle.std.specs.declared.cmp.Ordering.TheVariants.{Less, Equal, Greater}
 use Rattle.std.specs.Ordering.{is_eq, is_le, is_gt, match_ordering, ordering_reverse}
@@ -35,10 +35,6 @@ unfolding IsStrictlySortedBy
 sorted_nil cmp = tt
 
 -- an answer that is no Less is not Less
-pub not_less : (r : Ordering) → (r ≡ Equal) ⊎ (r ≡ Greater) → r ≡ Less → false ≡ true
-not_less r (inl e) h = cc
-not_less r (inr e) h = cc
-
 -- where a test chooses twice
 cond_twice : {X : Type 0} (b : Bool) (x y z : X) → cond b x z ≡ cond b x (cond b y z)
 cond_twice true x y z = refl
@@ -267,31 +263,3 @@ module _ {K V : Type 0} (cmp : K → K → Ordering) where
           | Equal ↦ λ h. let later = equal_before_back o k [] e es s h in rw (entries_below-none k es later, entries_from-below k es later)
           | Greater ↦ λ h. ap (λ t. e ∷ t) (children_at k es s.1)
         ] refl
-
-  -- ---- a list and its first entries: whether it is in order
-
-  ordered_one : (e : K × V) → IsOrdered cmp (e ∷ [])
-  unfolding IsStrictlySortedBy
-  ordered_one e = (tt, tt)
-
-  ordered_two : IsTotalOrder cmp → (a b : K × V) (es : List (K × V)) → cmp a.0 b.0 ≡ Less → IsOrdered cmp (b ∷ es) → IsOrdered cmp (a ∷ b ∷ es)
-  unfolding IsStrictlySortedBy
-  ordered_two o a b es h s = ((h, each_turn (λ y. cmp b.0 y ≡ Less) (λ y. cmp a.0 y ≡ Less) (λ y above. o.trans a.0 b.0 y h above) es s.0), s)
-
-  first_two : (a b : K × V) (es : List (K × V)) → IsOrdered cmp (a ∷ b ∷ es) → (cmp a.0 b.0 ≡ Less) × IsOrdered cmp (b ∷ es)
-  unfolding IsStrictlySortedBy
-  first_two a b es s = (s.0.0, s.1)
-
-  pub ordered_but_one : (whole : List (K × V)) (a : K × V) (others : List (K × V)) → whole ≡ a ∷ others → length others ≡ 0 → IsOrdered cmp whole ↔ IsOrdered cmp others
-  ordered_but_one whole a [] is none = rw is ((λ s. sorted_nil cmp), (λ s. ordered_one a))
-  ordered_but_one whole a (e ∷ es) is none = absurd (omega (arith, none))
-
-  pub ordered_but_first : IsTotalOrder cmp → (whole : List (K × V)) (a : K × V) (others : List (K × V)) (b : K × V) (more : List (K × V)) → whole ≡ a ∷ others → others ≡ b ∷ more → cmp a.0 b.0 ≡ Less → IsOrdered cmp whole ↔ IsOrdered cmp others
-  ordered_but_first o whole a others b more is next h = rw (is, next) ((λ s. (first_two a b more s).1), (λ s. ordered_two o a b more h s))
-
-  pub first_below_second : (whole : List (K × V)) (a : K × V) (others : List (K × V)) (b : K × V) (more : List (K × V)) → whole ≡ a ∷ others → others ≡ b ∷ more → IsOrdered cmp whole → cmp a.0 b.0 ≡ Less
-  first_below_second whole a others b more is next s = (first_two a b more (subst (IsOrdered cmp) (is ∙ ap (λ t. a ∷ t) next) s)).0
-
-  pub ordered_none : (es : List (K × V)) → length es ≡ 0 → IsOrdered cmp es
-  ordered_none [] none = sorted_nil cmp
-  ordered_none (e ∷ es) none = absurd (omega (arith, none))

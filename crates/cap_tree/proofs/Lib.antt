@@ -1,11 +1,10 @@
 mod BranchLemmas
-mod BuildLemmas
 mod ChangeLemmas
 mod CutLemmas
 pub mod Crossing
 pub mod EntryLemmas
 mod HeightLemmas
-mod LeafLemmas
+pub mod LeafLemmas
 mod ChildLemmas
 mod PathLemmas
 mod PlaceLemmas

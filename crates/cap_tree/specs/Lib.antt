@@ -5,6 +5,5 @@ pub mod Cut
 pub mod Falls
 pub mod Path
 pub mod Root
-pub mod Replace
 pub mod Change
 pub mod Siblings

@@ -3,7 +3,6 @@
 //! the others in place.
 #![tactic(auto)]
 
-mod build;
 mod change;
 mod child;
 mod find;
@@ -15,8 +14,6 @@ mod no_hook;
 mod node;
 mod path;
 mod rebalance;
-mod remake;
-mod replace;
 mod room;
 mod root;
 mod shift;
@@ -25,5 +22,4 @@ mod tree;
 
 pub use hook::Hook;
 pub use iter::Iter;
-pub use remake::Remake;
 pub use tree::Tree;

@@ -1,17 +1,15 @@
 //! The tree, seen as the list of its entries in the order of their keys.
 ghost use Rattle.std.specs.Prelude.{◌≡◌, ℕ, ◌+◌, ◌-◌, ◌*◌, ◌^◌, ◌<◌, ◌≤◌, [], ◌++◌, length, slice_get};
-ghost use Rattle.std.specs.Prelude.{IfNone, IfSome, IsTrue, IsSome, IfOk, IfErr, OnOk, OnErr, Ok, Err, None};
+ghost use Rattle.std.specs.Prelude.{IfNone, IfSome, IsTrue, IfOk, IfErr, OnOk, OnErr, Ok, Err, None};
 ghost use Rattle.std.specs.Prelude.{Some, is_some, if◌then◌else◌, ◌↔◌};
 ghost use Rattle.std.specs.Option.{option_copied};
 ghost use Rattle.std.specs.List.{All};
 ghost use Rattle.std.specs.BTreeMap.Range.{entries_below, entries_from};
 ghost use Rattle.std.specs.Map.Iter.{ShowsInOrder, ShowsValuesInOrder, deref_pair};
 ghost use Rattle.cap_value.specs.Memory.{MatchFault};
-ghost use Rattle.cap_tree.specs.Replace.{Replaces};
 ghost use Rattle.cap_tree.specs.Root.{IsTop};
 ghost use Rattle.cap_tree.specs.Tree.{IsOrdered, get, put_entry, take_entry, Updates};
 
-use crate::build::{build, is_ordered};
 use crate::change::{Put, Take, ask_for_none};
 use crate::find::{find, last};
 use crate::hook::Hook;
@@ -19,8 +17,6 @@ use crate::iter::Iter;
 use crate::no_hook::NoHook;
 use crate::node::Node;
 use crate::path::depth;
-use crate::remake::Remake;
-use crate::replace::replace_in_root;
 use crate::root::{change_in_root, empty_leaf};
 use cap_value::{AllocHandle, Exact, Fault, OutOfMemory};
 use std::marker::Model;
@@ -42,7 +38,6 @@ pub struct Tree<K: Ord, V, A: AllocHandle> {
 impl<K: Ord, V, A: AllocHandle> Model for Tree<K, V, A> {
     ghost use Rattle.std.specs.Prelude.{List};
     ghost use Rattle.cap_tree.specs.Root.{root_entries, IsRoot};
-    ghost use Rattle.cap_tree.specs.Replace.{Replaces};
     ghost use Rattle.cap_tree.specs.Tree.{IsOrdered};
 
     ghost Value = { List (K × V) };
@@ -249,25 +244,6 @@ impl<K: Ord + Exact + Drop, V: Exact + Drop, A: AllocHandle> Tree<K, V, A> {
         }
     }
 
-    /// Replaces the value at the key by one that `hook` makes of it, and answers the value that was there, or
-    /// none where no key is equal. It searches once, and splits or merges no node.
-    ///
-    /// `hook` is asked once, after all other memory is reserved, and only if there is a value. If it refuses,
-    /// or on `OutOfMemory`, the tree is as it was.
-    pub fn replace_hooked<H: Remake<V>>(
-        &mut self,
-        key: &K,
-        hook: &mut H,
-    ) -> Result<Option<V>, Fault<H::Refusal>>
-        requires { (v : V) → get K.cmp self.old key.now ≡ Some v → H.can_remake hook.old v }
-        ensures { Replaces K.cmp H.gives result self.old key.now self.new hook.old hook.new }
-    {
-        match &mut self.root {
-            None => Ok(None),
-            Some(node) => replace_in_root(node, key, hook),
-        }
-    }
-
     /// Puts the value at the key, and answers the value that was there. It searches once.
     ///
     /// An entry whose key is equal is replaced, key and all. `OutOfMemory` leaves the tree as it was.
@@ -304,49 +280,6 @@ impl<K: Ord + Exact + Drop, V: Exact + Drop, A: AllocHandle> Tree<K, V, A> {
             Ok(removed) => Ok(removed),
             Err(_) => Err(OutOfMemory),
         }
-    }
-}
-
-impl<K: Ord + Exact + Drop, V: Exact + Drop, A: AllocHandle> Tree<K, V, A> {
-    /// A tree without the entry at the key, which has the same entries where no key is equal.
-    pub fn take(&self, key: &K) -> Result<Self, OutOfMemory>
-        ensures entries { IfOk result (λ t. t ≡ take_entry K.cmp self.now key.now) }
-        ensures updates { IfOk result (λ t. Updates K.cmp self.now t key.now None) }
-        ensures len { IfOk result (λ t. length t + (if is_some (get K.cmp self.now key.now) then 1 else 0)
-            ≡ length self.now) }
-        ensures ordered { IfOk result (λ t. IsOrdered K.cmp t) }
-    {
-        let mut rest = self.snapshot()?;
-        rest.remove(key)?;
-        Ok(rest)
-    }
-
-    /// A tree that has the value at the key.
-    ///
-    /// An entry whose key is equal is replaced, key and all.
-    pub fn put(&self, key: K, value: V) -> Result<Self, OutOfMemory>
-        ensures entries { IfOk result (λ t. t ≡ put_entry K.cmp self.now key value) }
-        ensures updates { IfOk result (λ t. Updates K.cmp self.now t key (Some value)) }
-        ensures len { IfOk result (λ t. length t ≡ length self.now
-            + (if is_some (get K.cmp self.now key) then 0 else 1)) }
-        ensures ordered { IfOk result (λ t. IsOrdered K.cmp t) }
-    {
-        let mut whole = self.snapshot()?;
-        whole.insert(key, value)?;
-        Ok(whole)
-    }
-
-    /// The tree of a list of entries, or none where some key is not below the one that follows it. It takes
-    /// time in proportion to the number of entries, and its nodes are as full as they can be.
-    pub fn from_sorted(alloc: A, entries: Vec<(K, V), A>) -> Result<Option<Self>, OutOfMemory>
-        ensures entries { IfOk result (λ o. IfSome o (λ t. t ≡ entries.items)) }
-        ensures ordered { IfOk result (λ o. IsSome o ↔ IsOrdered K.cmp entries.items) }
-    {
-        if !is_ordered(entries.as_slice()) {
-            return Ok(None);
-        }
-        let root = build(alloc, entries)?;
-        Ok(Some(Tree { alloc, root }))
     }
 }
 

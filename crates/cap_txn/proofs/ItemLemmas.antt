@@ -1,18 +1,28 @@
 -- Items: those that the order does not tell apart are one, and each stands once in a footprint.
-use Rattle.std.proofs.Common.{◌≡◌, ℕ, Bool, true, false, cond, ◌||◌, List, [], ◌∷◌, ◌++◌, refl, sym, ap, subst, ◌∙◌, arith, Ordering, Less, Equal, Greater}
+use Rattle.std.proofs.Common.{◌≡◌, ℕ, Bool, true, false, cond, ◌||◌, Option, Some, None, List, [], ◌∷◌, ◌++◌, refl, sym, ap, subst, ◌∙◌, arith, Ordering, Less, Equal, Greater}
+use Rattle.std.specs.Prelude.{◌&&◌, ◌==◌, is_some, length, not}
 use Rattle.std.specs.List.{AllByRecursion, list_any}
 use Rattle.std.specs.Ordering.{eq_by_cmp, nat_cmp, on, ordering_then}
 use Rattle.std.specs.Cmp.{Equal-is}
 use Rattle.std.specs.FinMap.{IsAntisymmetric, nat_cmp-IsAntisymmetric, slice_cmp-IsAntisymmetric}
 use Rattle.cap_value.specs.Bytes.{bytes_cmp}
 use Rattle.cap_row.specs.Fields.{Fields}
-use Rattle.cap_row.specs.Key.{fields_cmp}
+use Rattle.cap_row.specs.Key.{fields_cmp, key_of}
+use Rattle.cap_row.specs.Row.{row_with}
+use Rattle.cap_database.specs.Assigned.{Assigned}
+use Rattle.cap_table.specs.KeptKey.{keeps_key}
+use Rattle.cap_table.specs.Operation.{key_of_name, row_of}
+use Rattle.cap_table.specs.Sound.{IsTable, is_given, loose_stands}
+use Rattle.cap_table.specs.Table.{TableState}
+use Rattle.cap_table.specs.declared.row_ref.RowRef.{RowRef}
+use Rattle.cap_table.proofs.BackLemmas.{own-row}
+use Rattle.cap_table.proofs.KeptKeyLemmas.{same_key}
 use Rattle.cap_txn.specs.Footprint.{id_in, item_cmp, item_eq, key_in, kind_of, table_named, with_items}
 use Rattle.cap_txn.specs.Once.{with_each, with_once}
 use Rattle.cap_txn.specs.declared.item.Item.{Item}
 use Rattle.cap_txn.specs.declared.item.Item.TheVariants.{Table, Row, Scan, NextId}
 use Rattle.cap_table.specs.declared.row_ref.RowRef.TheVariants.{Key, Loose}
-use Rattle.cap_table.proofs.TableLemmas.{fields_same}
+use Rattle.cap_table.proofs.TableLemmas.{fields_same, first, found-passes, second}
 
 parts_Equal : (a b : Ordering) → ordering_then a b ≡ Equal → (a ≡ Equal) × (b ≡ Equal)
 parts_Equal Less b e = absurd (cc)
@@ -85,3 +95,18 @@ module _ {A : Type 0} where
         let rest = all-with_items (with_once item_cmp items item) more all in
         let here = all-with_item items item rest.0 in
         (here.0, (here.1, rest.1))
+
+  -- ---- an update that sets no key column leaves a row the key of its name
+
+  no-key : (key : Option (Fields A)) → not (is_some key) ≡ true → None ≡ key
+  no-key None is = refl
+  no-key (Some key) is = absurd (cc)
+
+  pub kept_key : (table : TableState A) (row : RowRef A) (fields : Assigned A) (old : Fields A) → IsTable table → row_of table row ≡ Some old → keeps_key table.schema fields ≡ true
+      → key_of_name row ≡ key_of table.schema (row_with fields old)
+  kept_key table (Key key) fields old stand found keeps = sym (same_key table.schema fields keeps old ∙ (own-row table key old stand found).1)
+  kept_key table (Loose id) fields old stand found keeps =
+      let stands = found-passes nat_cmp (λ row. loose_stands table.schema table.next_id row.0 row.1) nat_cmp-IsAntisymmetric table.loose id old stand.loose found in
+      let front = (length old == length table.schema) && not (is_some (key_of table.schema old)) in
+      no-key (key_of table.schema old) (second (length old == length table.schema) _ (first front (is_given table.next_id id) stands))
+      ∙ sym (same_key table.schema fields keeps old)

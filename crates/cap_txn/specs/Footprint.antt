@@ -134,11 +134,17 @@ module _ {A : Type 0} where
   id_in (Scan name) = 0
   id_in (NextId name) = 0
 
+  -- by the row's name
+  abbrev pub in_table_cmp : Item A → Item A → Ordering
+  in_table_cmp = then_cmp (on key_in fields_cmp) (on id_in nat_cmp)
+
+  -- by the table's name, then by the row's name
+  abbrev pub in_kind_cmp : Item A → Item A → Ordering
+  in_kind_cmp = then_cmp (on table_named bytes_cmp) in_table_cmp
+
   -- by kind, then by the table's name, then by the row's name
   abbrev pub item_cmp : Item A → Item A → Ordering
-  item_cmp =
-      then_cmp (on kind_of nat_cmp)
-      (then_cmp (on table_named bytes_cmp) (then_cmp (on key_in fields_cmp) (on id_in nat_cmp)))
+  item_cmp = then_cmp (on kind_of nat_cmp) in_kind_cmp
 
   pub item_cmp_total : IsTotalOrder item_cmp
   item_cmp_total =

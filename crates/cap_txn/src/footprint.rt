@@ -3,7 +3,7 @@ ghost use Rattle.std.specs.Prelude.{◌≡◌, ◌∷◌, [], ◌++◌, length, 
 ghost use Rattle.std.specs.Prelude.{if◌then◌else◌};
 ghost use Rattle.cap_row.specs.Key.{key_of};
 ghost use Rattle.cap_row.specs.Row.{are_columns, columns_of, row_with};
-ghost use Rattle.cap_table.specs.Operation.{row_of};
+ghost use Rattle.cap_table.specs.Operation.{key_of_name, row_of};
 ghost use Rattle.cap_txn.specs.Calls.{items_at};
 ghost use Rattle.cap_txn.specs.Footprint.{action_items, moved_items, op_items, place_items, read_items};
 ghost use Rattle.cap_txn.specs.Footprint.{updated_items};
@@ -152,15 +152,47 @@ fn push_moved<A: AllocHandle>(
 ) -> Result<(), OutOfMemory>
     requires wide { length old.now ≡ length table.now.schema }
     requires columns { IsTrue (are_columns (length table.now.schema) (columns_of fields.now)) }
+    requires found { row_of table.now row.now ≡ Some old.now }
     ensures { OnOk result (items.new.items ≡ items.old.items
         ++ moved_items name.now row.now (key_of table.now.schema (row_with fields.now old.now))) }
 {
+    let key = updated_key(alloc, table, row, old, fields)?;
+    match (row, key) {
+        (RowRef::Loose(_), None) => Ok(()),
+        (_, key) => push_place(items, name, key),
+    }
+}
+
+// The key of the row that an update leaves. Where it keeps its key, the row is not made.
+fn updated_key<A: AllocHandle>(
+    alloc: A,
+    table: &Table<A>,
+    row: &RowRef<A>,
+    old: &Row<A>,
+    fields: &Assignments<A>,
+) -> Result<Option<Key<A>>, OutOfMemory>
+    requires wide { length old.now ≡ length table.now.schema }
+    requires columns { IsTrue (are_columns (length table.now.schema) (columns_of fields.now)) }
+    requires found { row_of table.now row.now ≡ Some old.now }
+    ensures { IfOk result (λ key. key ≡ key_of table.now.schema (row_with fields.now old.now)) }
+{
+    // For the proof: a clause of `keyed` says that each row stands under its own key.
+    let _rows = table.keyed();
+    if table.keeps_key(fields.fields()) {
+        return key_in_name(row);
+    }
     let Ok(new) = old.with_fields(alloc, table.schema(), fields.fields()) else {
         return Err(OutOfMemory);
     };
     let key = key_of(alloc, table.schema(), &new)?;
-    match (row, key) {
-        (RowRef::Loose(_), None) => Ok(()),
-        (_, key) => push_place(items, name, key),
+    Ok(key)
+}
+
+fn key_in_name<A: AllocHandle>(row: &RowRef<A>) -> Result<Option<Key<A>>, OutOfMemory>
+    ensures { IfOk result (λ key. key ≡ key_of_name row.now) }
+{
+    match row {
+        RowRef::Key(key) => Ok(Some(key.copy()?)),
+        RowRef::Loose(_) => Ok(None),
     }
 }

@@ -1,6 +1,6 @@
 //! What a transaction can look at, and the order of it.
 ghost use Rattle.std.specs.Prelude.{◌≡◌, IfOk};
-ghost use Rattle.cap_txn.specs.Footprint.{item_cmp, kind_of, table_named, key_in, id_in};
+ghost use Rattle.cap_txn.specs.Footprint.{id_in, in_kind_cmp, in_table_cmp, item_cmp, key_in, kind_of, table_named};
 
 use cap_table::RowRef;
 use cap_value::{AllocHandle, Exact, Name, OutOfMemory, Value};
@@ -35,11 +35,30 @@ impl<A: AllocHandle> Item<A> {
     pub fn order(&self, other: &Self) -> Ordering
         ensures { result ≡ item_cmp self.now other.now }
     {
-        self.kind()
-            .cmp(&other.kind())
-            .then(self.table().order(other.table()))
-            .then(self.key().cmp(other.key()))
-            .then(self.id().cmp(&other.id()))
+        match self.kind().cmp(&other.kind()) {
+            Ordering::Equal => self.order_in_kind(other),
+            order => order,
+        }
+    }
+
+    // The order of items of one kind: by the table's name, then by the row's name.
+    fn order_in_kind(&self, other: &Self) -> Ordering
+        ensures { result ≡ in_kind_cmp self.now other.now }
+    {
+        match self.table().order(other.table()) {
+            Ordering::Equal => self.order_in_table(other),
+            order => order,
+        }
+    }
+
+    // The order of items of one kind and one table: by the row's name.
+    fn order_in_table(&self, other: &Self) -> Ordering
+        ensures { result ≡ in_table_cmp self.now other.now }
+    {
+        match self.key().cmp(other.key()) {
+            Ordering::Equal => self.id().cmp(&other.id()),
+            order => order,
+        }
     }
 
     /// The same item, which shares its names and values.

@@ -68,19 +68,20 @@ impl<K: Ord + Exact + Drop, A: AllocHandle> Once<K, A> {
         items
     }
 
-    // Puts an item last, unless it is there. Without memory everything is as before.
-    pub(crate) fn add(&mut self, item: K) -> Result<(), OutOfMemory>
-        ensures ok { OnOk result (self.new ≡ with_once K.cmp self.old item) }
+    // Puts a copy of an item last, unless it is there. Without memory everything is as before.
+    pub(crate) fn add(&mut self, item: &K) -> Result<(), OutOfMemory>
+        ensures ok { OnOk result (self.new ≡ with_once K.cmp self.old item.now) }
         ensures err { OnErr result (self.new ≡ self.old) }
     {
-        if holds(self.items.as_slice(), &self.places, &item) {
+        if holds(self.items.as_slice(), &self.places, item) {
             return Ok(());
         }
         let place = self.items.len() as u64;
         self.items.reserve(1)?;
-        let copy = exact_copy(&item)?;
+        let copies = two_copies(item)?;
+        let (copy, own) = copies;
         self.places.insert(copy, place)?;
-        self.items.push_reserved(item);
+        self.items.push_reserved(own);
         Ok(())
     }
 
@@ -106,7 +107,7 @@ fn holds<K: Ord, A: AllocHandle>(items: &[K], places: &Tree<K, u64, A>, item: &K
     item.cmp(&items[*place as usize]).is_eq()
 }
 
-// Puts items last, one after another, each unless it is there. Without memory everything is as before.
+// Puts copies of items last, each unless it is there. Without memory everything is as before.
 pub(crate) fn add_each<K: Ord + Exact + Drop, A: AllocHandle>(
     once: &mut Once<K, A>,
     items: Vec<K, A>,
@@ -116,7 +117,7 @@ pub(crate) fn add_each<K: Ord + Exact + Drop, A: AllocHandle>(
 {
     let len = once.len();
     for item in &items {
-        if add_copy(once, item).is_err() {
+        if once.add(item).is_err() {
             once.truncate(len);
             return Err(OutOfMemory);
         }
@@ -124,15 +125,12 @@ pub(crate) fn add_each<K: Ord + Exact + Drop, A: AllocHandle>(
     Ok(())
 }
 
-fn add_copy<K: Ord + Exact + Drop, A: AllocHandle>(
-    once: &mut Once<K, A>,
-    item: &K,
-) -> Result<(), OutOfMemory>
-    ensures ok { OnOk result (once.new ≡ with_once K.cmp once.old item.now) }
-    ensures err { OnErr result (once.new ≡ once.old) }
+fn two_copies<K: Exact + Drop>(item: &K) -> Result<(K, K), OutOfMemory>
+    ensures { IfOk result (λ copies. (copies.0 ≡ item.now) × (copies.1 ≡ item.now)) }
 {
-    let item = exact_copy(item)?;
-    once.add(item)
+    let copy = exact_copy(item)?;
+    let own = exact_copy(item)?;
+    Ok((copy, own))
 }
 
 fn exact_copy<K: Exact>(item: &K) -> Result<K, OutOfMemory>

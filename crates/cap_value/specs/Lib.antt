@@ -1,4 +1,5 @@
 pub mod Bytes
 pub mod Handle
 pub mod Memory
+pub mod NameText
 pub mod Value

@@ -7,6 +7,7 @@ ghost use Rattle.cap_value.specs.Bytes.{AreBytes, name_of, is_name, bytes_cmp, b
 use crate::blob::are_bytes;
 use crate::limits::NAME_BYTES_MAX;
 use crate::{AllocHandle, Exact, Fault, OutOfMemory, Refusal};
+use arrayvec::ArrayString;
 use std::cmp::Ordering;
 use std::fmt::{self, Debug, Formatter, Write};
 use std::hash::{Hash, Hasher};
@@ -14,22 +15,30 @@ use std::marker::Model;
 use std::sync::ArcStr;
 
 /// The name of a table or a saved database: 1 to `NAME_BYTES_MAX` bytes of UTF-8 without a zero byte.
-/// Names are compared byte for byte, case included. Copies share the bytes.
+/// Names are compared byte for byte, case included. A name of up to 24 bytes takes no memory beside itself, and
+/// copies of a longer one share its bytes.
 #[derive(Drop)]
 pub struct Name<A: AllocHandle> {
-    name: ArcStr<A>,
+    text: NameText<A>,
+}
+
+// A short name lies in the value itself.
+#[derive(Drop)]
+enum NameText<A: AllocHandle> {
+    Short(ArrayString<24>),
+    Long(ArcStr<A>),
 }
 
 impl<A: AllocHandle> Model for Name<A> {
     ghost use Rattle.std.specs.Prelude.{List, ℕ, IsTrue};
-    ghost use Rattle.std.specs.Arc.{arc_str_bytes};
     ghost use Rattle.cap_value.specs.Bytes.{is_name};
+    ghost use Rattle.cap_value.specs.NameText.{text_bytes};
 
     ghost Value = { List ℕ };
 
-    ghost view = { λ n. arc_str_bytes n.name };
+    ghost view = { λ n. text_bytes n.text };
 
-    ghost invariant = { λ n. IsTrue (is_name (arc_str_bytes n.name)) };
+    ghost invariant = { λ n. IsTrue (is_name (text_bytes n.text)) };
 }
 
 impl<A: AllocHandle> Name<A> {
@@ -42,9 +51,11 @@ impl<A: AllocHandle> Name<A> {
         if !fits(name.as_bytes()) {
             return Err(Fault::Refused(Refusal::BadName));
         }
-        Ok(Name {
-            name: ArcStr::from_str(alloc, name)?,
-        })
+        let text = match ArrayString::from(name) {
+            Ok(short) => NameText::Short(short),
+            Err(_) => NameText::Long(ArcStr::from_str(alloc, name)?),
+        };
+        Ok(Name { text })
     }
 
     /// The name, which has 1 to `NAME_BYTES_MAX` bytes and no zero byte.
@@ -54,7 +65,10 @@ impl<A: AllocHandle> Name<A> {
         ensures utf8 { IsUtf8 self.now }
         ensures each { AreBytes self.now }
     {
-        let name = self.name.as_str();
+        let name = match &self.text {
+            NameText::Short(short) => short.as_str(),
+            NameText::Long(long) => long.as_str(),
+        };
         are_bytes(name.as_bytes());
         name
     }
@@ -74,13 +88,15 @@ impl<A: AllocHandle> Name<A> {
         self == other
     }
 
-    /// The same name, which shares its bytes.
+    /// The same name.
     pub fn copy(&self) -> Result<Self, OutOfMemory>
         ensures { IfOk result (λ copy. copy ≡ self.now) }
     {
-        Ok(Name {
-            name: self.name.clone()?,
-        })
+        let text = match &self.text {
+            NameText::Short(short) => NameText::Short(*short),
+            NameText::Long(long) => NameText::Long(long.clone()?),
+        };
+        Ok(Name { text })
     }
 }
 
@@ -163,7 +179,7 @@ impl<A: AllocHandle> Debug for Name<A> {
     }
 }
 
-/// The same name, which shares its bytes.
+/// The same name.
 impl<A: AllocHandle> Clone for Name<A> {
     ghost use Rattle.std.specs.Prelude.{◌≡◌};
 

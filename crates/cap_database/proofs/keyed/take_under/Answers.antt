@@ -1,5 +1,5 @@
 use Rattle.std.proofs.Common.{◌≡◌, length, arith}
-use Rattle.cap_database.proofs.BackLemmas.{take-back, take-none, take-tables}
+use Rattle.cap_database.proofs.BackLemmas.{take-none, take-tables}
 use Rattle.cap_database.proofs.keyed.take_under.Goals as goal
 
 pub returns-clause-tables : goal.returns-clause-tables
@@ -10,10 +10,5 @@ returns-clause-tables g c =
 
 pub returns-clause-none : goal.returns-clause-none
 returns-clause-none g c =
-    take-none c.args.tables.now c.args.name.now c.requires.tables c.requires.there c.take_from.new.tables c.args.key.now c.keyed_rows_go_back.ensures.none c.take_from.result
-    c.take_from.ensures.set c.take_from.ensures.before
-
-pub returns-clause-back : goal.returns-clause-back
-returns-clause-back g c =
-    take-back c.args.tables.now c.args.name.now c.requires.tables c.requires.there c.take_from.new.tables c.args.key.now c.keyed_rows_keep_tables.ensures.found c.keyed_rows_go_back.ensures.take c.take_from.result
+    take-none c.args.tables.now c.args.name.now c.requires.tables c.requires.there c.take_from.new.tables c.args.key.now c.take_from.result
     c.take_from.ensures.set c.take_from.ensures.before

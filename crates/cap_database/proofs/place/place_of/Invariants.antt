@@ -1,7 +1,7 @@
 use Rattle.std.proofs.Common.{◌-◌, ◌≤◌, length, take}
 use Rattle.std.specs.declared.cmp.Ordering.TheVariants.{Greater}
 use Rattle.cap_value.specs.Bytes.{bytes_cmp}
-use Rattle.cap_database.proofs.PlaceLemmas.{Each}
+use Rattle.cap_tree.proofs.EntryLemmas.{Each}
 use Rattle.cap_database.proofs.place.place_of.Given as goal
 
 abbrev pub invariant-loop-at : goal.invariant-loop-at

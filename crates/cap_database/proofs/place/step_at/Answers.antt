@@ -3,7 +3,7 @@ use Rattle.std.proofs.lemmas.Cmp.{nat_list_cmp_total}
 use Rattle.cap_value.specs.Bytes.{bytes_cmp}
 use Rattle.cap_tree.specs.Tree.{IsOrdered}
 use Rattle.cap_database.specs.Tables.{Tables}
-use Rattle.cap_database.proofs.PlaceLemmas.{ordered_put}
+use Rattle.cap_tree.proofs.EntryLemmas.{ordered_put}
 use Rattle.cap_database.proofs.place.step_at.Goals as goal
 
 pub returns-clause-ordered : goal.returns-clause-ordered

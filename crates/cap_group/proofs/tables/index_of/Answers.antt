@@ -1,5 +1,5 @@
 use Rattle.std.proofs.Common.{arith, sym, ◌∙◌}
-use Rattle.cap_group.proofs.TableLemmas.{group_found_at, group_found_named, group_found_put, group_past, none_at, none_put}
+use Rattle.cap_group.proofs.TableLemmas.{group_found_at, group_found_named, group_found_put, group_past}
 use Rattle.cap_group.proofs.tables.index_of.Goals as goal
 
 pub returns-then-eq-clause-at : goal.returns-then-eq-clause-at

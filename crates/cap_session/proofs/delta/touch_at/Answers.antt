@@ -16,4 +16,4 @@ returns-in-Some-clause-touched g c =
     (makes-set place.session c.args.tables.now.entries place.start c.args.table make c.args.touched.now.items c.in-Some.index d (d.0, (d.1.0, c.touch.new.records)) (rw c.deref.ensures.value at (sym c.index_of.ensures ∙ c.in-Some.is)) c.index_mut.ensures.value refl refl) c.touch.ensures
 
 pub returns-in-None-clause-kept : goal.returns-in-None-clause-kept
-returns-in-None-clause-kept g c = set-same c.args.tables.now.entries c.args.table c.index_mut-in-None.result.now c.put_beside.new.records c.index_mut-in-None.ensures.value c.put_beside.ensures.kept
+returns-in-None-clause-kept g c = set-same c.args.tables.now.entries c.args.table c.index_mut-in-None.result.now c.reserve_record.new.records c.index_mut-in-None.ensures.value c.reserve_record.ensures.kept

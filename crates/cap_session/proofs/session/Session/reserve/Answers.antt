@@ -30,8 +30,8 @@ returns-clause-added g c =
     let session : SessionState g.row.A.Denot = record { enabled = own.enabled; indirect = own.indirect; rule = own.rule; tables = own.tables.entries } in
     let changes = c.args.changes.now in
     let old = c.args.delta.now in
-    let new : Delta g.row.A.Denot = record { renewed = old.renewed; touched = c.touch_beside.new.touched } in
-    rw (← c.self.view_is) (on_ok_weaker c.touch_beside.result
+    let new : Delta g.row.A.Denot = record { renewed = old.renewed; touched = c.reserve_touches.new.touched } in
+    rw (← c.self.view_is) (on_ok_weaker c.reserve_touches.result
     (adds-own c.args.place session (record_commit changes session) old new (touch_tables own.indirect changes own.tables.entries)
     (ap (λ (ts : AttachedTables g.row.A.Denot). record session { tables = touch_tables own.indirect changes ts }) (sym (c.is_any_new.ensures c.if-is_any_new.false)) ∙ commits changes session c.if-not-self.false) refl)
-    c.touch_beside.ensures.touched)
+    c.reserve_touches.ensures.touched)

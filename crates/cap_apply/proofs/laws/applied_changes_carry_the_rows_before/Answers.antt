@@ -1,5 +1,0 @@
-use Rattle.cap_apply.proofs.StayLemmas.{apply-carries}
-use Rattle.cap_apply.proofs.laws.applied_changes_carry_the_rows_before.Goals as goal
-
-pub returns : goal.returns
-returns g c = apply-carries

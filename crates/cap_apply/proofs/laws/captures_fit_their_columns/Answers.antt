@@ -1,5 +1,0 @@
-use Rattle.cap_apply.proofs.FittingLemmas.{changeset-fits, patchset-fits}
-use Rattle.cap_apply.proofs.laws.captures_fit_their_columns.Goals as goal
-
-pub returns : goal.returns
-returns g c = record { changeset = changeset-fits; patchset = patchset-fits }

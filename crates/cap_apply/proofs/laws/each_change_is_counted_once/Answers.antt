@@ -1,6 +1,0 @@
-use Rattle.cap_apply.proofs.CountLemmas.{each-counted}
-use Rattle.cap_apply.proofs.OnceLemmas.{told-once}
-use Rattle.cap_apply.proofs.laws.each_change_is_counted_once.Goals as goal
-
-pub returns : goal.returns
-returns g c = record { counts = each-counted; once = told-once }

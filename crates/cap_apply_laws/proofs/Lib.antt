@@ -1,0 +1,5 @@
+pub mod CountLemmas
+pub mod FittingLemmas
+pub mod OnceLemmas
+pub mod RunLemmas
+pub mod TransactionLemmas

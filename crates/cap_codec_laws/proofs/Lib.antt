@@ -1,0 +1,3 @@
+pub mod FaultBlobs
+pub mod FaultFields
+pub mod FaultHeaders

@@ -1,6 +1,0 @@
-use Rattle.cap_core.proofs.KeyedLemmas.{sorted}
-use Rattle.cap_value.specs.Bytes.{bytes_cmp}
-use Rattle.cap_core.proofs.laws.database_rises.Goals as goal
-
-pub returns : goal.returns
-returns g c = record { names = sorted bytes_cmp c.args.database.now c.len-tables.ensures.ordered; each = c.rows_stand.ensures }

@@ -1,5 +1,0 @@
-use Rattle.cap_core.proofs.EmptyLemmas.{empty-live, empty-none}
-use Rattle.cap_core.proofs.laws.empty_without_touches.Goals as goal
-
-pub returns : goal.returns
-returns g c = record { live = empty-live; none = empty-none }

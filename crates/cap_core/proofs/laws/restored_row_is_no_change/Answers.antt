@@ -1,5 +1,0 @@
-use Rattle.cap_core.proofs.LawLemmas.{restored}
-use Rattle.cap_core.proofs.laws.restored_row_is_no_change.Goals as goal
-
-pub returns : goal.returns
-returns g c = restored

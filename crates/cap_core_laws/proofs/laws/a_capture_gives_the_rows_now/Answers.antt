@@ -1,0 +1,17 @@
+use Rattle.std.proofs.Common.{refl}
+use Rattle.cap_core.proofs.AppliedCaptureLemmas.{captured-at, changeset_applies, patchset_applies}
+use Rattle.cap_core.proofs.KeyedLemmas.{main-rises}
+use Rattle.cap_core_laws.proofs.laws.a_capture_gives_the_rows_now.Goals as goal
+
+pub returns : goal.returns
+returns g c =
+    let order = c.tables_keep_order.ensures in
+    let rises = main-rises order.empty order.run order.create c.applied_blobs_keep_order.ensures in
+    record {
+      changeset = λ past session capture database policy is rise fits holds.
+          changeset_applies past session database rise (rises past fits) holds c.a_changeset_gives_the_rows_now.ensures policy capture is;
+      patchset = λ past session capture database policy is rise fits holds.
+          patchset_applies past session database rise (rises past fits) holds c.a_patchset_gives_the_rows_now.ensures policy capture is;
+      restart = λ past session. refl;
+      version = captured-at;
+    }

@@ -1,0 +1,2 @@
+pub mod Insert
+pub mod Restarts

@@ -1,6 +1,0 @@
-use Rattle.cap_database.proofs.RowsInLemmas.{rows-commute-in}
-use Rattle.cap_database.proofs.RowsLemmas.{rows-commute}
-use Rattle.cap_database.proofs.laws.operations_on_different_rows_commute.Goals as goal
-
-pub returns : goal.returns
-returns g c = record { table = rows-commute; database = rows-commute-in }

@@ -1,0 +1,5 @@
+pub mod Apart
+pub mod Batches
+pub mod Front
+pub mod Ids
+pub mod TableIds

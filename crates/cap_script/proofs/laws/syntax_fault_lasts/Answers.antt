@@ -1,5 +1,0 @@
-use Rattle.cap_script.proofs.PlaceLaw.{fault_kept}
-use Rattle.cap_script.proofs.laws.syntax_fault_lasts.Goals as goal
-
-pub returns : goal.returns
-returns g c = fault_kept g.row.A.Denot

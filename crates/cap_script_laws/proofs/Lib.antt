@@ -1,0 +1,4 @@
+pub mod FitLemmas
+pub mod OpenForms
+pub mod OpenLaw
+pub mod PlaceLaw

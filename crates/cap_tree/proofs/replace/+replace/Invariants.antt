@@ -1,9 +1,0 @@
-use Rattle.std.proofs.Common.{◌+◌, ◌*◌}
-use Rattle.std.specs.Arc.{arc_value}
-use Rattle.cap_tree.proofs.replace.+replace.Given as goal
-
-abbrev pub decreases-replace_in_node : goal.decreases-replace_in_node
-decreases-replace_in_node g l = 2 * l.node.now.height
-
-abbrev pub decreases-replace_in_child : goal.decreases-replace_in_child
-decreases-replace_in_child g l = 2 * (arc_value l.child.now.node).height + 1
