@@ -36,13 +36,13 @@ use Rattle.cap_database.proofs.KeptKeyLemmas.{row-found}
 use Rattle.cap_database.proofs.KeptLemmas.{each-found, each-put}
 use Rattle.cap_txn.specs.Calls.{answer_to, done}
 use Rattle.cap_txn.specs.Calls as calls
-use Rattle.cap_txn.specs.Standing.{IsStanding, Leaves}
+use Rattle.cap_txn.specs.Sound.{IsSound, Leaves}
 use Rattle.cap_txn.specs.Transaction.{IsAnswered, TxnState, begin_traced, traced}
 use Rattle.cap_txn.specs.Workspace.{WorkspaceState, after_op, op_made}
-use Rattle.cap_txn.specs.declared.look.Answer.TheVariants.{Done}
-use Rattle.cap_txn.specs.declared.look.Asked.{Asked}
-use Rattle.cap_txn.specs.declared.look.Asked.TheVariants.{Op, Get}
-use Rattle.cap_txn.proofs.StandingLemmas.{begin-stands, op-stands}
+use Rattle.cap_txn.specs.declared.answered_call.Answer.TheVariants.{Done}
+use Rattle.cap_txn.specs.declared.answered_call.Asked.{Asked}
+use Rattle.cap_txn.specs.declared.answered_call.Asked.TheVariants.{Op, Get}
+use Rattle.cap_txn.proofs.SoundLemmas.{begin-IsSound, op-IsSound}
 use Rattle.cap_apply.specs.Apply.{and_then, with_row}
 use Rattle.cap_apply.specs.Operations.{directly}
 use Rattle.cap_apply.specs.Row.{assigned_from}
@@ -134,7 +134,7 @@ module _ {A : Type 0} where
     pub each : EachRises after
 
   abbrev LedTo : Tables A → Tables A → List ℕ → Fields A → Result (TxnState A) Refusal → Type 0
-  LedTo left before name key (Ok txn) = Led left before name key txn.standing.database
+  LedTo left before name key (Ok txn) = Led left before name key txn.workspace.database
   LedTo left before name key (Err why) = ⊥
 
   -- under the key is what was put there
@@ -147,11 +147,11 @@ module _ {A : Type 0} where
       ∙ get_put fields_cmp key row (tied_itself fields_cmp_total key) table.keyed
 
   -- an operation that puts the row that was left under the key, or takes the row out
-  module _ (left : Tables A) (txn : TxnState A) (same : SameOthers left txn.standing.database) (each : EachRises txn.standing.database) (name : List ℕ) (key : Fields A) (table : TableState A)
-      (there : table_of txn.standing.database name ≡ Some table) (after : Option (Fields A)) (is_left : row_at left name key ≡ after) (rises : IsRising (with_row table key after))
+  module _ (left : Tables A) (txn : TxnState A) (same : SameOthers left txn.workspace.database) (each : EachRises txn.workspace.database) (name : List ℕ) (key : Fields A) (table : TableState A)
+      (there : table_of txn.workspace.database name ≡ Some table) (after : Option (Fields A)) (is_left : row_at left name key ≡ after) (rises : IsRising (with_row table key after))
       (action : Action A) (acts : act table action ≡ Ok (with_row table key after)) where
     abbrev D : Tables A
-    D = txn.standing.database
+    D = txn.workspace.database
 
     abbrev put : Tables A
     put = put_entry bytes_cmp D name (with_row table key after)
@@ -162,14 +162,14 @@ module _ {A : Type 0} where
     steps : step D its_op ≡ Ok put
     steps = ap (λ o. stepped D o its_op) there ∙ ap (in_place D name) acts
 
-    told : (r : Result (WorkspaceState A) Refusal) → after_op txn.standing its_op ≡ r
-        → LedTo left D name key (unless_refused (done r) (record (traced txn (Op its_op)) { standing = calls.unless_refused txn.standing r }))
+    told : (r : Result (WorkspaceState A) Refusal) → after_op txn.workspace its_op ≡ r
+        → LedTo left D name key (unless_refused (done r) (record (traced txn (Op its_op)) { workspace = calls.unless_refused txn.workspace r }))
         → LedTo left D name key (made_in name (Some action) txn)
-    told r is h = subst (λ x. LedTo left D name key (unless_refused (done x) (record (traced txn (Op its_op)) { standing = calls.unless_refused txn.standing x }))) (sym is) h
+    told r is h = subst (λ x. LedTo left D name key (unless_refused (done x) (record (traced txn (Op its_op)) { workspace = calls.unless_refused txn.workspace x }))) (sym is) h
 
     made-led : LedTo left D name key (made_in name (Some action) txn)
     made-led =
-        told (Ok (record txn.standing { database = put; ops = txn.standing.ops ++ its_op ∷ [] })) (ap (op_made txn.standing its_op) steps)
+        told (Ok (record txn.workspace { database = put; ops = txn.workspace.ops ++ its_op ∷ [] })) (ap (op_made txn.workspace its_op) steps)
         (record {
           at = put-at D name table key (each-found IsRising D name table each there) after ∙ sym is_left;
           beside = λ other its apart. put_stays D name table there key after other its apart;
@@ -177,9 +177,9 @@ module _ {A : Type 0} where
           each = each-put IsRising D name (with_row table key after) each rises;
         })
 
-  module _ (left : Tables A) (lefts : EachRises left) (txn : TxnState A) (same : SameOthers left txn.standing.database) (each : EachRises txn.standing.database) (name : List ℕ) (key : Fields A) where
+  module _ (left : Tables A) (lefts : EachRises left) (txn : TxnState A) (same : SameOthers left txn.workspace.database) (each : EachRises txn.workspace.database) (name : List ℕ) (key : Fields A) where
     abbrev now : Tables A
-    now = txn.standing.database
+    now = txn.workspace.database
 
     nothing-led : row_at now name key ≡ row_at left name key → LedTo left now name key (made_in name None txn)
     nothing-led at = record { at = at; beside = λ other its apart. refl; others = same; each = each }
@@ -187,7 +187,7 @@ module _ {A : Type 0} where
     insert-led : (row : Fields A) → row_at now name key ≡ None → row_at left name key ≡ Some row → LedTo left now name key (made_in name (Some (Insert row)) txn)
     insert-led row none some =
         let l = there-of left name key row some in
-        let own = own-row l.table key row (each-found IsRising left name l.table lefts l.is).stand l.found in
+        let own = own-row l.table key row (each-found IsRising left name l.table lefts l.is).sound l.found in
         let b = beside-of left now same name l.table l.is key None none in
         let t = b.0.table in
         let wide : length row ≡ length t.schema = own.0 ∙ ap length (sym b.1) in
@@ -202,11 +202,11 @@ module _ {A : Type 0} where
     update-led : (before row : Fields A) → row_at now name key ≡ Some before → row_at left name key ≡ Some row → LedTo left now name key (made_in name (Some (Update (Key key) (enumerate_from 0 row))) txn)
     update-led before row some to =
         let l = there-of left name key row to in
-        let own = own-row l.table key row (each-found IsRising left name l.table lefts l.is).stand l.found in
+        let own = own-row l.table key row (each-found IsRising left name l.table lefts l.is).sound l.found in
         let b = beside-of left now same name l.table l.is key (Some before) some in
         let t = b.0.table in
         let rises = each-found IsRising now name t each b.0.is in
-        let was = own-row t key before rises.stand b.0.found in
+        let was = own-row t key before rises.sound b.0.found in
         let wide : length row ≡ length t.schema = own.0 ∙ ap length (sym b.1) in
         let its : key_of t.schema row ≡ Some key = ap (λ s. key_of s row) b.1 ∙ own.1 in
         let columns = every_column 0 row in
@@ -231,8 +231,8 @@ module _ {A : Type 0} where
 
   abbrev AllLed : Tables A → Tables A → List (List ℕ × Fields A) → Result (TxnState A) Refusal → Type 0
   AllLed left before rows (Ok txn) =
-      ((name : List ℕ) (key : Fields A) → (row_at txn.standing.database name key ≡ row_at left name key) ⊎ ((row_at txn.standing.database name key ≡ row_at before name key) × (IsAmong name key rows → ⊥)))
-      × SameOthers left txn.standing.database
+      ((name : List ℕ) (key : Fields A) → (row_at txn.workspace.database name key ≡ row_at left name key) ⊎ ((row_at txn.workspace.database name key ≡ row_at before name key) × (IsAmong name key rows → ⊥)))
+      × SameOthers left txn.workspace.database
   AllLed left before rows (Err why) = ⊥
 
   module _ (left : Tables A) (lefts : EachRises left) where
@@ -241,7 +241,7 @@ module _ {A : Type 0} where
     one-more before row rows mid led (Ok txn) h = (λ name key. by_row name key (h.0 name key), h.1)
       where
         after : Tables A
-        after = txn.standing.database
+        after = txn.workspace.database
 
         Either : List ℕ → Fields A → Type 0
         Either name key = (row_at after name key ≡ row_at left name key) ⊎ ((row_at after name key ≡ row_at before name key) × (IsAmong name key (row ∷ rows) → ⊥))
@@ -255,22 +255,22 @@ module _ {A : Type 0} where
         by_row name key (inl is) = inl is
         by_row name key (inr h) = by_key name key h.0 h.1 (decided bytes_cmp bytes_cmp-Equal row.0 name) (decided fields_cmp fields_cmp-Equal row.1 key)
 
-    pub rows-led : (rows : List (List ℕ × Fields A)) (txn : TxnState A) → SameOthers left txn.standing.database → EachRises txn.standing.database → AllLed left txn.standing.database rows (rows_led left rows txn)
+    pub rows-led : (rows : List (List ℕ × Fields A)) (txn : TxnState A) → SameOthers left txn.workspace.database → EachRises txn.workspace.database → AllLed left txn.workspace.database rows (rows_led left rows txn)
     rows-led [] txn same each = (λ name key. inr (refl, λ among. among), same)
     rows-led (row ∷ rows) txn same each =
         go (λ after others rises. rows-led rows after others rises) (row_led left row.0 row.1 txn)
-        (leading-led left lefts (traced txn (Get row.0 (Key row.1))) same each row.0 row.1 (row_at txn.standing.database row.0 row.1) (row_at left row.0 row.1) refl refl)
+        (leading-led left lefts (traced txn (Get row.0 (Key row.1))) same each row.0 row.1 (row_at txn.workspace.database row.0 row.1) (row_at left row.0 row.1) refl refl)
       where
-        go : ((after : TxnState A) → SameOthers left after.standing.database → EachRises after.standing.database → AllLed left after.standing.database rows (rows_led left rows after))
-            → (r : Result (TxnState A) Refusal) → LedTo left txn.standing.database row.0 row.1 r → AllLed left txn.standing.database (row ∷ rows) (and_then r (rows_led left rows))
+        go : ((after : TxnState A) → SameOthers left after.workspace.database → EachRises after.workspace.database → AllLed left after.workspace.database rows (rows_led left rows after))
+            → (r : Result (TxnState A) Refusal) → LedTo left txn.workspace.database row.0 row.1 r → AllLed left txn.workspace.database (row ∷ rows) (and_then r (rows_led left rows))
         go further (Err why) h = h
-        go further (Ok after) h = one-more txn.standing.database row rows after.standing.database h (rows_led left rows after) (further after h.others h.each)
+        go further (Ok after) h = one-more txn.workspace.database row rows after.workspace.database h (rows_led left rows after) (further after h.others h.each)
 
   -- ---- one operation
 
   -- what a call that was answered leaves
   pub made-answered : (r : Result (Unit {0}) (Fault Refusal)) (call : Asked A) (old new : TxnState A) → IsAnswered (λ _. Done) r call old new
-      → LeavesUnlessMemory r (unless_refused (answer_to old.standing call) (traced old call)) new
+      → LeavesUnlessMemory r (unless_refused (answer_to old.workspace call) (traced old call)) new
   made-answered (Ok x) call old new h = ap (λ a. unless_refused a (traced old call)) (sym h.0) ∙ ap Ok (sym h.1)
   made-answered (Err (Refused why)) call old new h = ap (λ a. unless_refused a (traced old call)) (sym h.0)
   made-answered (Err OutOfMemory) call old new h = tt
@@ -292,31 +292,31 @@ module _ {A : Type 0} where
   -- ---- what stands
 
   -- it stands, and is on the same snapshot
-  abbrev StandsOn : SnapshotState A → TxnState A → Type 0
-  StandsOn base txn = IsStanding txn.standing × (txn.standing.base ≡ base)
+  abbrev IsSoundOn : SnapshotState A → TxnState A → Type 0
+  IsSoundOn base txn = IsSound txn.workspace × (txn.workspace.base ≡ base)
 
   made-base : (txn : WorkspaceState A) (op : Change A) (base : SnapshotState A) → txn.base ≡ base → (r : Result (Tables A) Refusal) → IfOk (op_made txn op r) (λ next. next.base ≡ base)
   made-base txn op base is (Ok after) = is
   made-base txn op base is (Err why) = tt
 
-  made-stands : (base : SnapshotState A) (name : List ℕ) (o : Option (Action A)) (txn : TxnState A) → StandsOn base txn → IfOk (made_in name o txn) (StandsOn base)
-  made-stands base name None txn h = h
-  made-stands base name (Some action) txn h =
-      go (after_op txn.standing (directly name action)) (op-stands txn.standing (directly name action) h.0) (made-base txn.standing (directly name action) base h.1 (step txn.standing.database (directly name action)))
+  made-IsSoundOn : (base : SnapshotState A) (name : List ℕ) (o : Option (Action A)) (txn : TxnState A) → IsSoundOn base txn → IfOk (made_in name o txn) (IsSoundOn base)
+  made-IsSoundOn base name None txn h = h
+  made-IsSoundOn base name (Some action) txn h =
+      go (after_op txn.workspace (directly name action)) (op-IsSound txn.workspace (directly name action) h.0) (made-base txn.workspace (directly name action) base h.1 (step txn.workspace.database (directly name action)))
     where
-      go : (r : Result (WorkspaceState A) Refusal) → IfOk r IsStanding → IfOk r (λ next. next.base ≡ base)
-          → IfOk (unless_refused (done r) (record (traced txn (Op (directly name action))) { standing = calls.unless_refused txn.standing r })) (StandsOn base)
+      go : (r : Result (WorkspaceState A) Refusal) → IfOk r IsSound → IfOk r (λ next. next.base ≡ base)
+          → IfOk (unless_refused (done r) (record (traced txn (Op (directly name action))) { workspace = calls.unless_refused txn.workspace r })) (IsSoundOn base)
       go (Ok after) stands on = (stands, on)
       go (Err why) stands on = tt
 
-  rows-stand : (left : Tables A) (base : SnapshotState A) (rows : List (List ℕ × Fields A)) (txn : TxnState A) → StandsOn base txn → IfOk (rows_led left rows txn) (StandsOn base)
-  rows-stand left base [] txn h = h
-  rows-stand left base (row ∷ rows) txn h =
-      go (λ after h. rows-stand left base rows after h) (row_led left row.0 row.1 txn)
-      (made-stands base row.0 (leading row.1 (row_at txn.standing.database row.0 row.1) (row_at left row.0 row.1)) (traced txn (Get row.0 (Key row.1))) h)
+  rows-IsSoundOn : (left : Tables A) (base : SnapshotState A) (rows : List (List ℕ × Fields A)) (txn : TxnState A) → IsSoundOn base txn → IfOk (rows_led left rows txn) (IsSoundOn base)
+  rows-IsSoundOn left base [] txn h = h
+  rows-IsSoundOn left base (row ∷ rows) txn h =
+      go (λ after h. rows-IsSoundOn left base rows after h) (row_led left row.0 row.1 txn)
+      (made-IsSoundOn base row.0 (leading row.1 (row_at txn.workspace.database row.0 row.1) (row_at left row.0 row.1)) (traced txn (Get row.0 (Key row.1))) h)
     where
-      go : ((after : TxnState A) → StandsOn base after → IfOk (rows_led left rows after) (StandsOn base))
-          → (r : Result (TxnState A) Refusal) → IfOk r (StandsOn base) → IfOk (and_then r (rows_led left rows)) (StandsOn base)
+      go : ((after : TxnState A) → IsSoundOn base after → IfOk (rows_led left rows after) (IsSoundOn base))
+          → (r : Result (TxnState A) Refusal) → IfOk r (IsSoundOn base) → IfOk (and_then r (rows_led left rows)) (IsSoundOn base)
       go further (Ok after) k = further after k
       go further (Err why) k = tt
 
@@ -327,7 +327,7 @@ module _ {A : Type 0} where
   all-led base s each lefts keeps = rows-led s.progress.applied.database lefts (looked_at s.filter s.blob) (begin_traced base) (λ name. sym (keeps.others name)) each
 
   pub leaves-rows : (base : SnapshotState A) (s : ApplierState A) (txn : TxnState A) → EachRises base.database → EachRises s.progress.applied.database → KeepsTo base.database s → transaction_of base s ≡ Ok txn
-      → SameRows s.progress.applied.database txn.standing.database
+      → SameRows s.progress.applied.database txn.workspace.database
   leaves-rows base s txn each lefts keeps is =
       let left = s.progress.applied.database in
       let rows = looked_at s.filter s.blob in
@@ -341,7 +341,7 @@ module _ {A : Type 0} where
   never-refused base s why each lefts keeps is =
       subst (AllLed s.progress.applied.database base.database (looked_at s.filter s.blob)) is (all-led base s each lefts keeps)
 
-  pub accepted-on : (base : SnapshotState A) (s : ApplierState A) (txn : TxnState A) → transaction_of base s ≡ Ok txn → Leaves base.database txn.standing.ops txn.standing.database
+  pub accepted-on : (base : SnapshotState A) (s : ApplierState A) (txn : TxnState A) → transaction_of base s ≡ Ok txn → Leaves base.database txn.workspace.ops txn.workspace.database
   accepted-on base s txn is =
-      let h : StandsOn base txn = subst (λ r. IfOk r (StandsOn base)) is (rows-stand s.progress.applied.database base (looked_at s.filter s.blob) (begin_traced base) (begin-stands base, refl)) in
-      subst (λ (b : SnapshotState A). Leaves b.database txn.standing.ops txn.standing.database) h.1 h.0.left
+      let h : IsSoundOn base txn = subst (λ r. IfOk r (IsSoundOn base)) is (rows-IsSoundOn s.progress.applied.database base (looked_at s.filter s.blob) (begin_traced base) (begin-IsSound base, refl)) in
+      subst (λ (b : SnapshotState A). Leaves b.database txn.workspace.ops txn.workspace.database) h.1 h.0.left

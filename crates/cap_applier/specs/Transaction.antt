@@ -12,9 +12,9 @@ use Rattle.cap_database.specs.declared.op.Action.{Action}
 use Rattle.cap_database.specs.declared.op.Action.TheVariants.{Insert, Update, Delete}
 use Rattle.cap_txn.specs.Calls.{answer_to}
 use Rattle.cap_txn.specs.Transaction.{TxnState, begin_traced, traced}
-use Rattle.cap_txn.specs.declared.look.Answer.{Answer}
-use Rattle.cap_txn.specs.declared.look.Answer.TheVariants.{Refused}
-use Rattle.cap_txn.specs.declared.look.Asked.TheVariants.{Op, Get}
+use Rattle.cap_txn.specs.declared.answered_call.Answer.{Answer}
+use Rattle.cap_txn.specs.declared.answered_call.Answer.TheVariants.{Refused}
+use Rattle.cap_txn.specs.declared.answered_call.Asked.TheVariants.{Op, Get}
 use Rattle.cap_apply.specs.Apply.{and_then}
 use Rattle.cap_apply.specs.Operations.{directly}
 use Rattle.cap_applier.specs.Applier.{ApplierState}
@@ -37,12 +37,12 @@ module _ {A : Type 0} where
   abbrev pub made_in : List ℕ → Option (Action A) → TxnState A → Result (TxnState A) Refusal
   made_in name None txn = Ok txn
   made_in name (Some action) txn =
-      unless_refused (answer_to txn.standing (Op (directly name action))) (traced txn (Op (directly name action)))
+      unless_refused (answer_to txn.workspace (Op (directly name action))) (traced txn (Op (directly name action)))
 
   -- the transaction looks at the row, and makes it the one that was left
   abbrev pub row_led : Tables A → List ℕ → Fields A → TxnState A → Result (TxnState A) Refusal
   row_led left name key txn =
-      made_in name (leading key (row_at txn.standing.database name key) (row_at left name key))
+      made_in name (leading key (row_at txn.workspace.database name key) (row_at left name key))
       (traced txn (Get name (Key key)))
 
   -- the same of each row

@@ -1,9 +1,15 @@
-//! Laws of applications that stop at conflicts. The functions do nothing when they run.
-ghost use Rattle.std.specs.Prelude.{◌≡◌, ℕ, List, None, Ok, Some, IfOk, true, is_some};
+//! Laws of applications that stop at conflicts, and of those that are committed as transactions. The functions
+//! do nothing when they run.
+ghost use Rattle.std.specs.Prelude.{◌≡◌, ℕ, Err, IfOk, List, None, Ok, Option, Some, is_some, true};
+ghost use Rattle.cap_value.specs.declared.refusal.Refusal.{Refusal};
 ghost use Rattle.cap_row.specs.Fields.{Fields};
+ghost use Rattle.cap_filter.specs.Rule.{Rule};
 ghost use Rattle.cap_database.specs.Read.{row_at};
-ghost use Rattle.cap_database.specs.Tables.{Tables, table_of};
+ghost use Rattle.cap_database.specs.Tables.{EachRises, Tables, table_of};
+ghost use Rattle.cap_database.specs.Snapshot.{SnapshotState};
 ghost use Rattle.cap_codec.specs.declared.read.Contents.{Contents};
+ghost use Rattle.cap_txn.specs.Sound.{Leaves};
+ghost use Rattle.cap_txn.specs.Transaction.{TxnState};
 ghost use Rattle.cap_apply.specs.Apply.{and_then, apply};
 ghost use Rattle.cap_apply.specs.Policy.{answer_to};
 ghost use Rattle.cap_apply.specs.declared.policy.Answer.{Answer};
@@ -14,6 +20,8 @@ ghost use Rattle.cap_applier.specs.Named.{IsUnnamed, SameRow};
 ghost use Rattle.cap_applier.specs.Reach.{IsReached};
 ghost use Rattle.cap_applier.specs.Remaining.{AcceptsAll, remaining};
 ghost use Rattle.cap_applier.specs.declared.row_conflict.RowConflict.{RowConflict};
+ghost use Rattle.cap_applier.specs.Looked.{KeepsTo, SameRows};
+ghost use Rattle.cap_applier.specs.Transaction.{transaction_of};
 
 use cap_value::AllocHandle;
 
@@ -62,4 +70,29 @@ pub fn rows_that_no_change_names_stay<A: AllocHandle>()
 pub fn a_step_counts_one_change_or_leaves_one_group<A: AllocHandle>()
     ensures { (answer : Answer) (s : ApplierState A)
         → IfOk (answered answer s) (λ next. CountsOne s.progress next.progress) }
+{}
+
+/// Whatever the answers, an application changes none but the rows that it looks at: those that a change of the
+/// blob names, of the tables that the filter accepts. Tables, columns and rows without a key stay.
+pub fn applications_keep_to_the_rows_that_they_look_at<A: AllocHandle>()
+    ensures first { (tables : Tables A) (blob : Contents A) (filter : Option Rule) → KeepsTo tables (begun tables blob filter) }
+    ensures step { (base : Tables A) (answer : Answer) (s : ApplierState A) → KeepsTo base s
+        → IfOk (answered answer s) (KeepsTo base) }
+    ensures merged { (base : Tables A) (s : ApplierState A) (row : Fields A) → KeepsTo base s
+        → KeepsTo base (merged_at (met s) row s) }
+    ensures between { (base : Tables A) (from to : ApplierState A) → KeepsTo base from → IsReached from to
+        → KeepsTo base to }
+{}
+
+/// The transaction of an application leaves the tables with the rows that the application left, by operations
+/// that are all accepted on the snapshot. It is never refused, however many operations it has.
+pub fn a_transaction_leaves_what_the_application_left<A: AllocHandle>()
+    ensures rows { (base : SnapshotState A) (s : ApplierState A) (txn : TxnState A)
+        → EachRises base.database → EachRises s.progress.applied.database → KeepsTo base.database s
+        → transaction_of base s ≡ Ok txn → SameRows s.progress.applied.database txn.workspace.database }
+    ensures accepted { (base : SnapshotState A) (s : ApplierState A) (txn : TxnState A)
+        → transaction_of base s ≡ Ok txn → Leaves base.database txn.workspace.ops txn.workspace.database }
+    ensures refused { (base : SnapshotState A) (s : ApplierState A) (why : Refusal)
+        → EachRises base.database → EachRises s.progress.applied.database → KeepsTo base.database s
+        → transaction_of base s ≡ Err why → ⊥ }
 {}

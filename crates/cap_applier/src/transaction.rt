@@ -6,7 +6,7 @@ ghost use Rattle.cap_value.specs.Memory.{AnswersUnlessMemory, LeavesUnlessMemory
 ghost use Rattle.cap_table.specs.declared.row_ref.RowRef.TheVariants as named;
 ghost use Rattle.cap_database.specs.Read.{row_at};
 ghost use Rattle.cap_txn.specs.Transaction.{begin_traced, traced};
-ghost use Rattle.cap_txn.specs.declared.look.Asked.TheVariants as asked;
+ghost use Rattle.cap_txn.specs.declared.answered_call.Asked.TheVariants as asked;
 ghost use Rattle.cap_applier.specs.Transaction.{leading, made_in, row_led, rows_led};
 
 use crate::looked::RowOf;
@@ -55,7 +55,7 @@ fn look_at<A: AllocHandle>(
     key: &Key<A>,
 ) -> Result<Option<Row<A>>, OutOfMemory>
     ensures looked { OnOk result (txn.new ≡ traced txn.old (asked.Get table.now (named.Key key.now))) }
-    ensures row { IfOk result (λ row. row ≡ row_at txn.old.standing.database table.now key.now) }
+    ensures row { IfOk result (λ row. row ≡ row_at txn.old.workspace.database table.now key.now) }
 {
     let row = RowRef::Key(key.copy()?);
     match txn.get(table, &row) {

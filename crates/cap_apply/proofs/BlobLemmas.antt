@@ -4,20 +4,19 @@ use Rattle.std.specs.Prelude.{is_some}
 use Rattle.cap_table.specs.Table.{TableState}
 use Rattle.cap_database.specs.Tables.{Tables, table_of}
 use Rattle.cap_changes.specs.Entries.{TableEntries}
-use Rattle.cap_changes.specs.Patch.{patch_list_of, patch_of}
-use Rattle.cap_codec.specs.declared.read.Contents.TheVariants.{Changes, Patches}
+use Rattle.cap_codec.specs.declared.read.Contents.TheVariants.{Changes}
 use Rattle.cap_apply.specs.Applied.{AppliedState}
 use Rattle.cap_apply.specs.Apply.{and_then, changes_applied, group_applied, groups_applied, nothing_applied, skipped_unless}
-use Rattle.cap_apply.specs.Requested.{Requested, requested_by_change, requested_by_patch, requested_in}
+use Rattle.cap_apply.specs.Requested.{Requested, requested_by_change, requested_in}
 use Rattle.cap_apply.specs.Captured.{AllAfter, AllBefore, AreOthers, GivesAllRowsNow, TableRows, changes_of, total}
-use Rattle.cap_apply.specs.Difference.{Difference, RowsAfter, RowsBefore, requested_by_changes, requested_by_patches}
+use Rattle.cap_apply.specs.Difference.{Difference, RowsAfter, RowsBefore, requested_by_changes}
 use Rattle.cap_apply.specs.Report.{ReportState}
 use Rattle.cap_apply.specs.Target.{fitting, target}
 use Rattle.cap_apply.specs.declared.policy.Policy.{Policy}
 use Rattle.cap_apply.proofs.CaptureLemmas.{fit_self}
-use Rattle.cap_apply.proofs.DifferenceLemmas.{Left, changes_give, patches_give}
+use Rattle.cap_apply.proofs.DifferenceLemmas.{Left, changes_give}
 
-abbrev all_counted : ℕ → ReportState
+abbrev pub all_counted : ℕ → ReportState
 all_counted n = record { applied = n; conflicts = []; omitted = []; skipped = [] }
 
 module _ {A : Type 0} where
@@ -50,7 +49,7 @@ module _ {A : Type 0} where
   }
 
   -- what the groups leave
-  abbrev AllLeft : Policy → ℕ → ℕ → List (TableRows A) → List (TableEntries (Requested A)) → AppliedState A → Type 0
+  abbrev pub AllLeft : Policy → ℕ → ℕ → List (TableRows A) → List (TableEntries (Requested A)) → AppliedState A → Type 0
   AllLeft policy place number ts groups state =
       (left : AppliedState A) × (groups_applied policy place number groups state ≡ Ok left) × AllAfter ts left.database
       × ((other : List ℕ) → AreOthers other ts → table_of left.database other ≡ table_of state.database other)
@@ -60,10 +59,10 @@ module _ {A : Type 0} where
   module _ (policy : Policy) (asks : TableRows A → List (Requested A))
       (give : (t : TableRows A) (number : ℕ) (state : AppliedState A) → RowsBefore t.name t.table t.differences state.database →
       Left policy number t.name t.table.schema t.table t.differences (asks t) state) where
-    abbrev group_of : TableRows A → TableEntries (Requested A)
+    abbrev pub group_of : TableRows A → TableEntries (Requested A)
     group_of t = record { table = t.name; schema = t.table.schema; changes = asks t }
 
-    groups_give : (ts : List (TableRows A)) (place number : ℕ) (state : AppliedState A) → AllBefore ts state.database → AllLeft policy place number ts (map group_of ts) state
+    pub groups_give : (ts : List (TableRows A)) (place number : ℕ) (state : AppliedState A) → AllBefore ts state.database → AllLeft policy place number ts (map group_of ts) state
     groups_give [] place number state before =
         let none : state.report.applied ≡ state.report.applied + 0 = omega arith in
         (state, refl, tt, λ other apart. refl, ap (λ n. record state.report { applied = n }) none)
@@ -88,21 +87,11 @@ module _ {A : Type 0} where
   change_asks flags [] = refl
   change_asks flags (d ∷ ds) = ap (λ (l : List (Requested A)). requested_by_change flags d.change ∷ l) (change_asks flags ds)
 
-  patch_asks : (flags : List Bool) (ds : List (Difference A)) → map (requested_by_patch flags) (map (patch_of flags) (map (λ (d : Difference A). d.change) ds)) ≡ requested_by_patches flags ds
-  patch_asks flags [] = refl
-  patch_asks flags (d ∷ ds) = ap (λ (l : List (Requested A)). requested_by_patch flags (patch_of flags d.change) ∷ l) (patch_asks flags ds)
-
   change_groups : (ts : List (TableRows A)) → map (requested_in requested_by_change) (map changes_of ts)
       ≡ map (λ (t : TableRows A). record { table = t.name; schema = t.table.schema; changes = requested_by_changes t.table.schema t.differences }) ts
   change_groups [] = refl
   change_groups (t ∷ ts) =
       λ i. record { table = t.name; schema = t.table.schema; changes = change_asks t.table.schema t.differences i } ∷ change_groups ts i
-
-  patch_groups : (ts : List (TableRows A)) → map (requested_in requested_by_patch) (patch_list_of (map changes_of ts))
-      ≡ map (λ (t : TableRows A). record { table = t.name; schema = t.table.schema; changes = requested_by_patches t.table.schema t.differences }) ts
-  patch_groups [] = refl
-  patch_groups (t ∷ ts) =
-      λ i. record { table = t.name; schema = t.table.schema; changes = patch_asks t.table.schema t.differences i } ∷ patch_groups ts i
 
   pub changeset_gives : (policy : Policy) (ts : List (TableRows A)) (database : Tables A) → AllBefore ts database → GivesAllRowsNow policy ts (Changes (map changes_of ts)) database
   changeset_gives policy ts database before =
@@ -110,10 +99,3 @@ module _ {A : Type 0} where
       (λ t number state h. changes_give policy number t.name t.table t.differences state h.there h.ordered h.rows) ts 0 0 (nothing_applied database) before in
       let count : 0 + total ts ≡ total ts = omega arith in
       (all.0, ap (λ groups. groups_applied policy 0 0 groups (nothing_applied database)) (change_groups ts) ∙ all.1, all.2, all.3, all.4 ∙ ap all_counted count)
-
-  pub patchset_gives : (policy : Policy) (ts : List (TableRows A)) (database : Tables A) → AllBefore ts database → GivesAllRowsNow policy ts (Patches (patch_list_of (map changes_of ts))) database
-  patchset_gives policy ts database before =
-      let all = groups_give policy (λ (t : TableRows A). requested_by_patches t.table.schema t.differences)
-      (λ t number state h. patches_give policy number t.name t.table t.differences state h.there h.ordered h.rows) ts 0 0 (nothing_applied database) before in
-      let count : 0 + total ts ≡ total ts = omega arith in
-      (all.0, ap (λ groups. groups_applied policy 0 0 groups (nothing_applied database)) (patch_groups ts) ∙ all.1, all.2, all.3, all.4 ∙ ap all_counted count)

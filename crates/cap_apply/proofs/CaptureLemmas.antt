@@ -14,16 +14,15 @@ use Rattle.cap_database.specs.Tables.{table_of}
 use Rattle.cap_changes.specs.Change.{change_of, full_record, new_field, old_field}
 use Rattle.cap_changes.specs.Column.{by_column}
 use Rattle.cap_changes.specs.Invert.{inverse_of}
-use Rattle.cap_changes.specs.Patch.{patch_of, update_record}
-use Rattle.cap_changes.specs.FieldRecord.{RecordFields}
+use Rattle.cap_changes.specs.Patch.{update_record}
 use Rattle.cap_changes.specs.declared.row_change.RowChange.{RowChange}
 use Rattle.cap_changes.specs.declared.row_change.RowChange.TheVariants.{Insert, Update, Delete}
 use Rattle.cap_changes.proofs.ChangeLemmas.{same_first}
 use Rattle.cap_apply.specs.Applied.{AppliedState}
 use Rattle.cap_apply.specs.Apply.{change_applied, counted, with_row_in}
-use Rattle.cap_apply.specs.Requested.{Requested, requested_by_change, requested_by_patch}
+use Rattle.cap_apply.specs.Requested.{Requested, requested_by_change}
 use Rattle.cap_apply.specs.Difference.{Difference, IsDifference, IsUnder, turned}
-use Rattle.cap_apply.specs.Row.{has_old_values, has_old_value, conflict_of, key_record_of, key_values, missed, new_row, row_after, set_fields}
+use Rattle.cap_apply.specs.Row.{has_old_values, has_old_value, conflict_of, key_record_of, key_values, new_row, row_after, set_fields}
 use Rattle.cap_apply.specs.Target.{columns_fit, fitting}
 use Rattle.cap_apply.specs.declared.conflict.ConflictKind.TheVariants.{Data}
 use Rattle.cap_apply.specs.declared.policy.Policy.{Policy}
@@ -71,11 +70,6 @@ module _ {A : Type 0} where
   full_agrees [] row = refl
   full_agrees (flag ∷ flags) [] = refl
   full_agrees (flag ∷ flags) (value ∷ row) = and_from (flag || value_eq value value) _ (or_true flag _ (same_value value)) (full_agrees flags row)
-
-  -- a patchset has no old values that could differ
-  nothing_told : (flags : List Bool) (row : Fields A) → has_old_values flags [] row ≡ true
-  nothing_told [] row = refl
-  nothing_told (flag ∷ flags) row = refl
 
   -- ---- two rows under one key
 
@@ -163,17 +157,6 @@ module _ {A : Type 0} where
             met = ap (λ b. cond b None (Some Data)) (between_agrees flags image now);
             leaves = ap Some (between_sets flags image now p.0 q.0 (key_is flags image key p.1 ∙ sym (key_is flags now key q.1)));
           })
-
-  told_or_not : (flags : List Bool) (old : RecordFields A) (before : Option (Fields A)) → missed flags old before ≡ None → missed flags [] before ≡ None
-  told_or_not flags old None e = cc
-  told_or_not flags old (Some row) e = ap (λ b. cond b None (Some Data)) (nothing_told flags row)
-
-  -- the patch of a change requests the same, without old fields
-  pub asks_by_patch : (flags : List Bool) (key : Fields A) (before after : Option (Fields A)) (change : RowChange A) →
-      AsksFor flags (requested_by_change flags change) key before after → AsksFor flags (requested_by_patch flags (patch_of flags change)) key before after
-  asks_by_patch flags key before after (Insert indirect new) h = record { names = h.names; met = h.met; leaves = h.leaves }
-  asks_by_patch flags key before after (Update indirect old new) h = record { names = h.names; met = told_or_not flags old before h.met; leaves = h.leaves }
-  asks_by_patch flags key before after (Delete indirect old) h = record { names = h.names; met = told_or_not flags old before h.met; leaves = h.leaves }
 
   -- ---- applied
 

@@ -10,14 +10,13 @@ use Rattle.cap_tree.proofs.EntryLemmas.{ordered_take}
 use Rattle.cap_table.specs.Table.{TableState}
 use Rattle.cap_database.specs.Tables.{Tables, table_of}
 use Rattle.cap_tree.proofs.EntryLemmas.{ordered_put}
-use Rattle.cap_changes.specs.Patch.{patch_of}
 use Rattle.cap_changes.proofs.ChangeLemmas.{other_order}
 use Rattle.cap_apply.specs.Applied.{AppliedState}
 use Rattle.cap_apply.specs.Apply.{and_then, changes_applied, counted, with_row, with_row_in}
-use Rattle.cap_apply.specs.Requested.{Requested, requested_by_change, requested_by_patch}
-use Rattle.cap_apply.specs.Difference.{AllApplied, AreApart, Difference, IsDifference, OtherTables, RowsAfter, StandAfter, StandBefore, turned}
+use Rattle.cap_apply.specs.Requested.{Requested, requested_by_change}
+use Rattle.cap_apply.specs.Difference.{AllApplied, AreApart, Difference, HoldBefore, IsDifference, OtherTables, RowsAfter}
 use Rattle.cap_apply.specs.declared.policy.Policy.{Policy}
-use Rattle.cap_apply.proofs.CaptureLemmas.{AsksFor, asks_by_change, asks_by_patch, captured_one, turned_difference}
+use Rattle.cap_apply.proofs.CaptureLemmas.{AsksFor, asks_by_change, captured_one}
 use Rattle.cap_apply.proofs.EntryLemmas.{get_put, get_put_other, get_take}
 use Rattle.cap_apply.proofs.ColumnLemmas.{same_columns}
 
@@ -57,12 +56,12 @@ module _ {A : Type 0} where
       get_put_other bytes_cmp (λ x y. (bytes_cmp-Equal x y).0) name table other (other_order (bytes_cmp other name) (λ e. apart ((bytes_cmp-Equal other name).0 e))) database
 
   -- the others are unchanged
-  stand_still : (flags : List Bool) (table next : TableState A) (key : Fields A) (ds : List (Difference A)) →
+  hold_still : (flags : List Bool) (table next : TableState A) (key : Fields A) (ds : List (Difference A)) →
       ((other : Fields A) → (other ≡ key → ⊥) → get fields_cmp next.keyed other ≡ get fields_cmp table.keyed other) →
-      AreApart key ds → StandBefore flags table ds → StandBefore flags next ds
-  stand_still flags table next key [] same apart stand = tt
-  stand_still flags table next key (d ∷ ds) same apart stand =
-      (stand.0, same d.key (λ e. apart.0 (sym e)) ∙ stand.1, stand.2, stand_still flags table next key ds same apart.1 stand.3)
+      AreApart key ds → HoldBefore flags table ds → HoldBefore flags next ds
+  hold_still flags table next key [] same apart hold = tt
+  hold_still flags table next key (d ∷ ds) same apart hold =
+      (hold.0, same d.key (λ e. apart.0 (sym e)) ∙ hold.1, hold.2, hold_still flags table next key ds same apart.1 hold.3)
 
   -- ---- all of them
 
@@ -74,8 +73,8 @@ module _ {A : Type 0} where
 
   module _ (policy : Policy) (name : List ℕ) (flags : List Bool) (f : Difference A → Requested A) (asks : (d : Difference A) → IsDifference flags d → AsksFor flags (f d) d.key d.before d.after) where
     pub apply_all : (ds : List (Difference A)) (number : ℕ) (table : TableState A) (state : AppliedState A) → table_of state.database name ≡ Some table → table.schema ≡ flags →
-        IsOrdered fields_cmp table.keyed → StandBefore flags table ds → Left policy number name flags table ds (map f ds) state
-    apply_all [] number table state there columns ordered stand =
+        IsOrdered fields_cmp table.keyed → HoldBefore flags table ds → Left policy number name flags table ds (map f ds) state
+    apply_all [] number table state there columns ordered hold =
         let none : state.report.applied ≡ state.report.applied + 0 = omega arith in (
           state,
           refl,
@@ -92,13 +91,13 @@ module _ {A : Type 0} where
           λ other apart. refl,
           ap (λ n. record state.report { applied = n }) none,
         )
-    apply_all (d ∷ ds) number table state there columns ordered stand =
+    apply_all (d ∷ ds) number table state there columns ordered hold =
         let next = counted (with_row_in name table d.key d.before d.after state) in
         let after = with_row table d.key d.after in
-        let one = captured_one policy number name flags (f d) state table d.key d.before d.after there columns stand.1 (asks d stand.0) in
+        let one = captured_one policy number name flags (f d) state table d.key d.before d.after there columns hold.1 (asks d hold.0) in
         let there_after : table_of next.database name ≡ Some after = get_put bytes_cmp name after (tied_itself nat_list_cmp_total name) state.database in
         let rest = apply_all ds (number + 1) after next there_after (same_columns table d.key d.after ∙ columns) (rows_ordered table d.key d.after ordered)
-        (stand_still flags table after d.key ds (rows_other table d.key d.after ordered) stand.2 stand.3) in
+        (hold_still flags table after d.key ds (rows_other table d.key d.after ordered) hold.2 hold.3) in
         let rows = rest.2 in
         let more : state.report.applied + 1 + length ds ≡ state.report.applied + suc (length ds) = omega arith in (
           rest.0,
@@ -106,7 +105,7 @@ module _ {A : Type 0} where
           record {
             found = rows.found;
             there = rows.there;
-            rows = (rows.other_rows d.key stand.2 ∙ rows_here table d.key d.after ordered, rows.rows);
+            rows = (rows.other_rows d.key hold.2 ∙ rows_here table d.key d.after ordered, rows.rows);
             other_rows = λ key apart. rows.other_rows key apart.1 ∙ rows_other table d.key d.after ordered key apart.0;
             loose = rows.loose ∙ same_loose table d.key d.after;
             columns = rows.columns ∙ same_columns table d.key d.after;
@@ -118,71 +117,7 @@ module _ {A : Type 0} where
         )
 
   pub changes_give : (policy : Policy) (number : ℕ) (name : List ℕ) (table : TableState A) (ds : List (Difference A)) (state : AppliedState A) → table_of state.database name ≡ Some table →
-      IsOrdered fields_cmp table.keyed → StandBefore table.schema table ds → Left policy number name table.schema table ds (map (λ (d : Difference A). requested_by_change table.schema d.change) ds) state
-  changes_give policy number name table ds state there ordered stand =
+      IsOrdered fields_cmp table.keyed → HoldBefore table.schema table ds → Left policy number name table.schema table ds (map (λ (d : Difference A). requested_by_change table.schema d.change) ds) state
+  changes_give policy number name table ds state there ordered hold =
       apply_all policy name table.schema (λ (d : Difference A). requested_by_change table.schema d.change)
-      (λ d h. asks_by_change table.schema h.change.0 d.key d.before d.after d.change h.before h.after h.change.1) ds number table state there refl ordered stand
-
-  pub patches_give : (policy : Policy) (number : ℕ) (name : List ℕ) (table : TableState A) (ds : List (Difference A)) (state : AppliedState A) → table_of state.database name ≡ Some table →
-      IsOrdered fields_cmp table.keyed → StandBefore table.schema table ds →
-      Left policy number name table.schema table ds (map (λ (d : Difference A). requested_by_patch table.schema (patch_of table.schema d.change)) ds) state
-  patches_give policy number name table ds state there ordered stand =
-      apply_all policy name table.schema (λ (d : Difference A). requested_by_patch table.schema (patch_of table.schema d.change))
-      (λ d h. asks_by_patch table.schema d.key d.before d.after d.change (asks_by_change table.schema h.change.0 d.key d.before d.after d.change h.before h.after h.change.1))
-      ds number table state there refl ordered stand
-
-  -- ---- and back
-
-  apart_turned : (flags : List Bool) (key : Fields A) (ds : List (Difference A)) → AreApart key ds → AreApart key (map (turned flags) ds)
-  apart_turned flags key [] apart = tt
-  apart_turned flags key (d ∷ ds) apart = (apart.0, apart_turned flags key ds apart.1)
-
-  apart_again : (flags : List Bool) (key : Fields A) (ds : List (Difference A)) → AreApart key (map (turned flags) ds) → AreApart key ds
-  apart_again flags key [] apart = tt
-  apart_again flags key (d ∷ ds) apart = (apart.0, apart_again flags key ds apart.1)
-
-  stand_turned : (flags : List Bool) (table found : TableState A) (ds : List (Difference A)) → StandBefore flags table ds → StandAfter found ds → StandBefore flags found (map (turned flags) ds)
-  stand_turned flags table found [] stand rows = tt
-  stand_turned flags table found (d ∷ ds) stand rows =
-      (turned_difference flags d stand.0, rows.0, apart_turned flags d.key ds stand.2, stand_turned flags table found ds stand.3 rows.1)
-
-  map_turned : (flags : List Bool) (ds : List (Difference A)) → map (λ (d : Difference A). requested_by_change flags d.change) (map (turned flags) ds)
-      ≡ map (λ (d : Difference A). requested_by_change flags (turned flags d).change) ds
-  map_turned flags [] = refl
-  map_turned flags (d ∷ ds) = ap (λ (l : List (Requested A)). requested_by_change flags (turned flags d).change ∷ l) (map_turned flags ds)
-
-  as_many : (flags : List Bool) (ds : List (Difference A)) → length (map (turned flags) ds) ≡ length ds
-  as_many flags [] = refl
-  as_many flags (d ∷ ds) = ap suc (as_many flags ds)
-
-  pub inverse_gives : (policy : Policy) (number : ℕ) (name : List ℕ) (table : TableState A) (ds : List (Difference A)) (state : AppliedState A) → table_of state.database name ≡ Some table →
-      IsOrdered fields_cmp table.keyed → StandBefore table.schema table ds → (left : AppliedState A) × (again : AppliedState A)
-      × (changes_applied policy number name table.schema (map (λ (d : Difference A). requested_by_change table.schema d.change) ds) state ≡ Ok left)
-      × (changes_applied policy number name table.schema (map (λ (d : Difference A). requested_by_change table.schema (turned table.schema d).change) ds) left ≡ Ok again)
-      × RowsAfter name table (map (turned table.schema) ds) again.database × OtherTables name state.database again.database × AllApplied ds left again
-  inverse_gives policy number name table ds state there ordered stand =
-      let flags = table.schema in
-      let there_and = changes_give policy number name table ds state there ordered stand in
-      let left = there_and.0 in
-      let rows = there_and.2 in
-      let back = apply_all policy name flags (λ (d : Difference A). requested_by_change flags d.change)
-      (λ d h. asks_by_change flags h.change.0 d.key d.before d.after d.change h.before h.after h.change.1) (map (turned flags) ds) number rows.found left rows.there rows.columns rows.ordered
-      (stand_turned flags table rows.found ds stand rows.rows) in
-      let last = back.2 in (
-        left,
-        back.0,
-        there_and.1,
-        ap (λ l. changes_applied policy number name flags l left) (sym (map_turned flags ds)) ∙ back.1,
-        record {
-          found = last.found;
-          there = last.there;
-          rows = last.rows;
-          other_rows = λ key apart. last.other_rows key apart ∙ rows.other_rows key (apart_again flags key ds apart);
-          loose = last.loose ∙ rows.loose;
-          columns = last.columns ∙ rows.columns;
-          next_id = last.next_id ∙ rows.next_id;
-          ordered = last.ordered;
-        },
-        λ other apart. back.3 other apart ∙ there_and.3 other apart,
-        back.4 ∙ ap (λ n. record left.report { applied = left.report.applied + n }) (as_many flags ds),
-      )
+      (λ d h. asks_by_change table.schema h.change.0 d.key d.before d.after d.change h.before h.after h.change.1) ds number table state there refl ordered hold

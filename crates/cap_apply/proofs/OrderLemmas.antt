@@ -13,7 +13,7 @@ use Rattle.cap_row.specs.Fields.{Fields}
 use Rattle.cap_row.specs.Key.{fields_cmp}
 use Rattle.cap_row.specs.Schema.{has_key}
 use Rattle.cap_tree.specs.Tree.{get}
-use Rattle.cap_table.specs.Sound.{IsRising, keyed_stands}
+use Rattle.cap_table.specs.Sound.{IsRising, is_keyed_row}
 use Rattle.cap_table.specs.Table.{TableState}
 use Rattle.cap_table.specs.declared.row_ref.RowRef.TheVariants.{Key}
 use Rattle.cap_database.specs.Operation.{changes, run, step}
@@ -56,11 +56,11 @@ same_length m n is = grind (arith, nat_tests)
 module _ {A : Type 0} where
   -- ---- rows and tables that are found
 
-  found-wide : (schema : List Bool) (es : List (Fields A × Fields A)) (key row : Fields A) → list_all (λ entry. keyed_stands schema entry.0 entry.1) es ≡ true → get fields_cmp es key ≡ Some row
+  found-wide : (schema : List Bool) (es : List (Fields A × Fields A)) (key row : Fields A) → list_all (λ entry. is_keyed_row schema entry.0 entry.1) es ≡ true → get fields_cmp es key ≡ Some row
       → length row ≡ length schema
   found-wide schema [] key row all found = cc
   found-wide schema (entry ∷ es) key row all found =
-      let parts = and_parts (keyed_stands schema entry.0 entry.1) (list_all (λ entry. keyed_stands schema entry.0 entry.1) es) all in
+      let parts = and_parts (is_keyed_row schema entry.0 entry.1) (list_all (λ entry. is_keyed_row schema entry.0 entry.1) es) all in
       elim (eq_by_cmp fields_cmp key entry.0) as (λ b. cond b (Some entry.1) (get fields_cmp es key) ≡ Some row → length row ≡ length schema) [
         | true ↦ λ is.
             let same : entry.1 ≡ row = cc in
@@ -176,7 +176,7 @@ module _ {A : Type 0} where
         there conflict = noted_there policy number conflict state name h.table h.there
 
         wide : (key row : Fields A) → get fields_cmp h.table.keyed key ≡ Some row → length row ≡ length h.table.schema
-        wide key row found = found-wide h.table.schema h.table.keyed key row (found-rises state.database name h.table rise.each h.there).stand.keyed found
+        wide key row found = found-wide h.table.schema h.table.keyed key row (found-rises state.database name h.table rise.each h.there).sound.keyed found
 
         made-rises : (old : RecordFields A) (patch : Patch A) (before : Option (Fields A)) → Keyed flags patch → get fields_cmp h.table.keyed (key_values flags (key_record_of patch)) ≡ before
             → is_made policy number (conflict_of flags old patch before) ≡ Ok true

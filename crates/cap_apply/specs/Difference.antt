@@ -39,30 +39,30 @@ module _ {A : Type 0} where
   AreApart key (d ∷ ds) = (key ≡ d.key → ⊥) × AreApart key ds
 
   -- no key comes twice, and the table has the row before at each
-  abbrev pub StandBefore : List Bool → TableState A → List (Difference A) → Type 0
-  StandBefore flags table [] = Unit {0}
-  StandBefore flags table (d ∷ ds) =
+  abbrev pub HoldBefore : List Bool → TableState A → List (Difference A) → Type 0
+  HoldBefore flags table [] = Unit {0}
+  HoldBefore flags table (d ∷ ds) =
       IsDifference flags d × (get fields_cmp table.keyed d.key ≡ d.before) × AreApart d.key ds
-      × StandBefore flags table ds
+      × HoldBefore flags table ds
 
   -- a database has the table of the name with the rows before
   pub record RowsBefore (name : List ℕ) (table : TableState A) (ds : List (Difference A))
       (database : Tables A) : Type 0 where
     pub there : table_of database name ≡ Some table
-    pub rows : StandBefore table.schema table ds
+    pub rows : HoldBefore table.schema table ds
     pub ordered : IsOrdered fields_cmp table.keyed
 
   -- the table has the row now at each key
-  abbrev pub StandAfter : TableState A → List (Difference A) → Type 0
-  StandAfter table [] = Unit {0}
-  StandAfter table (d ∷ ds) = (get fields_cmp table.keyed d.key ≡ d.after) × StandAfter table ds
+  abbrev pub HoldAfter : TableState A → List (Difference A) → Type 0
+  HoldAfter table [] = Unit {0}
+  HoldAfter table (d ∷ ds) = (get fields_cmp table.keyed d.key ≡ d.after) × HoldAfter table ds
 
   -- a database has the table of the name with the rows now; all else of the table is unchanged
   pub record RowsAfter (name : List ℕ) (table : TableState A) (ds : List (Difference A))
       (database : Tables A) : Type 0 where
     pub found : TableState A
     pub there : table_of database name ≡ Some found
-    pub rows : StandAfter found ds
+    pub rows : HoldAfter found ds
     pub other_rows : (key : Fields A) → AreApart key ds
         → get fields_cmp found.keyed key ≡ get fields_cmp table.keyed key
     pub loose : found.loose ≡ table.loose

@@ -1,4 +1,4 @@
-//! Laws of applying captured changes, over the definitions alone. The functions do nothing at run time.
+//! Laws of applying captured changes, and of every blob. The functions do nothing at run time.
 ghost use Rattle.std.specs.Prelude.{◌≡◌, ℕ, List, IfOk};
 ghost use Rattle.cap_database.specs.Tables.{AreRising, Tables, schema_of};
 ghost use Rattle.cap_codec.specs.declared.read.Contents.{Contents};
@@ -7,8 +7,18 @@ ghost use Rattle.cap_apply.specs.Difference as rows;
 ghost use Rattle.cap_apply.specs.Fitting.{FitsItsColumns};
 ghost use Rattle.cap_apply.specs.declared.policy.Policy.{Policy};
 
-use cap_database::tables_keep_order;
+use cap_codec::Contents;
 use cap_value::AllocHandle;
+
+/// A law of every blob: each group has a key column, and its changes fit its columns. The call does nothing.
+pub fn blob_fits_its_columns<A: AllocHandle>(blob: &Contents<A>)
+    ensures { FitsItsColumns blob.now }
+{
+    match blob {
+        Contents::Changes(list) => list.groups_fit(),
+        Contents::Patches(list) => list.groups_fit(),
+    }
+}
 
 /// Applying any blob under any policy keeps the columns of each table.
 pub fn applied_blobs_keep_columns<A: AllocHandle>()
@@ -22,5 +32,5 @@ pub fn applied_blobs_keep_order<A: AllocHandle>()
     ensures { (tables : Tables A) (blob : Contents A) (policy : Policy) → AreRising tables
         → FitsItsColumns blob → IfOk (apply tables blob policy) (λ left. AreRising left.database) }
 {
-    tables_keep_order::<A>();
+    cap_database::laws::tables_keep_order::<A>();
 }

@@ -26,7 +26,7 @@ use Rattle.cap_codec.specs.Writable.{has_some}
 use Rattle.cap_codec.specs.declared.read.Contents.{Contents}
 use Rattle.cap_codec.specs.declared.read.Contents.TheVariants.{Changes, Patches}
 use Rattle.cap_apply.specs.Captured.{AllBefore, AllDiffer, TableRows, changes_of}
-use Rattle.cap_apply.specs.Difference.{Difference, IsUnder, StandBefore}
+use Rattle.cap_apply.specs.Difference.{Difference, HoldBefore, IsUnder}
 use Rattle.cap_apply.specs.Fitting.{FitsItsColumns}
 
 -- what each entry says that bytes spell
@@ -75,18 +75,18 @@ module _ {A : Type 0} where
 
   -- ---- those of a table
 
-  differences-fit : (flags : List Bool) (table : TableState A) (ds : List (Difference A)) → StandBefore flags table ds
+  differences-fit : (flags : List Bool) (table : TableState A) (ds : List (Difference A)) → HoldBefore flags table ds
       → AllByRecursion (λ change. change_fits flags change ≡ true) (map (λ (d : Difference A). d.change) ds)
-  differences-fit flags table [] stand = tt
-  differences-fit flags table (d ∷ ds) stand =
-      ((difference-fits flags d.key stand.0.change.0 d.before d.after d.change stand.0.before stand.0.after stand.0.change.1).1, differences-fit flags table ds stand.3)
+  differences-fit flags table [] hold = tt
+  differences-fit flags table (d ∷ ds) hold =
+      ((difference-fits flags d.key hold.0.change.0 d.before d.after d.change hold.0.before hold.0.after hold.0.change.1).1, differences-fit flags table ds hold.3)
 
-  table-fits : (t : TableRows A) (ds : List (Difference A)) → has_some ds ≡ true → StandBefore t.table.schema t.table ds
+  table-fits : (t : TableRows A) (ds : List (Difference A)) → has_some ds ≡ true → HoldBefore t.table.schema t.table ds
       → IsFitting change_fits (record { table = t.name; schema = t.table.schema; changes = map (λ (d : Difference A). d.change) ds })
-  table-fits t [] some stand = cc
-  table-fits t (d ∷ ds) some stand = record {
-    keyed = (difference-fits t.table.schema d.key stand.0.change.0 d.before d.after d.change stand.0.before stand.0.after stand.0.change.1).0;
-    each = All-from_recursion (λ change. change_fits t.table.schema change ≡ true) (map (λ (d : Difference A). d.change) (d ∷ ds)) (differences-fit t.table.schema t.table (d ∷ ds) stand);
+  table-fits t [] some hold = cc
+  table-fits t (d ∷ ds) some hold = record {
+    keyed = (difference-fits t.table.schema d.key hold.0.change.0 d.before d.after d.change hold.0.before hold.0.after hold.0.change.1).0;
+    each = All-from_recursion (λ change. change_fits t.table.schema change ≡ true) (map (λ (d : Difference A). d.change) (d ∷ ds)) (differences-fit t.table.schema t.table (d ∷ ds) hold);
   }
 
   tables-fit : (ts : List (TableRows A)) (database : Tables A) → AllBefore ts database → AllDiffer ts → AllByRecursion (IsFitting change_fits) (map changes_of ts)

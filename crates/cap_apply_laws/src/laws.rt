@@ -25,7 +25,6 @@ ghost use Rattle.cap_apply.specs.Target.{target};
 ghost use Rattle.cap_apply.specs.Captured.{AllBefore, AllDiffer, GivesAllRowsNow, TableRows, changes_of};
 ghost use Rattle.cap_apply.specs.declared.policy.Policy.{Policy};
 
-use cap_database::tables_keep_order;
 use cap_value::AllocHandle;
 
 /// A captured changeset, applied where each key has its first image, gives the rows now, under any policy: no
@@ -115,7 +114,7 @@ pub fn changes_are_made_by_operations<A: AllocHandle>()
         → FitsItsColumns blob → IfOk (apply tables blob policy) (λ left. (ops : List (Op A))
         × (run tables ops ≡ Ok (record { database = left.database; changes = left.changes }))) }
 {
-    tables_keep_order::<A>();
+    cap_database::laws::tables_keep_order::<A>();
 }
 
 /// The first change of each row by a blob carries the row that was there before the blob, or its absence.

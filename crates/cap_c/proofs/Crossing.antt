@@ -20,9 +20,9 @@ use Rattle.cap_database.proofs.change.Change.TheSendSync as change
 use Rattle.cap_database.proofs.op.Op.TheSendSync as op
 use Rattle.cap_txn.proofs.Crossing.{batch_send}
 use Rattle.cap_txn.proofs.item.Item.TheSendSync as item
-use Rattle.cap_txn.specs.contracts.look.Answer as Answer
-use Rattle.cap_txn.specs.contracts.look.Asked as Asked
-use Rattle.cap_txn.specs.contracts.look.Look as Look
+use Rattle.cap_txn.specs.contracts.answered_call.Answer as Answer
+use Rattle.cap_txn.specs.contracts.answered_call.Asked as Asked
+use Rattle.cap_txn.specs.contracts.answered_call.AnsweredCall as AnsweredCall
 use Rattle.cap_txn.specs.contracts.savepoint.Savepoint as Savepoint
 use Rattle.cap_txn.specs.contracts.txn.Txn as Txn
 use Rattle.cap_txn.specs.contracts.workspace.Workspace as Workspace
@@ -63,8 +63,8 @@ module _ (A : RattleType) (h : handle.Ghosts A.Denot) (a : allocator.Ghosts A.De
   answer_field_send : IsSend (Answer.the_field A h a c).row
   answer_field_send = enum_send (shape (Answer.the_type A h a c)) answer_send
 
-  look_send : IsSend (Look.the_row A h a c)
-  look_send = search (asked_field_send, answer_field_send, sendable) depth 20
+  answered_call_send : IsSend (AnsweredCall.the_row A h a c)
+  answered_call_send = search (asked_field_send, answer_field_send, sendable) depth 20
 
   savepoint_send : IsSend (Savepoint.the_row A h a c)
   savepoint_send = search (database_send, sendable) depth 20
@@ -73,7 +73,7 @@ module _ (A : RattleType) (h : handle.Ghosts A.Denot) (a : allocator.Ghosts A.De
   workspace_send = search (snapshot_send, database_send, savepoint_send, op.the_send, op.the_field_send, sendable, owned) depth 40 fits 100000
 
   txn_send : IsSend (Txn.the_row A h a c)
-  txn_send = search (workspace_send, tree_send, item.the_send, item.the_sync, item.the_field_send, look_send, sendable, owned) depth 40 fits 100000
+  txn_send = search (workspace_send, tree_send, item.the_send, item.the_sync, item.the_field_send, answered_call_send, sendable, owned) depth 40 fits 100000
 
   capture_send : IsSend (Capture.the_row A h a c)
   capture_send = search (database_send, session_send, sendable) depth 40 fits 100000

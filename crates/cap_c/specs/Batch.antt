@@ -5,4 +5,4 @@ use Rattle.cap_txn.specs.Batch.{BatchState}
 
 -- without operations, on this version alone, or on any
 abbrev pub batch_on : Option ℕ → BatchState Global
-batch_on version = record { base = version; ops = []; seen = None }
+batch_on version = record { base = version; ops = []; reads = None }

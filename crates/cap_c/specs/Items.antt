@@ -22,7 +22,7 @@ info_of item = record { kind = kind_number (item_kind item); id = id_in item }
 
 -- the item of this number, which a batch has that a transaction made
 abbrev pub item_of : BatchState Global → ℕ → Option (Item Global)
-item_of batch at = slice_get (footprint_of batch.seen) at
+item_of batch at = slice_get (footprint_of batch.reads) at
 
 -- the record of its key
 abbrev pub key_bytes : Item Global → List ℕ

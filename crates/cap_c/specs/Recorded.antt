@@ -9,8 +9,8 @@ use Rattle.cap_database.specs.declared.cause.Cause.{Cause}
 use Rattle.cap_database.specs.declared.op.Op.{Op}
 use Rattle.cap_txn.specs.Batch.{BatchState, push, refused_push}
 use Rattle.cap_txn.specs.Transaction.{IsAnswered, IsNewMark, TxnState, batch_of}
-use Rattle.cap_txn.specs.declared.look.Answer.TheVariants as answered
-use Rattle.cap_txn.specs.declared.look.Asked.TheVariants as asked
+use Rattle.cap_txn.specs.declared.answered_call.Answer.TheVariants as answered
+use Rattle.cap_txn.specs.declared.answered_call.Asked.TheVariants as asked
 use Rattle.cap_txn.specs.declared.savepoint.Mark.{Mark}
 use Rattle.cap_records.specs.Arguments.{row_misuse, table_misuse}
 use Rattle.cap_records.specs.Fault.{HandsOn}
@@ -137,13 +137,13 @@ pub record Makes (said : Result (Op Global) RecordFault) (misuse : Option Record
 -- the rows of a transaction as it stands; the call is the last of its trace
 pub record Gets (table key : List ℕ) (id : ℕ) (old new : TxnState Global)
     (answer : Result RowCursorState (Fault RecordFault)) : Type 0 where
-  pub rows : AnswersUnlessMemory answer (get_in old.standing.database table key id)
+  pub rows : AnswersUnlessMemory answer (get_in old.workspace.database table key id)
   pub left : LeavesAsked old new (get_asked table key id) answer
   pub first : RefusesFirst (row_misuse table key id) answer
 
 pub record Scans (table : List ℕ) (old new : TxnState Global)
     (answer : Result RowCursorState (Fault RecordFault)) : Type 0 where
-  pub rows : AnswersUnlessMemory answer (scan_in old.standing.database table)
+  pub rows : AnswersUnlessMemory answer (scan_in old.workspace.database table)
   pub left : LeavesScanned old new (scan_asked table) answer
   pub first : RefusesFirst (table_misuse table) answer
 

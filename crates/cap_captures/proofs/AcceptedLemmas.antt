@@ -107,7 +107,7 @@ module _ {A : Type 0} where
 
   -- an accepted commit writes
   pub writes : (now : State A) (batch : BatchState A) → is_accepted (answer now (Commit batch)) ≡ true → (version : ℕ) × (answer now (Commit batch) ≡ reply.Written version)
-  writes now batch accepted = was-written now (stale batch.base batch.seen (snapshot_of now)) batch.ops accepted
+  writes now batch accepted = was-written now (stale batch.base batch.reads (snapshot_of now)) batch.ops accepted
 
   was-found : (found : Option (SessionState A)) (reply : SessionState A → Reply A) → is_accepted (session_answer found reply) ≡ true → is_some found ≡ true
   was-found None reply accepted = accepted

@@ -25,7 +25,7 @@ use Rattle.cap_codec.specs.declared.read.Contents.TheVariants.{Changes}
 use Rattle.cap_apply.specs.Applied.{AppliedState}
 use Rattle.cap_apply.specs.Apply.{apply}
 use Rattle.cap_apply.specs.Captured.{AllAfter, AllBefore, AllDiffer, AreOthers, GivesAllRowsNow, TableRows, changes_of as group_of_rows}
-use Rattle.cap_apply.specs.Difference.{AreApart, Difference, RowsAfter, StandAfter, StandBefore}
+use Rattle.cap_apply.specs.Difference.{AreApart, Difference, HoldAfter, HoldBefore, RowsAfter}
 use Rattle.cap_apply.specs.Fitting.{FitsItsColumns}
 use Rattle.cap_apply.specs.declared.policy.Policy.{Policy}
 use Rattle.cap_group.specs.ChangeKey.{change_key}
@@ -82,7 +82,7 @@ module _ {A : Type 0} (database main : Tables A) (rise : AreRising database) (ma
         (λ same. let clash : Equal ≡ Less = sym ((fields_cmp-Equal key (change_key flags change)).1 same) ∙ above.0 in cc, apart-sorted key changes above.1)
 
     stand-before : (table : TableState A) → table_of database name ≡ Some table → (changes : List (RowChange A)) → IsStrictlySortedBy fields_cmp (map (change_key flags) changes) → AllByRecursion Turned changes
-        → StandBefore flags table (map (difference name flags) changes)
+        → HoldBefore flags table (map (difference name flags) changes)
     unfolding IsStrictlySortedBy
     stand-before table found [] sorted turned = tt
     stand-before table found (change ∷ changes) sorted turned =
@@ -102,7 +102,7 @@ module _ {A : Type 0} (database main : Tables A) (rise : AreRising database) (ma
   back name flags (change ∷ changes) = ap (λ (l : List (RowChange A)). change ∷ l) (back name flags changes)
 
   -- at each key the table has main's row, or no change is of the key
-  in-changes : (found : TableState A) (name : List ℕ) (flags : List Bool) (changes : List (RowChange A)) → StandAfter found (map (difference name flags) changes) → (key : Fields A)
+  in-changes : (found : TableState A) (name : List ℕ) (flags : List Bool) (changes : List (RowChange A)) → HoldAfter found (map (difference name flags) changes) → (key : Fields A)
       → ((get fields_cmp found.keyed key ≡ row_at main name key) × (changes_of_row change_key flags key changes ≡ [] → ⊥)) ⊎ (AreApart key (map (difference name flags) changes) × (changes_of_row change_key flags key changes ≡ []))
   in-changes found name flags [] after key = inr (tt, refl)
   in-changes found name flags (change ∷ changes) after key =
@@ -148,7 +148,7 @@ module _ {A : Type 0} (database main : Tables A) (rise : AreRising database) (ma
       let differences = map (difference group.table group.schema) group.changes in (
         record {
           there = table.1;
-          rows = subst (λ s. StandBefore s table.0 differences) (sym table.2)
+          rows = subst (λ s. HoldBefore s table.0 differences) (sym table.2)
               (stand-before group.table group.schema all.0.here all.0.there table.0 table.1 group.changes all.0.sorted all.0.changes);
           ordered = ordered fields_cmp table.0.keyed (found-rising database group.table table.0 rise.each table.1).keys;
         },

@@ -14,7 +14,7 @@ use Rattle.cap_row.specs.Key.{fields_cmp, fields_cmp_total, fields_eq, fields_eq
 use Rattle.cap_tree.specs.Tree.{IsOrdered, get}
 use Rattle.cap_tree.proofs.EntryLemmas.{each_found, get-below}
 use Rattle.cap_table.specs.Table.{TableState}
-use Rattle.cap_table.specs.Sound.{keyed_stands}
+use Rattle.cap_table.specs.Sound.{is_keyed_row}
 use Rattle.cap_changes.specs.Change.{change_of}
 use Rattle.cap_changes.specs.Group.{TableChanges}
 use Rattle.cap_changes.specs.declared.row_change.RowChange.{RowChange}
@@ -30,7 +30,7 @@ use Rattle.cap_core.specs.Capture.{change_now, changes_of, group_of, table_chang
 use Rattle.cap_core.proofs.AppliedCaptureLemmas.{AreDistinct, found-rising, names_of, some-changes}
 use Rattle.cap_core.proofs.HistoryLemmas.{is_among}
 use Rattle.cap_core.proofs.SmallLemmas.{either_false, other_false}
-use Rattle.cap_core.proofs.SoundLemmas.{found-passes, stands-key_of, stands-wide}
+use Rattle.cap_core.proofs.SoundLemmas.{found-passes, is_keyed_row-key_of, is_keyed_row-wide}
 use Rattle.cap_core.proofs.TouchedLemmas.{fields_same}
 use Rattle.cap_captures.specs.Rows.{row_changes}
 use Rattle.cap_captures.proofs.ConcatLemmas.{other_name, own_key, some_same}
@@ -54,10 +54,10 @@ module _ {A : Type 0} where
   row-under tables rise name flags key known row is =
       let table = with-table flags (table_of tables name) known in
       let found : get fields_cmp table.0.keyed key ≡ Some row = ap (option_and_then (λ t. get fields_cmp t.keyed key)) (sym table.1) ∙ is in
-      let stands = found-passes fields_cmp (λ entry. keyed_stands table.0.schema entry.0 entry.1) fields_same table.0.keyed key row (found-rising tables name table.0 rise.each table.1).stand.keyed found in
+      let stands = found-passes fields_cmp (λ entry. is_keyed_row table.0.schema entry.0 entry.1) fields_same table.0.keyed key row (found-rising tables name table.0 rise.each table.1).sound.keyed found in
       record {
-        wide = stands-wide table.0.schema key row stands ∙ ap length table.2;
-        under = ap (λ flags. key_fields flags row) (sym table.2) ∙ key-from table.0.schema row key (stands-key_of table.0.schema key row stands);
+        wide = is_keyed_row-wide table.0.schema key row stands ∙ ap length table.2;
+        under = ap (λ flags. key_fields flags row) (sym table.2) ∙ key-from table.0.schema row key (is_keyed_row-key_of table.0.schema key row stands);
       }
 
   pub row-stands : (tables : Tables A) → AreRising tables → (name : List ℕ) (flags : List Bool) (key : Fields A) → schema_of tables name ≡ Some flags → IsUnder flags key (row_at tables name key)
@@ -67,8 +67,8 @@ module _ {A : Type 0} where
         | Some row ↦ λ is.
             let table = with-table flags (table_of tables name) known in
             let found : get fields_cmp table.0.keyed key ≡ Some row = ap (option_and_then (λ t. get fields_cmp t.keyed key)) (sym table.1) ∙ is in
-            let stands = found-passes fields_cmp (λ entry. keyed_stands table.0.schema entry.0 entry.1) fields_same table.0.keyed key row (found-rising tables name table.0 rise.each table.1).stand.keyed found in
-            (stands-wide table.0.schema key row stands ∙ ap length table.2, ap (λ flags. key_of flags row) (sym table.2) ∙ stands-key_of table.0.schema key row stands)
+            let stands = found-passes fields_cmp (λ entry. is_keyed_row table.0.schema entry.0 entry.1) fields_same table.0.keyed key row (found-rising tables name table.0 rise.each table.1).sound.keyed found in
+            (is_keyed_row-wide table.0.schema key row stands ∙ ap length table.2, ap (λ flags. key_of flags row) (sym table.2) ∙ is_keyed_row-key_of table.0.schema key row stands)
       ] refl
 
   -- ---- the records of a table

@@ -24,11 +24,6 @@ ghost use Rattle.cap_captures.specs.Captures.{AreUnrestarted, HasCaptureOver, as
 ghost use Rattle.cap_captures.specs.Captures.{first_row, session_over};
 ghost use Rattle.cap_captures.specs.Rows.{AreInARow, HasTogether, row_changes};
 
-use cap_apply::applied_blobs_keep_order;
-use cap_apply_laws::{
-    a_changeset_gives_the_rows_now, a_patchset_gives_the_rows_now, captures_fit_their_columns,
-};
-use cap_database::{tables_keep_columns, tables_keep_order};
 use cap_value::AllocHandle;
 
 /// Changesets of which each begins from the rows that the one before it leaves have a concatenation. It has
@@ -83,9 +78,9 @@ pub fn captures_in_a_row_are_the_one_capture<A: AllocHandle>()
         × (concat_of (map Changes (captures session (event ∷ later) start)) ≡ Ok (Changes groups))
         × HasCaptureOver session (event ∷ later) start groups }
 {
-    applied_blobs_keep_order::<A>();
-    tables_keep_columns::<A>();
-    tables_keep_order::<A>();
+    cap_apply::laws::applied_blobs_keep_order::<A>();
+    cap_database::laws::tables_keep_columns::<A>();
+    cap_database::laws::tables_keep_order::<A>();
 }
 
 /// Captures in a row, applied one after the other to a database that has, for each key touched over all of
@@ -114,10 +109,10 @@ pub fn the_concatenation_applies_as_its_captures<A: AllocHandle>()
         × GivesRows database (main (event ∷ later ++ start)) left.database
         (session_over session (event ∷ later) start).tables }
 {
-    a_changeset_gives_the_rows_now::<A>();
-    a_patchset_gives_the_rows_now::<A>();
-    applied_blobs_keep_order::<A>();
-    captures_fit_their_columns::<A>();
-    tables_keep_columns::<A>();
-    tables_keep_order::<A>();
+    cap_apply_laws::laws::a_changeset_gives_the_rows_now::<A>();
+    cap_apply_laws::laws::a_patchset_gives_the_rows_now::<A>();
+    cap_apply::laws::applied_blobs_keep_order::<A>();
+    cap_apply_laws::laws::captures_fit_their_columns::<A>();
+    cap_database::laws::tables_keep_columns::<A>();
+    cap_database::laws::tables_keep_order::<A>();
 }

@@ -14,13 +14,9 @@ ghost use Rattle.cap_core.specs.Past.{HasRoom};
 ghost use Rattle.cap_captures.specs.Parts.{AreAccepted, CanBeInParts, IsCapture, IsCommit, IsInParts};
 ghost use Rattle.cap_captures.specs.Parts.{IsLeftBy, MadeWhere, capturing, enabling, restarting};
 
-use crate::laws::{
-    captures_in_a_row_are_the_one_capture, the_concatenation_applies_as_its_captures,
-    the_one_capture_is_without_restarts,
-};
+use crate::laws;
 use cap_codec::{Contents, read_blob};
 use cap_core::{Capture, Command, Core, EVENTS_MAX, Reply, SessionCommand};
-use cap_core_laws::bytes_of_a_capture_give_the_rows_now;
 use cap_group::concat;
 use cap_session::SessionChange;
 use cap_value::{AllocHandle, Fault, OutOfMemory};
@@ -65,10 +61,10 @@ pub fn captured_in_two_parts<A: AllocHandle>(
     ensures none { (h : List (Event A)) → IsLeftBy h core.now →
         IfOk result (λ made. IfNone made (CanBeInParts h session first.now second.now → ⊥)) }
 {
-    bytes_of_a_capture_give_the_rows_now::<A>();
-    captures_in_a_row_are_the_one_capture::<A>();
-    the_concatenation_applies_as_its_captures::<A>();
-    the_one_capture_is_without_restarts::<A>();
+    cap_core_laws::laws::bytes_of_a_capture_give_the_rows_now::<A>();
+    laws::captures_in_a_row_are_the_one_capture::<A>();
+    laws::the_concatenation_applies_as_its_captures::<A>();
+    laws::the_one_capture_is_without_restarts::<A>();
     let Some(start) = enabled(core, session)? else {
         return Ok(None);
     };

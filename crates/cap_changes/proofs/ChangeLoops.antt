@@ -1,21 +1,14 @@
 -- Reading the changes of a group one after the other, as a loop does.
-use Rattle.std.proofs.Common.{◌≡◌, ℕ, zero, suc, ◌+◌, ◌-◌, ◌<◌, ◌≤◌, Bool, true, false, List, [], ◌∷◌, ◌++◌, length, take, drop, get_or, Result, Ok, Err, refl, sym, ap, subst, ◌∙◌, append_assoc, add-one, drop-cons, length-append, length-drop, length-take, arith}
+use Rattle.std.proofs.Common.{◌≡◌, ℕ, zero, suc, ◌-◌, ◌<◌, ◌≤◌, Bool, true, false, List, [], ◌∷◌, ◌++◌, length, take, drop, get_or, Result, Ok, Err, refl, sym, ap, subst, ◌∙◌, append_assoc, length-append, length-drop, length-take, arith}
 use Rattle.std.proofs.lemmas.List.{append-nil, take_all}
 use Rattle.cap_changes.specs.Entries.{TableEntries}
-use Rattle.cap_changes.specs.declared.field_requirement.FieldRequirement.{FieldRequirement}
 use Rattle.cap_field.specs.declared.fault.BlobFault.{BlobFault}
-use Rattle.cap_changes.specs.declared.record_kind.RecordKind.{RecordKind}
-use Rattle.cap_changes.specs.Requirements.{requirement_of, requirements}
 use Rattle.cap_field.specs.Reading.{◌>>=◌}
 use Rattle.cap_changes.specs.Operation.{is_operation}
 use Rattle.cap_changes.specs.ChangeReading.{behind, changes_at, with_changes}
 use Rattle.cap_changes.specs.Stored.{IsEntry, IsPassed, normal}
 use Rattle.cap_changes.proofs.PassLemmas.{fault_of}
 use Rattle.cap_row.proofs.EncodingLemmas.{before_rest}
-
-pub requirements-cons : (record_kind : RecordKind) (flags : List Bool) (i : ℕ) (requirement : FieldRequirement) → i < length flags → requirement ≡ requirement_of record_kind (get_or flags i false)
-    → requirements record_kind (drop i flags) ≡ requirement ∷ requirements record_kind (drop (i + 1) flags)
-requirements-cons record_kind flags i requirement lt e = rw (e, add-one, drop-cons flags i false) refl
 
 -- ---- the changes of a group, of which at most `most` are left to read
 

@@ -23,7 +23,10 @@ pub enum FieldRequirement {
 
 /// The requirement on a field of the new record of an UPDATE, by its old field: a key field is in the old
 /// record only, any other field in both records or in neither.
-pub fn requirement_beside<A: AllocHandle>(key: bool, old: Option<ValueRef<'_>>) -> FieldRequirement
+pub(crate) fn requirement_beside<A: AllocHandle>(
+    key: bool,
+    old: Option<ValueRef<'_>>,
+) -> FieldRequirement
     ensures { result ≡ new_requirement {A = A} (key, field_of old.entry) }
 {
     if key || old.is_none() {

@@ -28,7 +28,7 @@ pub use entry::Entry;
 pub use entry_ref::EntryRef;
 pub use field::take_field;
 pub use field_record::FieldRecord;
-pub use field_requirement::{FieldRequirement, requirement_beside};
+pub use field_requirement::FieldRequirement;
 pub use group::{Group, PatchGroup, TableGroup};
 pub use inverse::invert;
 pub use list::{ChangeList, GroupList, PatchList};

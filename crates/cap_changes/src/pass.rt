@@ -6,8 +6,9 @@ ghost use Rattle.cap_changes.specs.RecordReading.{record_at, old_in};
 ghost use Rattle.cap_changes.specs.ChangeReading.{behind};
 ghost use Rattle.cap_changes.specs.declared.record_kind.RecordKind.TheVariants.{Keyed};
 
+use crate::RecordKind;
 use crate::field::{stored_field, take_field};
-use crate::{RecordKind, requirement_beside};
+use crate::field_requirement::requirement_beside;
 use cap_field::BlobFault;
 use cap_value::AllocHandle;
 

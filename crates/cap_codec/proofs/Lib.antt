@@ -5,8 +5,6 @@ pub mod KeyFlagLemmas
 pub mod BlobAgain
 pub mod SpelledBlob
 pub mod Steady
-pub mod FieldSteps
 pub mod Looking
-pub mod LookingSteps
 pub mod StreamLemmas
 pub mod WriteLemmas

@@ -122,7 +122,7 @@ module _ (A : Type 0) where
   present_stays total requirement bytes more =
       rw (same_place total bytes more) (stays_then bytes more (byte_at total bytes) (byte_at (total + length more) (bytes ++ more)) _ _ (byte_stays total bytes more) (λ kind. typed_stays total (place total bytes) requirement kind.0 kind.1 more))
 
-  pub field_stays : (total : ℕ) (requirement : FieldRequirement) (bytes more : List ℕ) → Stays bytes more (field_at {A = A} total requirement bytes) (field_at (total + length more) requirement (bytes ++ more))
+  field_stays : (total : ℕ) (requirement : FieldRequirement) (bytes more : List ℕ) → Stays bytes more (field_at {A = A} total requirement bytes) (field_at (total + length more) requirement (bytes ++ more))
   unfolding field_at
   field_stays total required.Omitted bytes more = (refl, ([], refl))
   field_stays total required.Key bytes more = present_stays total required.Key bytes more

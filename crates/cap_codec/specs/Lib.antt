@@ -3,7 +3,6 @@ pub mod Patchset
 pub mod HeaderReading
 pub mod BlobReading
 pub mod FirstByte
-pub mod ChangeLeft
 pub mod Writable
 pub mod Spelling
 pub mod Pieces

@@ -17,16 +17,17 @@ use std::marker::Model;
 
 /// An incremental decoder of a blob in pieces of any lengths.
 ///
-/// It keeps the bytes. `feed` scans each complete field of a change once and copies none; `finish` reads all
-/// bytes again. An incomplete field is scanned again with the next piece, and an incomplete header, of at
-/// most some 2,300 bytes, from its start.
+/// It keeps the bytes. `feed` scans each complete change once and copies none; `finish` reads all bytes again.
+/// A change or a header that is not complete is scanned again with the next piece, from its start. A value is
+/// passed by its length, but a text is looked at again, so a piece costs at most the fields of one change, the
+/// bytes of its texts, and what the piece completes.
 #[derive(Drop)]
 pub struct Decoder<A: AllocHandle> {
     alloc: A,
     // The bytes so far. None is added behind a fault.
     bytes: Vec<u8, A>,
-    // How far the bytes are scanned, from the first header on. `None` also after `OutOfMemory`: the next
-    // piece is then scanned with all bytes before it.
+    // How far the bytes are scanned. `None` also after `OutOfMemory`: the next piece is then scanned with all
+    // bytes before it.
     place: Option<ScanPosition<A>>,
     // The fault that was answered, if any.
     fault: Option<BlobFault>,

@@ -28,7 +28,8 @@ pub fn own_name<A: AllocHandle>(alloc: A, name: &str) -> Result<Name<A>, Fault<B
     }
 }
 
-fn set_flags<A: AllocHandle>(alloc: A, flags: &[u8]) -> Result<Vec<bool, A>, OutOfMemory>
+/// The key flags of these bytes: any but zero flags a key column.
+pub fn set_flags<A: AllocHandle>(alloc: A, flags: &[u8]) -> Result<Vec<bool, A>, OutOfMemory>
     ensures { IfOk result (λ set. set.items ≡ map is_set flags.now) }
 {
     flags.iter().map(|flag| *flag != 0).collect(alloc)

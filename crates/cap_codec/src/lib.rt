@@ -1,13 +1,11 @@
 //! Encoding and decoding of changesets and patchsets (The Session Extension, "Changeset Format").
 #![tactic(auto)]
 
-mod change_cursor;
 mod decoder;
 mod group;
 mod header;
 mod key_flags;
-mod kind;
-mod laws;
+pub mod laws;
 mod read;
 mod scan;
 mod stream;
@@ -22,7 +20,6 @@ pub use decoder::Decoder;
 pub use group::{own_name, own_schema};
 pub use header::{HeaderRef, take_header};
 pub use key_flags::KeyFlags;
-pub use laws::{key_flags_read_alike, read_is_spelled};
 pub use read::{Contents, read_blob, wrong_kind};
 pub use stream::{ReadFault, WriteFault, read_from, write_changes_to, write_patches_to};
 pub use writable::{changes_are_writable, patches_are_writable};

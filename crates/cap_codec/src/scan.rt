@@ -1,245 +1,138 @@
-//! Scanning a prefix of a blob, field by field: how far it is complete, and whether it has a fault that no
+//! Scanning a prefix of a blob, change by change: how far it is complete, and whether it has a fault that no
 //! further bytes can mend.
 
-ghost use Rattle.std.specs.Prelude.{◌≡◌, ◌≤◌, ◌∷◌, length, drop, None, Ok, IfOk, IfSome};
+ghost use Rattle.std.specs.Prelude.{◌≡◌, ◌<◌, ◌≤◌, length, get_or, Err, IfOk, IfSome, OnErr};
 ghost use Rattle.cap_value.specs.Memory.{ShowsUnlessMemory};
-ghost use Rattle.cap_changes.specs.Operation.{operation_byte};
-ghost use Rattle.cap_codec.specs.Pieces.{columns_at, kind_byte, may_mend, IsPlace};
-ghost use Rattle.cap_codec.specs.Pieces.{Passes, Steps, GoesTo, Begins, Scans};
+ghost use Rattle.cap_value.specs.declared.memory.Fault.TheVariants.{Refused};
+ghost use Rattle.cap_field.specs.declared.fault.BlobFault.{BlobFault as Wrong};
+ghost use Rattle.cap_codec.specs.BlobReading.{blob_at};
+ghost use Rattle.cap_codec.specs.Pieces.{is_cut, lasting, kind_byte, part_at, IsPlace, Scans};
 
-use crate::change_cursor::ChangeCursor;
-use crate::group::own_schema;
+use crate::group::set_flags;
 use crate::header::take_header;
-use crate::kind::Kind;
 use crate::read::wrong_kind;
-use cap_changes::{CHANGESET_KIND, Operation, PATCHSET_KIND, take_field};
-use cap_field::{BlobFault, FaultKind, place_of};
-use cap_row::Schema;
+use cap_changes::{CHANGESET_KIND, Entry, Operation, PATCHSET_KIND, Patch, RowChange};
+use cap_field::{BlobFault, FaultKind, place_of, take_byte};
 use cap_value::{AllocHandle, Fault};
 
-/// A position up to which the headers and fields of a blob are complete and without a fault: between two
-/// changes, or inside one behind any of its fields.
+// Whether groups are of a changeset or of a patchset.
+#[derive(Clone, Copy)]
+enum Kind {
+    Changes,
+    Patches,
+}
+
+/// A position up to which the headers and changes of a blob are complete and without a fault.
 #[derive(Drop)]
 pub struct ScanPosition<A: AllocHandle> {
     // The kind of the blob's groups.
     kind: Kind,
-    // The columns of the current group.
-    schema: Schema<A>,
-    // The cursor inside a change, `None` between two.
-    within: Option<ChangeCursor<A>>,
+    // The key flags of the current group's columns, none before the first header.
+    flags: Vec<bool, A>,
     // How many bytes were scanned.
     at: usize,
 }
 
-// One step from a position between two changes.
-#[derive(Drop)]
-enum Advance<A: AllocHandle> {
-    // Behind a header, or into a change.
-    On(ScanPosition<A>),
-    // None: the bytes end before either.
-    Cut(ScanPosition<A>),
-}
-
 // Whether further bytes may mend the fault: the blob ends too early.
-fn is_cut(fault: &Fault<BlobFault>) -> bool
-    ensures { result ≡ may_mend fault.now }
+fn is_cut(fault: BlobFault) -> bool
+    ensures { result ≡ is_cut fault.kind }
 {
-    match fault {
-        Fault::Refused(fault) => fault.kind == FaultKind::Truncated,
-        Fault::OutOfMemory => false,
-    }
+    fault.kind == FaultKind::Truncated
 }
 
-// The columns of the header behind its kind byte, and the bytes behind the header.
-fn past_header<A: AllocHandle>(
+// Passes the next change or header in a group of these columns, and answers the bytes behind it.
+fn pass_part<'a, C: Entry, A: AllocHandle>(
     alloc: A,
     total: usize,
-    bytes: &[u8],
-) -> Result<(Schema<A>, &[u8]), Fault<BlobFault>>
-    ensures gives { ShowsUnlessMemory (λ x. (x.0, x.1.now)) result (columns_at total bytes.now) }
-    ensures behind { IfOk result (λ x. length x.1.now ≤ length bytes.now) }
+    flags: &mut Vec<bool, A>,
+    bytes: &'a [u8],
+) -> Result<&'a [u8], Fault<BlobFault>>
+    ensures gives { ShowsUnlessMemory (λ rest. (flags.new.items, rest.now)) result
+        (part_at C.one_at C.kind total flags.old.items bytes.now) }
+    ensures kept { OnErr result (flags.new ≡ flags.old) }
 {
-    let (header, rest) = take_header(total, bytes)?;
-    Ok((own_schema(alloc, header.flags)?, rest))
+    let (first, behind) = take_byte(total, bytes)?;
+    if let Some(operation) = Operation::of(first) {
+        return Ok(C::pass(total, flags.as_slice(), operation, behind)?);
+    }
+    if first != C::kind() {
+        return Err(Fault::Refused(wrong_kind(first, place_of(total, bytes))));
+    }
+    let (header, rest) = take_header(total, behind)?;
+    *flags = set_flags(alloc, header.flags)?;
+    Ok(rest)
 }
 
-// Passes the fields of the current change, as far as they are complete.
-fn past_fields<A: AllocHandle>(
+// Moves the position behind the next change or header. Refused with the fault that it has.
+fn advance<A: AllocHandle>(
+    alloc: A,
     bytes: &[u8],
-    place: ScanPosition<A>,
-) -> Result<ScanPosition<A>, Fault<BlobFault>>
-    requires { IsPlace bytes.now place }
-    ensures { Passes result bytes.now place.at }
+    place: &mut ScanPosition<A>,
+) -> Result<(), Fault<BlobFault>>
+    requires { IsPlace bytes.now place.old }
+    ensures place { IsPlace bytes.now place.new }
+    ensures on { IfOk result (λ _. place.old.at < place.new.at) }
+    ensures fault { (fault : Wrong) → result ≡ Err (Refused fault) →
+        lasting (blob_at {A = A} bytes.now) ≡ lasting {X = Unit {0}} (Err fault) }
 {
     let total = bytes.len();
-    let mut place = place;
-    let Some(mut inside) = place.within.take() else {
-        return Ok(place);
-    };
-    let mut rest = &bytes[place.at..];
-    while let Some(requirement) = inside.requirement(place.schema.flags()) {
-        match take_field::<A>(total, requirement, rest) {
-            Ok((field, after)) => {
-                inside.pass(place.schema.flags(), field)?;
-                rest = after;
-            }
-            Err(fault) => {
-                let fault = Fault::Refused(fault);
-                if !is_cut(&fault) {
-                    return Err(fault);
-                }
-                place.within = Some(inside);
-                break;
-            }
-        }
-    }
-    place.at = place_of(total, rest);
-    Ok(place)
-}
-
-// Enters a change of which the operation byte was read, where its indirect flag is there too.
-fn into_change<A: AllocHandle>(
-    alloc: A,
-    bytes: &[u8],
-    place: ScanPosition<A>,
-    operation: Operation,
-    behind: &[u8],
-) -> Advance<A>
-    requires is { IsPlace bytes.now place }
-    requires between { place.within ≡ None }
-    requires parts { drop place.at bytes.now ≡ operation_byte operation ∷ behind.now }
-    ensures { Steps (Ok result) bytes.now place.at }
-{
-    match behind {
-        [] => Advance::Cut(place),
-        [_, inside @ ..] => Advance::On(ScanPosition {
-            kind: place.kind,
-            schema: place.schema,
-            within: Some(ChangeCursor::new(alloc, place.kind, operation)),
-            at: place_of(bytes.len(), inside),
-        }),
-    }
-}
-
-// Passes a header of which the kind byte was read, where it is complete.
-fn over_header<A: AllocHandle>(
-    alloc: A,
-    bytes: &[u8],
-    place: ScanPosition<A>,
-    behind: &[u8],
-) -> Result<Advance<A>, Fault<BlobFault>>
-    requires is { IsPlace bytes.now place }
-    requires between { place.within ≡ None }
-    requires parts { drop place.at bytes.now ≡ kind_byte place.kind ∷ behind.now }
-    ensures { Steps result bytes.now place.at }
-{
-    match past_header(alloc, bytes.len(), behind) {
-        Ok((schema, rest)) => Ok(Advance::On(ScanPosition {
-            kind: place.kind,
-            schema,
-            within: None,
-            at: place_of(bytes.len(), rest),
-        })),
-        Err(fault) => {
-            if is_cut(&fault) {
-                return Ok(Advance::Cut(place));
-            }
-            Err(fault)
-        }
-    }
-}
-
-// Enters the next change, or passes the next header.
-fn next_place<A: AllocHandle>(
-    alloc: A,
-    bytes: &[u8],
-    place: ScanPosition<A>,
-) -> Result<Advance<A>, Fault<BlobFault>>
-    requires is { IsPlace bytes.now place }
-    requires between { place.within ≡ None }
-    ensures { Steps result bytes.now place.at }
-{
     let rest = &bytes[place.at..];
-    match rest {
-        [] => Ok(Advance::Cut(place)),
-        [first, behind @ ..] => {
-            if let Some(operation) = Operation::of(*first) {
-                return Ok(into_change(alloc, bytes, place, operation, behind));
-            }
-            if *first != place.kind.byte() {
-                return Err(Fault::Refused(wrong_kind(*first, place.at)));
-            }
-            over_header(alloc, bytes, place, behind)
-        }
-    }
+    let rest = match place.kind {
+        Kind::Changes => pass_part::<RowChange<A>, A>(alloc, total, &mut place.flags, rest)?,
+        Kind::Patches => pass_part::<Patch<A>, A>(alloc, total, &mut place.flags, rest)?,
+    };
+    place.at = place_of(total, rest);
+    Ok(())
 }
 
-// Scans from a position, as far as the bytes are complete.
+// Scans from a position, as far as the changes and headers are complete.
 fn scan_from<A: AllocHandle>(
     alloc: A,
     bytes: &[u8],
     place: ScanPosition<A>,
-) -> Result<ScanPosition<A>, Fault<BlobFault>>
+) -> Result<Option<ScanPosition<A>>, Fault<BlobFault>>
     requires { IsPlace bytes.now place }
-    ensures { GoesTo result bytes.now }
+    ensures { Scans result bytes.now }
 {
-    let mut place = past_fields(bytes, place)?;
-    while place.within.is_none() {
-        match next_place(alloc, bytes, place)? {
-            Advance::On(next) => place = past_fields(bytes, next)?,
-            Advance::Cut(last) => return Ok(last),
+    let mut place = place;
+    loop {
+        match advance(alloc, bytes, &mut place) {
+            Ok(()) => {}
+            Err(Fault::Refused(fault)) => {
+                if is_cut(fault) {
+                    return Ok(Some(place));
+                }
+                return Err(Fault::Refused(fault));
+            }
+            Err(Fault::OutOfMemory) => return Err(Fault::OutOfMemory),
         }
     }
-    Ok(place)
 }
 
-// The position behind the first header, where it is complete.
-#[tactic(auto, unfolding(crate::specs::BlobReading::blob_at))]
-fn first_place<A: AllocHandle>(
-    alloc: A,
-    bytes: &[u8],
-) -> Result<Option<ScanPosition<A>>, Fault<BlobFault>>
-    ensures { Begins result bytes.now }
-{
-    match bytes {
-        [] => Ok(None),
-        [CHANGESET_KIND, behind @ ..] => place_behind(alloc, bytes, Kind::Changes, behind),
-        [PATCHSET_KIND, behind @ ..] => place_behind(alloc, bytes, Kind::Patches, behind),
-        _ => Err(Fault::Refused(BlobFault {
-            at: 0,
-            kind: FaultKind::BadHeader,
-        })),
-    }
-}
-
-// The position behind the first header, of which the kind byte was read.
-fn place_behind<A: AllocHandle>(
+// Scans from the first byte, which is that of the kind.
+fn scan_all<A: AllocHandle>(
     alloc: A,
     bytes: &[u8],
     kind: Kind,
-    behind: &[u8],
 ) -> Result<Option<ScanPosition<A>>, Fault<BlobFault>>
-    requires { bytes.now ≡ kind_byte kind ∷ behind.now }
-    ensures { Begins result bytes.now }
+    requires some { 1 ≤ length bytes.now }
+    requires first { get_or bytes.now 0 0 ≡ kind_byte kind }
+    ensures { Scans result bytes.now }
 {
-    match past_header(alloc, bytes.len(), behind) {
-        Ok((schema, rest)) => Ok(Some(ScanPosition {
+    scan_from(
+        alloc,
+        bytes,
+        ScanPosition {
             kind,
-            schema,
-            within: None,
-            at: place_of(bytes.len(), rest),
-        })),
-        Err(fault) => {
-            if is_cut(&fault) {
-                return Ok(None);
-            }
-            Err(fault)
-        }
-    }
+            flags: Vec::new(alloc),
+            at: 0,
+        },
+    )
 }
 
 /// Scans what is complete of these bytes, from a position on. Refused with the fault that no further bytes
 /// can mend.
+#[tactic(auto, unfolding(crate::specs::BlobReading::blob_at))]
 pub fn scan<A: AllocHandle>(
     alloc: A,
     bytes: &[u8],
@@ -248,12 +141,16 @@ pub fn scan<A: AllocHandle>(
     requires { IfSome place (IsPlace bytes.now) }
     ensures { Scans result bytes.now }
 {
-    let place = match place {
-        Some(place) => Some(place),
-        None => first_place(alloc, bytes)?,
-    };
-    match place {
-        Some(place) => Ok(Some(scan_from(alloc, bytes, place)?)),
-        None => Ok(None),
+    if let Some(place) = place {
+        return scan_from(alloc, bytes, place);
+    }
+    match bytes {
+        [] => Ok(None),
+        [CHANGESET_KIND, ..] => scan_all(alloc, bytes, Kind::Changes),
+        [PATCHSET_KIND, ..] => scan_all(alloc, bytes, Kind::Patches),
+        _ => Err(Fault::Refused(BlobFault {
+            at: 0,
+            kind: FaultKind::BadHeader,
+        })),
     }
 }

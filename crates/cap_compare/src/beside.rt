@@ -1,5 +1,5 @@
 //! Iteration over two trees in step.
-ghost use Rattle.std.specs.Prelude.{◌≡◌, List, length};
+ghost use Rattle.std.specs.Prelude.{◌≡◌, length};
 ghost use Rattle.std.specs.Iterator.{at_most};
 ghost use Rattle.std.specs.Map.Iter.{ShowsInOrder, TakesFirst};
 ghost use Rattle.cap_tree.specs.Tree.{IsOrdered, get};
@@ -88,13 +88,3 @@ impl<'a, K: Ord, V, W, A: AllocHandle> Iterator for Beside<'a, K, V, W, A> {
 }
 
 impl<'a, K: Ord, V, W, A: AllocHandle> FusedIterator for Beside<'a, K, V, W, A> {}
-
-/// A law: merging two lists of entries keeps the keys in order, and pairs each key with its value in either
-/// list. It does nothing at run time.
-pub fn entries_stand_beside<K: Ord, V, W>()
-    ensures ordered { (first : List (K × V)) (second : List (K × W)) → IsOrdered K.cmp first →
-        IsOrdered K.cmp (beside K.cmp first second) }
-    ensures each { (first : List (K × V)) (second : List (K × W)) → IsOrdered K.cmp second → (key : K) →
-        get K.cmp (beside K.cmp first second) key
-        ≡ both_at (get K.cmp first key) (get K.cmp second key) }
-{}

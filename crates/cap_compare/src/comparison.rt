@@ -6,7 +6,7 @@ ghost use Rattle.cap_value.specs.Memory.{RefusesFirst, ShowsUnlessMemory};
 ghost use Rattle.cap_table.specs.Table.{TableState};
 ghost use Rattle.cap_compare.specs.Compare.{AreDifferences, compare, differences, difference_at, image_at};
 
-use crate::{Beside, Difference, differences_are_just_those};
+use crate::{Beside, Difference, laws};
 use cap_row::{Key, Row};
 use cap_table::Table;
 use cap_tree::Tree;
@@ -37,7 +37,7 @@ pub fn compare<A: AllocHandle>(
             let found = differences(alloc, from.keyed(), to.keyed())?;
             // The numbers of rows show that their keys rise.
             let _rows = (from.keyed().len(), to.keyed().len());
-            differences_are_just_those::<A>();
+            laws::differences_are_just_those::<A>();
             Ok(found)
         }
         None => Err(Fault::Refused(Refusal::Incompatible)),

@@ -4,11 +4,10 @@
 mod beside;
 mod comparison;
 mod difference;
-mod laws;
+pub mod laws;
 mod peekable;
 
-pub use beside::{Beside, entries_stand_beside};
+pub use beside::Beside;
 pub use comparison::compare;
 pub use difference::Difference;
-pub use laws::{a_table_does_not_differ_from_itself, differences_are_just_those};
 pub use peekable::Peekable;

@@ -18,7 +18,7 @@ use Rattle.cap_database.specs.Outcome.{OutcomeState}
 use Rattle.cap_database.specs.Snapshot.{SnapshotState}
 use Rattle.cap_database.specs.Tables.{Tables}
 use Rattle.cap_database.specs.declared.op.Op.{Op}
-use Rattle.cap_txn.specs.Standing.{Leaves}
+use Rattle.cap_txn.specs.Sound.{Leaves}
 use Rattle.cap_txn.specs.Transaction.{TxnState, batch_of}
 use Rattle.cap_field.specs.declared.fault.BlobFault.{BlobFault}
 use Rattle.cap_apply.specs.declared.policy.Answer.{Answer}
@@ -44,12 +44,12 @@ same_outcome base left after ops a b =
     let P : OutcomeState Global → Type 0 = λ o. o.database ≡ a.outcome.database in
     sym b.leaves ∙ IfOk-at_ok P b.runs (subst (λ r. IfOk r P) (sym a.runs) refl) ∙ a.leaves
 
-pub makes-rows : (base : SnapshotState Global) (s : ApplierState Global) (txn : TxnState Global) → Leaves base.database txn.standing.ops txn.standing.database
-    → SameRows s.progress.applied.database txn.standing.database → MakesItsRows (record { base = base; applier = Some s }) (batch_of txn)
+pub makes-rows : (base : SnapshotState Global) (s : ApplierState Global) (txn : TxnState Global) → Leaves base.database txn.workspace.ops txn.workspace.database
+    → SameRows s.progress.applied.database txn.workspace.database → MakesItsRows (record { base = base; applier = Some s }) (batch_of txn)
 makes-rows base s txn leaves same = record {
-  after = txn.standing.database;
+  after = txn.workspace.database;
   accepted = leaves;
-  rows = λ after left. subst (SameRows s.progress.applied.database) (sym (same_outcome base.database txn.standing.database after txn.standing.ops leaves left)) same;
+  rows = λ after left. subst (SameRows s.progress.applied.database) (sym (same_outcome base.database txn.workspace.database after txn.workspace.ops leaves left)) same;
 }
 
 -- ---- where memory runs out, it is over

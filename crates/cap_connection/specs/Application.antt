@@ -14,7 +14,7 @@ use Rattle.cap_filter.specs.Rule.{Rule}
 use Rattle.cap_database.specs.Snapshot.{SnapshotState}
 use Rattle.cap_database.specs.Tables.{Tables}
 use Rattle.cap_txn.specs.Batch.{BatchState}
-use Rattle.cap_txn.specs.Standing.{Leaves}
+use Rattle.cap_txn.specs.Sound.{Leaves}
 use Rattle.cap_txn.specs.Transaction.{TxnState, batch_of}
 use Rattle.cap_codec.specs.BlobReading.{blob_at}
 use Rattle.cap_field.specs.declared.fault.BlobFault.{BlobFault}

@@ -82,7 +82,7 @@ Captures asked old new = Gives captured_in asked old new
 
 -- without operations, on any version
 abbrev pub blind : BatchState Global
-blind = record { base = None; ops = []; seen = None }
+blind = record { base = None; ops = []; reads = None }
 
 -- The batch is committed, and is blind after that. One that is refused, or has no reply, is as it was.
 pub record Commits (before after : BatchState Global) (old new : ConnectionState)

@@ -16,10 +16,7 @@ use crate::iter_fields::{ChangeHead, head_at, schema_at, table_at};
 use crate::iter_position::Position;
 use crate::iter_record::{Side, side_record};
 use crate::replies::Applied;
-use cap_applier::{
-    Applier, MergeRefusal, RowConflict, a_transaction_leaves_what_the_application_left,
-    applications_keep_to_the_rows_that_they_look_at,
-};
+use cap_applier::{Applier, MergeRefusal, RowConflict};
 use cap_apply::{Answer, ConflictKind};
 use cap_codec::{BlobFault, Contents, KeyFlags, read_blob, write_changes_with};
 use cap_database::Snapshot;
@@ -219,7 +216,7 @@ impl Application {
     pub fn answer(&mut self, answer: Answer) -> Result<(), Fault<ApplicationFault>>
         ensures { AnswersWith answer self.old self.new result }
     {
-        applications_keep_to_the_rows_that_they_look_at::<Global>();
+        cap_applier::laws::applications_keep_to_the_rows_that_they_look_at::<Global>();
         if self.conflict().is_none() {
             return Err(Fault::Refused(ApplicationFault::Misuse));
         }
@@ -244,7 +241,7 @@ impl Application {
     pub fn answer_row(&mut self, alloc: Global, row: &[u8]) -> Result<(), Fault<ApplicationFault>>
         ensures { MergesRow row.now self.old self.new result }
     {
-        applications_keep_to_the_rows_that_they_look_at::<Global>();
+        cap_applier::laws::applications_keep_to_the_rows_that_they_look_at::<Global>();
         let row = match self.standing() {
             Some(applier) => merged_row(alloc, applier, row)?,
             None => return Err(Fault::Refused(ApplicationFault::Misuse)),
@@ -270,15 +267,15 @@ impl Application {
         // On the snapshot its operations are accepted, and leave the rows that the application left.
         ensures left { IfOk result (MakesItsRows self.now) }
     {
-        a_transaction_leaves_what_the_application_left::<Global>();
-        self.base.database().rows_stand();
+        cap_applier::laws::a_transaction_leaves_what_the_application_left::<Global>();
+        self.base.database().sound_rows_law();
         let Some(applier) = &self.applier else {
             return Err(Fault::Refused(ApplicationFault::Misuse));
         };
         if applier.conflict().is_some() {
             return Err(Fault::Refused(ApplicationFault::Misuse));
         }
-        applier.applied().database().rows_stand();
+        applier.applied().database().sound_rows_law();
         match applier.transaction(&self.base) {
             Ok(txn) => Ok(txn.into_batch()),
             Err(Fault::Refused(why)) => Err(Fault::Refused(ApplicationFault::Refused(why))),
@@ -345,7 +342,7 @@ impl Application {
     ) -> Result<Self, OutOfMemory>
         ensures { IfOk result (BeginsOf snapshot.now blob filter) }
     {
-        applications_keep_to_the_rows_that_they_look_at::<Global>();
+        cap_applier::laws::applications_keep_to_the_rows_that_they_look_at::<Global>();
         let applier = Applier::new(alloc, snapshot.database(), blob, filter)?;
         Ok(Application {
             base: snapshot.copy()?,

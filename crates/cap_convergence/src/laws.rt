@@ -14,7 +14,6 @@ ghost use Rattle.cap_convergence.specs.Convergence.{AreAppliedInTurn, Columns, H
 ghost use Rattle.cap_convergence.specs.Convergence.{HaveSameRows, IsAppliedWhole, LeadsFrom, RemoteChangeset};
 ghost use Rattle.cap_convergence.specs.Convergence.{Rows};
 
-use cap_apply::applied_blobs_keep_order;
 use cap_value::AllocHandle;
 
 /// A changeset, applied to a database that has the rows that it leads from, meets no conflict under any
@@ -56,7 +55,7 @@ pub fn a_rebased_changeset_leads_from_the_hub_to_the_client<A: AllocHandle>()
         → (rebased : List (TableChanges A)) × (rebase buffers local ≡ Ok rebased)
         × IsAppliedWhole columns (row_at last) main rebased policy }
 {
-    applied_blobs_keep_order::<A>();
+    cap_apply::laws::applied_blobs_keep_order::<A>();
 }
 
 /// A changeset over several buffers, if it is not refused, is what it is over the first of them and then over

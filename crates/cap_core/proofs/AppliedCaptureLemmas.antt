@@ -19,7 +19,7 @@ use Rattle.cap_changes.specs.Group.{TableChanges}
 use Rattle.cap_changes.specs.declared.row_change.RowChange.{RowChange}
 use Rattle.cap_changes.specs.declared.row_change.RowChange.TheVariants.{Update}
 use Rattle.cap_tree.specs.Tree.{IsOrdered, get}
-use Rattle.cap_table.specs.Sound.{IsRising, keyed_stands}
+use Rattle.cap_table.specs.Sound.{IsRising, is_keyed_row}
 use Rattle.cap_table.specs.Table.{TableState}
 use Rattle.cap_database.specs.Read.{row_at}
 use Rattle.cap_database.specs.Tables.{AreRising, Tables, schema_of, table_of}
@@ -30,7 +30,7 @@ use Rattle.cap_codec.specs.declared.read.Contents.TheVariants.{Changes, Patches}
 use Rattle.cap_apply.specs.Captured.{AllAfter, AllBefore, AllDiffer, AreOthers, GivesAllRowsNow, TableRows, changes_of as group_of_rows, total}
 use Rattle.cap_apply.specs.declared.policy.Policy.{Policy}
 use Rattle.cap_apply.specs.Fitting.{FitsItsColumns}
-use Rattle.cap_apply.specs.Difference.{AreApart, Difference, IsUnder, StandAfter, StandBefore}
+use Rattle.cap_apply.specs.Difference.{AreApart, Difference, HoldAfter, HoldBefore, IsUnder}
 use Rattle.cap_session.specs.declared.record.Record.{Record}
 use Rattle.cap_session.specs.Records.{Records}
 use Rattle.cap_session.specs.Sessions.{session_numbered}
@@ -50,7 +50,7 @@ use Rattle.cap_core.proofs.LawLemmas.{no_changes, truth}
 use Rattle.cap_core.proofs.NumberLemmas.{lookup-passing}
 use Rattle.cap_core.proofs.SessionLemmas.{kept}
 use Rattle.cap_core.proofs.SmallLemmas.{either_false, other_false}
-use Rattle.cap_core.proofs.SoundLemmas.{found-passes, stands-key_of, stands-wide}
+use Rattle.cap_core.proofs.SoundLemmas.{found-passes, is_keyed_row-key_of, is_keyed_row-wide}
 use Rattle.cap_core.proofs.TouchedLemmas.{fields_same, is_sorted-records_of, tied}
 
 -- ---- what is found among tables
@@ -68,8 +68,8 @@ module _ {A : Type 0} where
   under : (table : TableState A) → IsRising table → (key : Fields A) (row : Option (Fields A)) → get fields_cmp table.keyed key ≡ row → IsUnder table.schema key row
   under table rising key None found = tt
   under table rising key (Some row) found =
-      let stands = found-passes fields_cmp (λ entry. keyed_stands table.schema entry.0 entry.1) fields_same table.keyed key row rising.stand.keyed found in
-      (stands-wide table.schema key row stands, stands-key_of table.schema key row stands)
+      let stands = found-passes fields_cmp (λ entry. is_keyed_row table.schema entry.0 entry.1) fields_same table.keyed key row rising.sound.keyed found in
+      (is_keyed_row-wide table.schema key row stands, is_keyed_row-key_of table.schema key row stands)
 
   under-same : (flags schema : List Bool) (key : Fields A) (row : Option (Fields A)) → flags ≡ schema → IsUnder flags key row → IsUnder schema key row
   under-same flags schema key row same is = subst (λ s. IsUnder s key row) same is
@@ -151,7 +151,7 @@ module _ {A : Type 0} (database now : TableState A) where
         images touched.0 touched.1 (ap (λ b. cond b (Some touched.1) (get fields_cmp records touched.0)) (ap is_eq ((fields_cmp-Equal touched.0 touched.0).1 refl)))
 
     stand-one : (touched : Fields A × Record A) (records : Records A) (change : Option (RowChange A)) → change_now now touched ≡ change → IsOrdered fields_cmp (touched ∷ records) → Images (touched ∷ records)
-        → StandBefore database.schema database (differences records) → StandBefore database.schema database (cons_option (difference_at touched change) (differences records))
+        → HoldBefore database.schema database (differences records) → HoldBefore database.schema database (cons_option (difference_at touched change) (differences records))
     stand-one touched records None is s images rest = rest
     stand-one touched records (Some change) is s images rest =
         let image = image-first touched records images in (
@@ -165,7 +165,7 @@ module _ {A : Type 0} (database now : TableState A) where
           rest,
         )
 
-    pub stand-before : (records : Records A) → IsOrdered fields_cmp records → Images records → StandBefore database.schema database (differences records)
+    pub stand-before : (records : Records A) → IsOrdered fields_cmp records → Images records → HoldBefore database.schema database (differences records)
     stand-before [] s images = tt
     stand-before (touched ∷ records) s images =
         stand-one touched records (change_now now touched) refl s images (stand-before records (after-head touched records s) (images-later touched records s images))
@@ -173,18 +173,18 @@ module _ {A : Type 0} (database now : TableState A) where
     -- ---- what is left, by the differences
 
     module _ (found : TableState A) where
-      after-one : (touched : Fields A × Record A) (change : Option (RowChange A)) (ds : List (Difference A)) → StandAfter found (cons_option (difference_at touched change) ds) → StandAfter found ds
+      after-one : (touched : Fields A × Record A) (change : Option (RowChange A)) (ds : List (Difference A)) → HoldAfter found (cons_option (difference_at touched change) ds) → HoldAfter found ds
       after-one touched None ds after = after
       after-one touched (Some change) ds after = after.1
 
       after-here : (touched : Fields A × Record A) (change : RowChange A) (change_is : Option (RowChange A)) → change_is ≡ Some change → (ds : List (Difference A))
-          → StandAfter found (cons_option (difference_at touched change_is) ds) → get fields_cmp found.keyed touched.0 ≡ get fields_cmp now.keyed touched.0
+          → HoldAfter found (cons_option (difference_at touched change_is) ds) → get fields_cmp found.keyed touched.0 ≡ get fields_cmp now.keyed touched.0
       after-here touched change None is ds after = cc
       after-here touched change (Some other) is ds after = after.0
 
       -- a key whose row differs
       after-changed : (records : Records A) (key : Fields A) (kept : Record A) (change : RowChange A) → get fields_cmp records key ≡ Some kept → change_now now (key, kept) ≡ Some change
-          → StandAfter found (differences records) → get fields_cmp found.keyed key ≡ get fields_cmp now.keyed key
+          → HoldAfter found (differences records) → get fields_cmp found.keyed key ≡ get fields_cmp now.keyed key
       after-changed [] key kept change at is after = cc
       after-changed (touched ∷ records) key kept change at is after =
           elim (eq_by_cmp fields_cmp key touched.0) as (λ b. eq_by_cmp fields_cmp key touched.0 ≡ b → cond b (Some touched.1) (get fields_cmp records key) ≡ Some kept → get fields_cmp found.keyed key ≡ get fields_cmp now.keyed key) [
@@ -212,7 +212,7 @@ module _ {A : Type 0} (database now : TableState A) where
             | false ↦ λ apart e. apart-one key touched (change_now now touched) (differences records) apart (apart-unchanged records key kept (after-head touched records s) e none)
           ] refl at
 
-      pub rows-touched : (records : Records A) → IsOrdered fields_cmp records → Images records → StandAfter found (differences records)
+      pub rows-touched : (records : Records A) → IsOrdered fields_cmp records → Images records → HoldAfter found (differences records)
           → ((key : Fields A) → AreApart key (differences records) → get fields_cmp found.keyed key ≡ get fields_cmp database.keyed key)
           → (key : Fields A) (kept : Record A) → get fields_cmp records key ≡ Some kept → get fields_cmp found.keyed key ≡ get fields_cmp now.keyed key
       rows-touched records s images after others key kept at =
@@ -327,7 +327,7 @@ module _ {A : Type 0} (database main : Tables A) (rise : AreRising database) (ma
 
   -- a table that has the rows of main at the keys that differ
   gives-found : (name : List ℕ) (records : Records A) (first last found : TableState A) (left : Tables A) → TableHolds name records → table_of database name ≡ Some first → table_of main name ≡ Some last
-      → first.schema ≡ last.schema → table_of left name ≡ Some found → StandAfter found (differences first last records)
+      → first.schema ≡ last.schema → table_of left name ≡ Some found → HoldAfter found (differences first last records)
       → ((key : Fields A) → AreApart key (differences first last records) → get fields_cmp found.keyed key ≡ get fields_cmp first.keyed key)
       → but_keyed found ≡ but_keyed first → TableGives name records left
   gives-found name records first last found left holds there now same at after others bare =
@@ -451,7 +451,7 @@ module _ {A : Type 0} (database main : Tables A) (rise : AreRising database) (ma
         | [] ↦ λ none.
             let no_differences : differences first.0 last.0 all ≡ [] = no-items (differences first.0 last.0 all) (changes-are first.0 last.0 all ∙ none) in
             skipped-plan (name, all) tables apart (ap (table_changes (name, all)) last.1 ∙ ap (group_of name last.0.schema) none)
-            (λ left same_table. gives-found name all first.0 last.0 first.0 left holds first.1 last.1 same (same_table ∙ first.1) (subst (StandAfter first.0) (sym no_differences) tt) (λ key _. refl) refl)
+            (λ left same_table. gives-found name all first.0 last.0 first.0 left holds first.1 last.1 same (same_table ∙ first.1) (subst (HoldAfter first.0) (sym no_differences) tt) (λ key _. refl) refl)
             rest
         | change ∷ changes ↦ λ some. planned (name, all) tables apart first.0 last.0 first.1 last.1 same holds change changes some rest
       ] refl

@@ -3,7 +3,7 @@ use Rattle.std.proofs.Common.{◌≡◌, ℕ, suc, Bool, true, false, cond, Some
 use Rattle.std.proofs.lemmas.Bool.Decides.{nat_tests}
 use Rattle.cap_row.specs.Fields.{Fields}
 use Rattle.cap_row.specs.Key.{fields_eq, fields_eq_decides, is_key, key_fields, key_of}
-use Rattle.cap_table.specs.Sound.{is_key_of, keyed_stands}
+use Rattle.cap_table.specs.Sound.{is_key_of, is_keyed_row}
 
 same_width : (width columns : ℕ) → width ≡ columns → nat_eq width columns ≡ true
 same_width width columns same = grind (arith, nat_tests)
@@ -21,8 +21,8 @@ module _ {A : Type 0} where
       ] refl
 
   -- a row of the table's width has a key where it has these values in its key columns
-  pub stands-fields : (schema : List Bool) (row key : Fields A) → is_key key ≡ true → length row ≡ length schema → fields_eq (key_fields schema row) key ≡ keyed_stands schema key row
-  stands-fields schema row key own wide =
+  pub is_keyed_row-fields : (schema : List Bool) (row key : Fields A) → is_key key ≡ true → length row ≡ length schema → fields_eq (key_fields schema row) key ≡ is_keyed_row schema key row
+  is_keyed_row-fields schema row key own wide =
       own_fields (is_key (key_fields schema row)) (key_fields schema row) key refl own
       ∙ ap (λ b. b && is_key_of (key_of schema row) key) (sym (same_width (length row) (length schema) wide))
 

@@ -124,7 +124,7 @@ module _ {A : Type 0} where
 
   outcome-carries : (now : SnapshotState A) (c : Command A) → EffectCarries now.database (outcome now c)
   outcome-carries now (command.CreateTable name schema) = created-carries now.database (create now.database name schema)
-  outcome-carries now (command.Commit batch) = commit-carries (stale batch.base batch.seen now) now.database batch.ops
+  outcome-carries now (command.Commit batch) = commit-carries (stale batch.base batch.reads now) now.database batch.ops
   outcome-carries now (command.Apply blob policy quiet) = applied-carries now.database (apply now.database blob policy) (apply-carries now.database blob policy)
   outcome-carries now _ = nothing-carries now.database
 

@@ -16,7 +16,7 @@ use Rattle.cap_changes.specs.ChangeBytes.{change_bytes}
 use Rattle.cap_codec.specs.Changeset.{changes_under, group_bytes, header_bytes, list_bytes_with}
 use Rattle.cap_changes.specs.Touched.{is_changed}
 use Rattle.cap_core.specs.Capture.{group_of}
-use Rattle.cap_core.specs.Code.ChangesetBytes.{behind, header_unless}
+use Rattle.cap_core.specs.Code.ChangesetBytes.{header_unless, remaining_bytes}
 
 module _ {A : Type 0} where
   -- where nothing has changed there is no change
@@ -60,7 +60,7 @@ module _ {A : Type 0} where
       ∙ ap (λ bytes. out ++ bytes) (sym (some_under header image now flags indirect others h))
 
   -- the changes are written where none is left
-  pub all_written : (begun : Bool) (out start header : List ℕ) (left all : List (RowChange A)) → left ≡ [] → out ++ behind begun header left ≡ start ++ changes_under change_bytes header all → out ≡ start ++ changes_under change_bytes header all
+  pub all_written : (begun : Bool) (out start header : List ℕ) (left all : List (RowChange A)) → left ≡ [] → out ++ remaining_bytes begun header left ≡ start ++ changes_under change_bytes header all → out ≡ start ++ changes_under change_bytes header all
   all_written true out start header left all none written =
       sym (append-nil out) ∙ ap (λ l. out ++ flat_map change_bytes l) (sym none) ∙ written
   all_written false out start header left all none written =
@@ -69,7 +69,7 @@ module _ {A : Type 0} where
   -- one more change, after its header unless that is written
   pub some_behind : (begun : Bool) (out mid new header : List ℕ) (image now : Option (Fields A)) (flags : List Bool) (indirect : Bool) (others : List (RowChange A)) → is_changed image now ≡ true
       → mid ≡ out ++ header_unless begun header → new ≡ mid ++ flat_map change_bytes (cons_option (change_of flags indirect image now) [])
-      → new ++ flat_map change_bytes others ≡ out ++ behind begun header (cons_option (change_of flags indirect image now) others)
+      → new ++ flat_map change_bytes others ≡ out ++ remaining_bytes begun header (cons_option (change_of flags indirect image now) others)
   some_behind true out mid new header image now flags indirect others changed headed written =
       ap (λ o. o ++ flat_map change_bytes others) (written ∙ ap (λ m. m ++ flat_map change_bytes (cons_option (change_of flags indirect image now) [])) (headed ∙ append-nil out))
       ∙ more_behind out (change_of flags indirect image now) others

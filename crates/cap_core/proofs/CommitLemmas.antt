@@ -11,9 +11,9 @@ use Rattle.cap_database.specs.declared.op.Op.{Op}
 use Rattle.cap_database.specs.declared.refused_at.RefusedAt.{RefusedAt}
 use Rattle.cap_database.specs.Snapshot.{SnapshotState}
 use Rattle.cap_database.specs.Tables.{EachRises}
-use Rattle.cap_txn.specs.Batch.{BatchState, WhereSeen}
-use Rattle.cap_txn.specs.Seen.{SeenState}
-use Rattle.cap_txn.specs.Stale.{IsJudged, StandsFor, stale}
+use Rattle.cap_txn.specs.Batch.{BatchState, WhereRead}
+use Rattle.cap_txn.specs.ReadSet.{ReadSetState}
+use Rattle.cap_txn.specs.Stale.{AreOpsOf, IsJudged, stale}
 use Rattle.cap_core.specs.Answer.{State, answer, snapshot_of, state, write_reply}
 use Rattle.cap_core.specs.Commit.{CommitsIfUnchanged}
 use Rattle.cap_core.specs.Outcome.{commit_unless, made}
@@ -41,12 +41,12 @@ module _ {A : Type 0} where
   abbrev answered : State A → List (Op A) → Option Refusal → Reply A
   answered now ops why = write_reply now (commit_unless why now.main ops)
 
-  commit-judged : (now : State A) (ops : List (Op A)) (base : ℕ) (seen : SeenState A) → IsJudged ops (snapshot_of now) base seen
-      → CommitsIfUnchanged (snapshot_of now) (answered now ops (stale (Some base) (Some seen) (snapshot_of now))) base seen
-  commit-judged now ops base seen h = inner (stale (Some base) (Some seen) (snapshot_of now)) refl
+  commit-judged : (now : State A) (ops : List (Op A)) (base : ℕ) (reads : ReadSetState A) → IsJudged ops (snapshot_of now) base reads
+      → CommitsIfUnchanged (snapshot_of now) (answered now ops (stale (Some base) (Some reads) (snapshot_of now))) base reads
+  commit-judged now ops base reads h = inner (stale (Some base) (Some reads) (snapshot_of now)) refl
     where
-      inner : (o : Option Refusal) → stale (Some base) (Some seen) (snapshot_of now) ≡ o
-          → CommitsIfUnchanged (snapshot_of now) (answered now ops o) base seen
+      inner : (o : Option Refusal) → stale (Some base) (Some reads) (snapshot_of now) ≡ o
+          → CommitsIfUnchanged (snapshot_of now) (answered now ops o) base reads
       inner None is =
           let all = h.accepted is in
           inl (record { same = all.0; answers = all.1; written = ap (λ (r : Result (OutcomeState A) RefusedAt). write_reply now (made r)) all.2.runs })
@@ -54,13 +54,13 @@ module _ {A : Type 0} where
           let first = h.refused why is in
           inr (record { item = first.0; changed = first.2; refused = ap (λ (w : Refusal). answered now ops (Some w)) first.1 })
 
-  module _ (judged : (made : List (Op A)) (base : ℕ) (seen : SeenState A) (now : SnapshotState A) → StandsFor made base seen → EachRises now.database → IsJudged made now base seen) where
-    where-judged : (now : State A) (ops : List (Op A)) (base : Option ℕ) (seen : Option (SeenState A)) → EachRises now.main → WhereSeen base seen (StandsFor ops)
-        → WhereSeen base seen (CommitsIfUnchanged (snapshot_of now) (answered now ops (stale base seen (snapshot_of now))))
+  module _ (judged : (made : List (Op A)) (base : ℕ) (reads : ReadSetState A) (now : SnapshotState A) → AreOpsOf made base reads → EachRises now.database → IsJudged made now base reads) where
+    where-judged : (now : State A) (ops : List (Op A)) (base : Option ℕ) (reads : Option (ReadSetState A)) → EachRises now.main → WhereRead base reads (AreOpsOf ops)
+        → WhereRead base reads (CommitsIfUnchanged (snapshot_of now) (answered now ops (stale base reads (snapshot_of now))))
     where-judged now ops base None rises stands = tt
-    where-judged now ops None (Some seen) rises stands = absurd stands
-    where-judged now ops (Some base) (Some seen) rises stands = commit-judged now ops base seen (judged ops base seen (snapshot_of now) stands rises)
+    where-judged now ops None (Some reads) rises stands = absurd stands
+    where-judged now ops (Some base) (Some reads) rises stands = commit-judged now ops base reads (judged ops base reads (snapshot_of now) stands rises)
 
-    pub commits-if-unchanged : (now : State A) (batch : BatchState A) → EachRises now.main → WhereSeen batch.base batch.seen (StandsFor batch.ops)
-        → WhereSeen batch.base batch.seen (CommitsIfUnchanged (snapshot_of now) (answer now (command.Commit batch)))
-    commits-if-unchanged now batch rises stands = where-judged now batch.ops batch.base batch.seen rises stands
+    pub commits-if-unchanged : (now : State A) (batch : BatchState A) → EachRises now.main → WhereRead batch.base batch.reads (AreOpsOf batch.ops)
+        → WhereRead batch.base batch.reads (CommitsIfUnchanged (snapshot_of now) (answer now (command.Commit batch)))
+    commits-if-unchanged now batch rises stands = where-judged now batch.ops batch.base batch.reads rises stands

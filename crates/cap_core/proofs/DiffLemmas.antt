@@ -10,14 +10,14 @@ use Rattle.cap_row.specs.Key.{fields_cmp, fields_eq}
 use Rattle.cap_row.specs.Schema.{flags_eq}
 use Rattle.cap_tree.specs.Tree.{get}
 use Rattle.cap_compare.specs.Beside.{alone, beside, first_of, put_beside}
-use Rattle.cap_table.specs.Sound.{IsRising, keyed_stands}
+use Rattle.cap_table.specs.Sound.{IsRising, is_keyed_row}
 use Rattle.cap_table.specs.Table.{TableState}
 use Rattle.cap_database.specs.Tables.{EachRises, Tables, table_of}
 use Rattle.cap_database.proofs.KeptLemmas.{each-found}
 use Rattle.cap_compare.specs.Compare.{compare, difference_at, differences, image_at}
 use Rattle.cap_compare.specs.declared.difference.Difference.{Difference}
-use Rattle.cap_core.specs.CanCapture.{image_stands}
-use Rattle.cap_core.specs.Code.Sound.{differences_stand}
+use Rattle.cap_core.specs.CanCapture.{is_own_image}
+use Rattle.cap_core.specs.Code.Sound.{are_own_differences}
 use Rattle.cap_core.proofs.SmallLemmas.{both, first, second}
 use Rattle.cap_core.proofs.SoundLemmas.{fields_same, found-passes, list_all-map, list_all-put_entry}
 
@@ -45,9 +45,9 @@ module _ {X Y : Type 0} (test : X → Bool) (check : Y → Bool) (f : X → Opti
 module _ {A : Type 0} (schema : List Bool) where
   -- the row of the first table is stored under its own key
   stands : Fields A × (Option (Fields A) × Option (Fields A)) → Bool
-  stands row = image_stands (Some schema) row.0 row.1.0
+  stands row = is_own_image (Some schema) row.0 row.1.0
 
-  found-stands : (rows : List (Fields A × (Option (Fields A) × Option (Fields A)))) (key : Fields A) (found : Option (Option (Fields A) × Option (Fields A))) → list_all stands rows ≡ true → get fields_cmp rows key ≡ found → image_stands (Some schema) key (first_of found) ≡ true
+  found-stands : (rows : List (Fields A × (Option (Fields A) × Option (Fields A)))) (key : Fields A) (found : Option (Option (Fields A) × Option (Fields A))) → list_all stands rows ≡ true → get fields_cmp rows key ≡ found → is_own_image (Some schema) key (first_of found) ≡ true
   unfolding stands
   found-stands rows key None all is = refl
   found-stands rows key (Some row) all is = found-passes fields_cmp stands fields_same rows key row all is
@@ -59,38 +59,38 @@ module _ {A : Type 0} (schema : List Bool) where
       merged-stand seconds (put_beside fields_cmp rows row)
       (list_all-put_entry fields_cmp stands rows row.0 (first_of (get fields_cmp rows row.0), Some row.1) all (found-stands rows row.0 (get fields_cmp rows row.0) all refl))
 
-  alone-stand : (rows : List (Fields A × Fields A)) → list_all (λ row. keyed_stands schema row.0 row.1) rows ≡ true → list_all stands (alone {W = Fields A} rows) ≡ true
+  alone-stand : (rows : List (Fields A × Fields A)) → list_all (λ row. is_keyed_row schema row.0 row.1) rows ≡ true → list_all stands (alone {W = Fields A} rows) ≡ true
   unfolding stands
-  alone-stand rows all = list_all-map (λ (row : Fields A × Fields A). keyed_stands schema row.0 row.1) stands (λ row. (row.0, (Some row.1, None))) (λ row is. is) rows all
+  alone-stand rows all = list_all-map (λ (row : Fields A × Fields A). is_keyed_row schema row.0 row.1) stands (λ row. (row.0, (Some row.1, None))) (λ row is. is) rows all
 
-  difference-stands : (key : Fields A) (old new : Option (Fields A)) → image_stands (Some schema) key old ≡ true → IfSome (difference_at key (image_at old new)) (λ difference. image_stands (Some schema) difference.key difference.image ≡ true)
+  difference-stands : (key : Fields A) (old new : Option (Fields A)) → is_own_image (Some schema) key old ≡ true → IfSome (difference_at key (image_at old new)) (λ difference. is_own_image (Some schema) difference.key difference.image ≡ true)
   difference-stands key None None is = tt
   difference-stands key None (Some new) is = refl
   difference-stands key (Some old) None is = is
   difference-stands key (Some old) (Some new) is =
-      elim (fields_eq old new) as (λ b. IfSome (difference_at key (cond b None (Some (Some old)))) (λ difference. image_stands (Some schema) difference.key difference.image ≡ true)) [
+      elim (fields_eq old new) as (λ b. IfSome (difference_at key (cond b None (Some (Some old)))) (λ difference. is_own_image (Some schema) difference.key difference.image ≡ true)) [
         | true ↦ tt
         | false ↦ is
       ]
 
-  differences-stand : (from to : List (Fields A × Fields A)) → list_all (λ row. keyed_stands schema row.0 row.1) from ≡ true → differences_stand (Some schema) (differences from to) ≡ true
+  differences-stand : (from to : List (Fields A × Fields A)) → list_all (λ row. is_keyed_row schema row.0 row.1) from ≡ true → are_own_differences (Some schema) (differences from to) ≡ true
   unfolding stands beside
   differences-stand from to all =
-      list_all-made stands (λ (difference : Difference A). image_stands (Some schema) difference.key difference.image) (λ row. difference_at row.0 (image_at row.1.0 row.1.1))
+      list_all-made stands (λ (difference : Difference A). is_own_image (Some schema) difference.key difference.image) (λ row. difference_at row.0 (image_at row.1.0 row.1.1))
       (λ row is. difference-stands row.0 row.1.0 row.1.1 is) (beside fields_cmp from to) (merged-stand to (alone from) (alone-stand from all))
 
 module _ {A : Type 0} where
   -- where a table was compared with that of a database whose rows stand
-  pub compared-stand : (database : Tables A) (name : List ℕ) (table : TableState A) (found : List (Difference A)) → EachRises database → compare (table_of database name) table ≡ Ok found → differences_stand (Some table.schema) found ≡ true
+  pub compared-stand : (database : Tables A) (name : List ℕ) (table : TableState A) (found : List (Difference A)) → EachRises database → compare (table_of database name) table ≡ Ok found → are_own_differences (Some table.schema) found ≡ true
   compared-stand database name table found rises is = there (table_of database name) refl is
     where
-      same : (from : TableState A) → IsRising from → (b : Bool) → flags_eq from.schema table.schema ≡ b → (let answer : Result (List (Difference A)) Refusal = cond b (Ok (differences from.keyed table.keyed)) (Err Incompatible) in answer) ≡ Ok found → differences_stand (Some table.schema) found ≡ true
+      same : (from : TableState A) → IsRising from → (b : Bool) → flags_eq from.schema table.schema ≡ b → (let answer : Result (List (Difference A)) Refusal = cond b (Ok (differences from.keyed table.keyed)) (Err Incompatible) in answer) ≡ Ok found → are_own_differences (Some table.schema) found ≡ true
       same from rising true t e =
           let listed : differences from.keyed table.keyed ≡ found = cc in
-          subst (λ l. differences_stand (Some table.schema) l ≡ true) listed
-          (subst (λ schema. differences_stand (Some schema) (differences from.keyed table.keyed) ≡ true) (flags-same from.schema table.schema t) (differences-stand from.schema from.keyed table.keyed rising.stand.keyed))
+          subst (λ l. are_own_differences (Some table.schema) l ≡ true) listed
+          (subst (λ schema. are_own_differences (Some schema) (differences from.keyed table.keyed) ≡ true) (flags-same from.schema table.schema t) (differences-stand from.schema from.keyed table.keyed rising.sound.keyed))
       same from rising false t e = cc
 
-      there : (from : Option (TableState A)) → table_of database name ≡ from → compare from table ≡ Ok found → differences_stand (Some table.schema) found ≡ true
+      there : (from : Option (TableState A)) → table_of database name ≡ from → compare from table ≡ Ok found → are_own_differences (Some table.schema) found ≡ true
       there None at e = cc
       there (Some from) at e = same from (each-found IsRising database name from rises at) (flags_eq from.schema table.schema) refl e

@@ -14,7 +14,7 @@ use Rattle.cap_value.specs.declared.refusal.Refusal.{Refusal}
 use Rattle.cap_row.specs.Fields.{Fields}
 use Rattle.cap_row.specs.Key.{fields_cmp, key_of}
 use Rattle.cap_tree.specs.Tree.{IsOrdered}
-use Rattle.cap_table.specs.Sound.{IsRising, is_given, keyed_stands, loose_stands}
+use Rattle.cap_table.specs.Sound.{IsRising, is_given, is_keyed_row, is_loose_row}
 use Rattle.cap_table.specs.Table.{TableState}
 use Rattle.cap_database.specs.Snapshot.{SnapshotState}
 use Rattle.cap_database.specs.Operation.{run}
@@ -37,7 +37,7 @@ use Rattle.cap_txn.specs.Stale.{stale}
 use Rattle.cap_core.specs.Past.{Past, is_accepted}
 use Rattle.cap_core.specs.Table.{BlobFits, BlobsFit, BlobsFitPast, IsKeyed, IsLoose}
 use Rattle.cap_core.proofs.SmallLemmas.{first, second}
-use Rattle.cap_core.proofs.SoundLemmas.{stands-key_of, stands-wide}
+use Rattle.cap_core.proofs.SoundLemmas.{is_keyed_row-key_of, is_keyed_row-wide}
 
 is_Less : (r : Ordering) → is_lt r ≡ true → r ≡ Less
 is_Less Less is = refl
@@ -94,24 +94,24 @@ module _ {A : Type 0} where
   keyed_is : (table : TableState A) → IsRising table → IsKeyed table
   keyed_is table rising = record {
     rise = ordered fields_cmp table.keyed rising.keys;
-    wide = each_passes (λ row. keyed_stands table.schema row.0 row.1) (λ row. length row.1 ≡ length table.schema) (λ row is. stands-wide table.schema row.0 row.1 is) table.keyed rising.stand.keyed;
-    own = each_passes (λ row. keyed_stands table.schema row.0 row.1) (λ row. key_of table.schema row.1 ≡ Some row.0) (λ row is. stands-key_of table.schema row.0 row.1 is) table.keyed rising.stand.keyed;
+    wide = each_passes (λ row. is_keyed_row table.schema row.0 row.1) (λ row. length row.1 ≡ length table.schema) (λ row is. is_keyed_row-wide table.schema row.0 row.1 is) table.keyed rising.sound.keyed;
+    own = each_passes (λ row. is_keyed_row table.schema row.0 row.1) (λ row. key_of table.schema row.1 ≡ Some row.0) (λ row is. is_keyed_row-key_of table.schema row.0 row.1 is) table.keyed rising.sound.keyed;
   }
 
-  id_is_given : (table : TableState A) (row : ℕ × Fields A) → loose_stands table.schema table.next_id row.0 row.1 ≡ true → is_given table.next_id row.0 ≡ true
+  id_is_given : (table : TableState A) (row : ℕ × Fields A) → is_loose_row table.schema table.next_id row.0 row.1 ≡ true → is_given table.next_id row.0 ≡ true
   id_is_given table row is = second (nat_eq (length row.1) (length table.schema) && not (is_some (key_of table.schema row.1))) (is_given table.next_id row.0) is
 
   loose_is : (table : TableState A) → IsRising table → IsLoose table
   loose_is table rising = record {
     rise = ordered nat_cmp table.loose rising.ids;
-    wide = each_passes (λ row. loose_stands table.schema table.next_id row.0 row.1) (λ row. length row.1 ≡ length table.schema)
-        (λ row is. same_length (length row.1) (length table.schema) (first (nat_eq (length row.1) (length table.schema)) _ (first _ (is_given table.next_id row.0) is))) table.loose rising.stand.loose;
-    keyless = each_passes (λ row. loose_stands table.schema table.next_id row.0 row.1) (λ row. key_of table.schema row.1 ≡ None)
-        (λ row is. no_key (key_of table.schema row.1) (second (nat_eq (length row.1) (length table.schema)) (not (is_some (key_of table.schema row.1))) (first _ (is_given table.next_id row.0) is))) table.loose rising.stand.loose;
-    first = each_passes (λ row. loose_stands table.schema table.next_id row.0 row.1) (λ row. 1 ≤ row.0)
-        (λ row is. is_positive row.0 (first (nat_lt 0 row.0) (nat_lt row.0 table.next_id) (id_is_given table row is))) table.loose rising.stand.loose;
-    given = each_passes (λ row. loose_stands table.schema table.next_id row.0 row.1) (λ row. row.0 < table.next_id)
-        (λ row is. is_below row.0 table.next_id (second (nat_lt 0 row.0) (nat_lt row.0 table.next_id) (id_is_given table row is))) table.loose rising.stand.loose;
+    wide = each_passes (λ row. is_loose_row table.schema table.next_id row.0 row.1) (λ row. length row.1 ≡ length table.schema)
+        (λ row is. same_length (length row.1) (length table.schema) (first (nat_eq (length row.1) (length table.schema)) _ (first _ (is_given table.next_id row.0) is))) table.loose rising.sound.loose;
+    keyless = each_passes (λ row. is_loose_row table.schema table.next_id row.0 row.1) (λ row. key_of table.schema row.1 ≡ None)
+        (λ row is. no_key (key_of table.schema row.1) (second (nat_eq (length row.1) (length table.schema)) (not (is_some (key_of table.schema row.1))) (first _ (is_given table.next_id row.0) is))) table.loose rising.sound.loose;
+    first = each_passes (λ row. is_loose_row table.schema table.next_id row.0 row.1) (λ row. 1 ≤ row.0)
+        (λ row is. is_positive row.0 (first (nat_lt 0 row.0) (nat_lt row.0 table.next_id) (id_is_given table row is))) table.loose rising.sound.loose;
+    given = each_passes (λ row. is_loose_row table.schema table.next_id row.0 row.1) (λ row. row.0 < table.next_id)
+        (λ row is. is_below row.0 table.next_id (second (nat_lt 0 row.0) (nat_lt row.0 table.next_id) (id_is_given table row is))) table.loose rising.sound.loose;
   }
 
   -- ---- what a command and a history leave, by what operations and new tables do
@@ -148,7 +148,7 @@ module _ {A : Type 0} where
 
     outcome-rises : (now : SnapshotState A) (c : Command A) → BlobFits c → AreRising now.database → HasRising (outcome now c)
     outcome-rises now (command.CreateTable name schema) fits all = created-rises (create now.database name schema) (creates now.database name schema all)
-    outcome-rises now (command.Commit batch) fits all = commit-rises (stale batch.base batch.seen now) now.database batch.ops all
+    outcome-rises now (command.Commit batch) fits all = commit-rises (stale batch.base batch.reads now) now.database batch.ops all
     outcome-rises now (command.Apply blob policy quiet) fits all = applied-rises (apply now.database blob policy) (applies now.database blob policy all fits)
     outcome-rises now _ fits all = all
 

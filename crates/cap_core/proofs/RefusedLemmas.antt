@@ -79,7 +79,7 @@ module _ {A : Type 0} where
   unless-refused s (Some w) r why is = let same : (None, w) ≡ why = cc in ap (λ (v : Why). let told : Reply A = Refused v.0 v.1 in told) same
 
   pub first-answer : (s : State A) (c : Command A) (why : Why) → refused_first s c ≡ Some why → answer s c ≡ Refused why.0 why.1
-  first-answer s (command.Commit batch) why is = batch-refused s batch.ops (stale batch.base batch.seen (snapshot_of s)) why is
+  first-answer s (command.Commit batch) why is = batch-refused s batch.ops (stale batch.base batch.reads (snapshot_of s)) why is
   first-answer s (command.Apply blob policy quiet) why is = unless-refused s (refused_quiet s.sessions quiet) (outcome (snapshot_of s) (command.Apply blob policy quiet)) why is
   first-answer s c why is = refused-is (answer s c) why is
 

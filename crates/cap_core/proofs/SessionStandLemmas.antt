@@ -6,8 +6,8 @@ use Rattle.cap_session.specs.Session.{SessionState, changed_by, forget}
 use Rattle.cap_session.specs.declared.session_change.SessionChange.{SessionChange}
 use Rattle.cap_session.specs.Sessions.{NumberedSessions, session_numbered, with_session, with_session_if}
 use Rattle.cap_core.specs.declared.session_command.SessionCommand.TheVariants.{Change}
-use Rattle.cap_core.specs.CanCapture.{session_stands, tables_stand}
-use Rattle.cap_core.specs.Code.Sound.{sessions_stand}
+use Rattle.cap_core.specs.CanCapture.{are_own_tables, is_own_session}
+use Rattle.cap_core.specs.Code.Sound.{are_own_sessions}
 use Rattle.cap_core.specs.Touch.{restarts}
 use Rattle.cap_core.proofs.ChangeLemmas.{is_changed}
 use Rattle.cap_core.proofs.SoundLemmas.{numbered-stands, forgotten-stand, with_session-stands}
@@ -32,20 +32,20 @@ module _ {A : Type 0} (number : ℕ) where
       inner (Some session) is = ap (with_session sessions number) (same session) ∙ with-same sessions session is
 
 -- a session goes on to stand where its caller changes it
-pub change-stands : {A : Type 0} (database : Tables A) (change : SessionChange A) (session : SessionState A) → session_stands database session ≡ true → session_stands database (changed_by change session) ≡ true
+pub change-stands : {A : Type 0} (database : Tables A) (change : SessionChange A) (session : SessionState A) → is_own_session database session ≡ true → is_own_session database (changed_by change session) ≡ true
 change-stands database change session all =
-    ap (tables_stand database) (is_changed change session).tables
-    ∙ elim (restarts (Some (Change change))) as (λ b. tables_stand database (cond b (forget session.tables) session.tables) ≡ true) [
+    ap (are_own_tables database) (is_changed change session).tables
+    ∙ elim (restarts (Some (Change change))) as (λ b. are_own_tables database (cond b (forget session.tables) session.tables) ≡ true) [
       | true ↦ forgotten-stand database session.tables
       | false ↦ all
     ]
 
 -- sessions go on to stand where one of them is changed so that it does
 module _ {A : Type 0} (database : Tables A) (number : ℕ) (change : SessionState A → SessionState A) where
-  pub changed-stands : ((session : SessionState A) → session_stands database session ≡ true → session_stands database (change session) ≡ true) → (sessions : NumberedSessions A) → sessions_stand database sessions ≡ true
-      → sessions_stand database (with_session_if sessions number (option_map change (session_numbered sessions number))) ≡ true
+  pub changed-stands : ((session : SessionState A) → is_own_session database session ≡ true → is_own_session database (change session) ≡ true) → (sessions : NumberedSessions A) → are_own_sessions database sessions ≡ true
+      → are_own_sessions database (with_session_if sessions number (option_map change (session_numbered sessions number))) ≡ true
   changed-stands keeps sessions all = inner (session_numbered sessions number) refl
     where
-      inner : (found : Option (SessionState A)) → session_numbered sessions number ≡ found → sessions_stand database (with_session_if sessions number (option_map change found)) ≡ true
+      inner : (found : Option (SessionState A)) → session_numbered sessions number ≡ found → are_own_sessions database (with_session_if sessions number (option_map change found)) ≡ true
       inner None is = all
       inner (Some session) is = with_session-stands database sessions number (change session) all (keeps session (numbered-stands database sessions number session all is))

@@ -18,7 +18,7 @@ use Rattle.cap_row.specs.Schema.{has_key}
 use Rattle.cap_changes.specs.Change.{IsKeyedRow}
 use Rattle.cap_changes.specs.Touched.{is_changed}
 use Rattle.cap_compare.specs.declared.difference.Difference.{Difference}
-use Rattle.cap_table.specs.Sound.{IsRising, IsTable, is_key_of, keyed_stands}
+use Rattle.cap_table.specs.Sound.{IsRising, IsTable, is_key_of, is_keyed_row}
 use Rattle.cap_table.specs.Table.{TableState}
 use Rattle.cap_tree.specs.Tree.{get, put_entry}
 use Rattle.cap_database.specs.Operation.{run}
@@ -36,8 +36,8 @@ use Rattle.cap_database.specs.Carried.{CarryFirstRows}
 use Rattle.cap_session.specs.Records.{Records, Touch, record_after, touch, with_touches}
 use Rattle.cap_session.specs.Session.{AttachedTables, SessionState, accepts_by, attach, forget, is_listed, new_session}
 use Rattle.cap_session.specs.Sessions.{NumberedSessions, is_one_of, record_commit_each, session_numbered, with_session, without_session}
-use Rattle.cap_core.specs.CanCapture.{image_stands, records_stand, session_stands, tables_stand}
-use Rattle.cap_core.specs.Code.Sound.{KeepsColumns, differences_stand, sessions_stand}
+use Rattle.cap_core.specs.CanCapture.{are_own_records, are_own_tables, is_own_image, is_own_session}
+use Rattle.cap_core.specs.Code.Sound.{KeepsColumns, are_own_differences, are_own_sessions}
 use Rattle.cap_core.proofs.SmallLemmas.{both, first, second}
 
 tied : {K : Type 0} (R : K → K → Ordering) (x y : K) → IsAntisymmetric R → eq_by_cmp R x y ≡ true → x ≡ y
@@ -90,65 +90,65 @@ module _ {X : Type 0} (test : X → Bool) where
 
 module _ {A : Type 0} where
   -- a row that is found is stored under its own key
-  pub stands-found : (table : TableState A) (key row : Fields A) → IsTable table → get fields_cmp table.keyed key ≡ Some row → keyed_stands table.schema key row ≡ true
-  stands-found table key row sound is = found-passes fields_cmp (λ row. keyed_stands table.schema row.0 row.1) fields_same table.keyed key row sound.keyed is
+  pub is_keyed_row-found : (table : TableState A) (key row : Fields A) → IsTable table → get fields_cmp table.keyed key ≡ Some row → is_keyed_row table.schema key row ≡ true
+  is_keyed_row-found table key row sound is = found-passes fields_cmp (λ row. is_keyed_row table.schema row.0 row.1) fields_same table.keyed key row sound.keyed is
 
-  pub found-stands-own : (table : TableState A) (key : Fields A) (found : Option (Bor (Fields A))) → IsTable table → option_copied found ≡ get fields_cmp table.keyed key → IfSome found (λ row. IsTrue (keyed_stands table.schema key row.now))
-  found-stands-own table key None sound is = tt
-  found-stands-own table key (Some row) sound is = stands-found table key row.now sound (sym is)
+  pub found-is_keyed_row-own : (table : TableState A) (key : Fields A) (found : Option (Bor (Fields A))) → IsTable table → option_copied found ≡ get fields_cmp table.keyed key → IfSome found (λ row. IsTrue (is_keyed_row table.schema key row.now))
+  found-is_keyed_row-own table key None sound is = tt
+  found-is_keyed_row-own table key (Some row) sound is = is_keyed_row-found table key row.now sound (sym is)
 
   -- ---- tables that keep their columns
 
-  image_stands-none : (schema : Option (List Bool)) (key : Fields A) (image : Option (Fields A)) → image_stands None key image ≡ true → image_stands schema key image ≡ true
-  image_stands-none None key None is = refl
-  image_stands-none (Some schema) key None is = refl
-  image_stands-none schema key (Some row) is = cc
+  is_own_image-none : (schema : Option (List Bool)) (key : Fields A) (image : Option (Fields A)) → is_own_image None key image ≡ true → is_own_image schema key image ≡ true
+  is_own_image-none None key None is = refl
+  is_own_image-none (Some schema) key None is = refl
+  is_own_image-none schema key (Some row) is = cc
 
-  image_stands-kept : (before after : Option (List Bool)) → ((schema : List Bool) → before ≡ Some schema → after ≡ Some schema) → (key : Fields A) (image : Option (Fields A)) → image_stands before key image ≡ true → image_stands after key image ≡ true
-  image_stands-kept None after kept key image is = image_stands-none after key image is
-  image_stands-kept (Some schema) after kept key image is = subst (λ found. image_stands found key image ≡ true) (sym (kept schema refl)) is
+  is_own_image-kept : (before after : Option (List Bool)) → ((schema : List Bool) → before ≡ Some schema → after ≡ Some schema) → (key : Fields A) (image : Option (Fields A)) → is_own_image before key image ≡ true → is_own_image after key image ≡ true
+  is_own_image-kept None after kept key image is = is_own_image-none after key image is
+  is_own_image-kept (Some schema) after kept key image is = subst (λ found. is_own_image found key image ≡ true) (sym (kept schema refl)) is
 
   -- what is sound stays sound where each table keeps its columns
-  session_stands-kept : (before after : Tables A) → KeepsColumns before after → (session : SessionState A) → session_stands before session ≡ true → session_stands after session ≡ true
-  session_stands-kept before after kept session =
-      list_all-weaker (λ attached. records_stand (schema_of before attached.0) attached.1) (λ attached. records_stand (schema_of after attached.0) attached.1)
-      (λ attached. list_all-weaker (λ entry. image_stands (schema_of before attached.0) entry.0 entry.1.image) (λ entry. image_stands (schema_of after attached.0) entry.0 entry.1.image)
-      (λ entry. image_stands-kept (schema_of before attached.0) (schema_of after attached.0) (kept.each attached.0) entry.0 entry.1.image) attached.1)
+  is_own_session-kept : (before after : Tables A) → KeepsColumns before after → (session : SessionState A) → is_own_session before session ≡ true → is_own_session after session ≡ true
+  is_own_session-kept before after kept session =
+      list_all-weaker (λ attached. are_own_records (schema_of before attached.0) attached.1) (λ attached. are_own_records (schema_of after attached.0) attached.1)
+      (λ attached. list_all-weaker (λ entry. is_own_image (schema_of before attached.0) entry.0 entry.1.image) (λ entry. is_own_image (schema_of after attached.0) entry.0 entry.1.image)
+      (λ entry. is_own_image-kept (schema_of before attached.0) (schema_of after attached.0) (kept.each attached.0) entry.0 entry.1.image) attached.1)
       session.tables
 
   -- ---- touches
 
   abbrev touch_stands : Option (List Bool) → Touch A → Bool
-  touch_stands schema touch = image_stands schema touch.key touch.image
+  touch_stands schema touch = is_own_image schema touch.key touch.image
 
-  record_after-stands : (schema : Option (List Bool)) (key : Fields A) (found : Option (Record A)) (image : Option (Fields A)) (indirect : Bool) → ((old : Record A) → found ≡ Some old → image_stands schema key old.image ≡ true)
-      → image_stands schema key image ≡ true → image_stands schema key (record_after found image indirect).image ≡ true
+  record_after-stands : (schema : Option (List Bool)) (key : Fields A) (found : Option (Record A)) (image : Option (Fields A)) (indirect : Bool) → ((old : Record A) → found ≡ Some old → is_own_image schema key old.image ≡ true)
+      → is_own_image schema key image ≡ true → is_own_image schema key (record_after found image indirect).image ≡ true
   record_after-stands schema key None image indirect old new = new
   record_after-stands schema key (Some there) image indirect old new = old there refl
 
-  touch-stands : (schema : Option (List Bool)) (t : Touch A) (records : Records A) → touch_stands schema t ≡ true → records_stand schema records ≡ true → records_stand schema (touch records t) ≡ true
+  touch-stands : (schema : Option (List Bool)) (t : Touch A) (records : Records A) → touch_stands schema t ≡ true → are_own_records schema records ≡ true → are_own_records schema (touch records t) ≡ true
   touch-stands schema t records new all =
-      let test : Fields A × Record A → Bool = λ kept. image_stands schema kept.0 kept.1.image in
+      let test : Fields A × Record A → Bool = λ kept. is_own_image schema kept.0 kept.1.image in
       list_all-put_entry fields_cmp test records t.key (record_after (get fields_cmp records t.key) t.image t.indirect) all
       (record_after-stands schema t.key (get fields_cmp records t.key) t.image t.indirect (λ old found. found-passes fields_cmp test fields_same records t.key old all found) new)
 
-  with_touches-stand : (schema : Option (List Bool)) (touches : List (Touch A)) (records : Records A) → list_all (touch_stands schema) touches ≡ true → records_stand schema records ≡ true → records_stand schema (with_touches records touches) ≡ true
+  with_touches-stand : (schema : Option (List Bool)) (touches : List (Touch A)) (records : Records A) → list_all (touch_stands schema) touches ≡ true → are_own_records schema records ≡ true → are_own_records schema (with_touches records touches) ≡ true
   with_touches-stand schema [] records new all = all
   with_touches-stand schema (t ∷ touches) records new all =
       with_touches-stand schema touches (touch records t) (second (touch_stands schema t) (list_all (touch_stands schema) touches) new)
       (touch-stands schema t records (first (touch_stands schema t) (list_all (touch_stands schema) touches) new) all)
 
   -- the row before an event is a row of its table
-  image_before : (before : Tables A) → EachRises before → (name : List ℕ) (key : Fields A) → image_stands (schema_of before name) key (row_at before name key) ≡ true
+  image_before : (before : Tables A) → EachRises before → (name : List ℕ) (key : Fields A) → is_own_image (schema_of before name) key (row_at before name key) ≡ true
   image_before before rises name key = inner (table_of before name) refl
     where
-      found : (table : TableState A) → IsTable table → (row : Option (Fields A)) → get fields_cmp table.keyed key ≡ row → image_stands (Some table.schema) key row ≡ true
+      found : (table : TableState A) → IsTable table → (row : Option (Fields A)) → get fields_cmp table.keyed key ≡ row → is_own_image (Some table.schema) key row ≡ true
       found table sound None is = refl
-      found table sound (Some row) is = stands-found table key row sound is
+      found table sound (Some row) is = is_keyed_row-found table key row sound is
 
-      inner : (there : Option (TableState A)) → table_of before name ≡ there → image_stands (option_map (λ table. table.schema) there) key (option_and_then (λ table. get fields_cmp table.keyed key) there) ≡ true
+      inner : (there : Option (TableState A)) → table_of before name ≡ there → is_own_image (option_map (λ table. table.schema) there) key (option_and_then (λ table. get fields_cmp table.keyed key) there) ≡ true
       inner None is = refl
-      inner (Some table) is = let rising = each-found IsRising before name table rises is in found table rising.stand (get fields_cmp table.keyed key) refl
+      inner (Some table) is = let rising = each-found IsRising before name table rises is in found table rising.sound (get fields_cmp table.keyed key) refl
 
   told_of-stands : (before : Tables A) → EachRises before → (indirect : Bool) (name : List ℕ) (change : Change A) → IfSome (told_of before indirect name change) (λ t. touch_stands (schema_of before name) t ≡ true)
   told_of-stands before rises indirect name change =
@@ -166,72 +166,72 @@ module _ {A : Type 0} where
 
   -- ---- what changes a session
 
-  touch_tables-stand : (before : Tables A) → EachRises before → (indirect : Bool) (changes : List (Change A)) → CarryFirstRows before changes → (tables : AttachedTables A) → tables_stand before tables ≡ true → tables_stand before (touch_tables indirect changes tables) ≡ true
+  touch_tables-stand : (before : Tables A) → EachRises before → (indirect : Bool) (changes : List (Change A)) → CarryFirstRows before changes → (tables : AttachedTables A) → are_own_tables before tables ≡ true → are_own_tables before (touch_tables indirect changes tables) ≡ true
   touch_tables-stand before rises indirect changes carry =
-      list_all-map (λ attached. records_stand (schema_of before attached.0) attached.1) (λ attached. records_stand (schema_of before attached.0) attached.1)
+      list_all-map (λ attached. are_own_records (schema_of before attached.0) attached.1) (λ attached. are_own_records (schema_of before attached.0) attached.1)
       (λ attached. (attached.0, with_touches attached.1 (touches_of indirect attached.0 changes)))
       (λ attached all.
-      ap (records_stand (schema_of before attached.0)) (carried-told before indirect attached.0 changes attached.1 (carry attached.0))
+      ap (are_own_records (schema_of before attached.0)) (carried-told before indirect attached.0 changes attached.1 (carry attached.0))
       ∙ with_touches-stand (schema_of before attached.0) (told_by before indirect attached.0 changes) attached.1 (told_by-stand before rises indirect attached.0 changes) all)
 
-  pub attach-stands : (database : Tables A) (name : List ℕ) (tables : AttachedTables A) → tables_stand database tables ≡ true → tables_stand database (attach name tables) ≡ true
+  pub attach-stands : (database : Tables A) (name : List ℕ) (tables : AttachedTables A) → are_own_tables database tables ≡ true → are_own_tables database (attach name tables) ≡ true
   attach-stands database name tables all =
-      elim (is_listed name tables) as (λ b. tables_stand database (cond b tables (tables ++ (name, []) ∷ [])) ≡ true) [
+      elim (is_listed name tables) as (λ b. are_own_tables database (cond b tables (tables ++ (name, []) ∷ [])) ≡ true) [
         | true ↦ all
-        | false ↦ list_all-push (λ attached. records_stand (schema_of database attached.0) attached.1) tables (name, []) all refl
+        | false ↦ list_all-push (λ attached. are_own_records (schema_of database attached.0) attached.1) tables (name, []) all refl
       ]
 
-  attach_by-stands : (database : Tables A) (rule : AutomaticRule A) (name : List ℕ) (tables : AttachedTables A) → tables_stand database tables ≡ true → tables_stand database (attach_by rule tables name) ≡ true
+  attach_by-stands : (database : Tables A) (rule : AutomaticRule A) (name : List ℕ) (tables : AttachedTables A) → are_own_tables database tables ≡ true → are_own_tables database (attach_by rule tables name) ≡ true
   attach_by-stands database rule name tables all =
-      elim (accepts_by rule name) as (λ b. tables_stand database (cond b (attach name tables) tables) ≡ true) [
+      elim (accepts_by rule name) as (λ b. are_own_tables database (cond b (attach name tables) tables) ≡ true) [
         | true ↦ attach-stands database name tables all
         | false ↦ all
       ]
 
-  attach_by_rule-stands : (database : Tables A) (rule : AutomaticRule A) (changes : List (Change A)) (tables : AttachedTables A) → tables_stand database tables ≡ true → tables_stand database (attach_by_rule rule changes tables) ≡ true
+  attach_by_rule-stands : (database : Tables A) (rule : AutomaticRule A) (changes : List (Change A)) (tables : AttachedTables A) → are_own_tables database tables ≡ true → are_own_tables database (attach_by_rule rule changes tables) ≡ true
   attach_by_rule-stands database rule [] tables all = all
   attach_by_rule-stands database rule (change ∷ changes) tables all =
       attach_by_rule-stands database rule changes (attach_by rule tables change.table) (attach_by-stands database rule change.table tables all)
 
-  record_commit-stands : (before : Tables A) → EachRises before → (changes : List (Change A)) → CarryFirstRows before changes → (session : SessionState A) → session_stands before session ≡ true → session_stands before (record_commit changes session) ≡ true
+  record_commit-stands : (before : Tables A) → EachRises before → (changes : List (Change A)) → CarryFirstRows before changes → (session : SessionState A) → is_own_session before session ≡ true → is_own_session before (record_commit changes session) ≡ true
   record_commit-stands before rises changes carry session all =
-      elim session.enabled as (λ b. session_stands before (cond b (record session { tables = touch_tables session.indirect changes (attach_by_rule session.rule changes session.tables) }) session) ≡ true) [
+      elim session.enabled as (λ b. is_own_session before (cond b (record session { tables = touch_tables session.indirect changes (attach_by_rule session.rule changes session.tables) }) session) ≡ true) [
         | true ↦ touch_tables-stand before rises session.indirect changes carry (attach_by_rule session.rule changes session.tables) (attach_by_rule-stands before session.rule changes session.tables all)
         | false ↦ all
       ]
 
   -- the sessions after a commit that keeps the columns of the tables
-  pub record_commit_each-stand : (before after : Tables A) → EachRises before → KeepsColumns before after → (changes : List (Change A)) → CarryFirstRows before changes → (quiet : List ℕ) (sessions : NumberedSessions A) → sessions_stand before sessions ≡ true → sessions_stand after (record_commit_each changes quiet sessions) ≡ true
+  pub record_commit_each-stand : (before after : Tables A) → EachRises before → KeepsColumns before after → (changes : List (Change A)) → CarryFirstRows before changes → (quiet : List ℕ) (sessions : NumberedSessions A) → are_own_sessions before sessions ≡ true → are_own_sessions after (record_commit_each changes quiet sessions) ≡ true
   record_commit_each-stand before after rises kept changes carry quiet =
-      list_all-map (λ session. session_stands before session.1) (λ session. session_stands after session.1) (λ session. (session.0, cond (is_one_of quiet session.0) session.1 (record_commit changes session.1)))
-      (λ session all. session_stands-kept before after kept (cond (is_one_of quiet session.0) session.1 (record_commit changes session.1)) (each session all (is_one_of quiet session.0)))
+      list_all-map (λ session. is_own_session before session.1) (λ session. is_own_session after session.1) (λ session. (session.0, cond (is_one_of quiet session.0) session.1 (record_commit changes session.1)))
+      (λ session all. is_own_session-kept before after kept (cond (is_one_of quiet session.0) session.1 (record_commit changes session.1)) (each session all (is_one_of quiet session.0)))
     where
-      each : (session : ℕ × SessionState A) → session_stands before session.1 ≡ true → (b : Bool) → session_stands before (cond b session.1 (record_commit changes session.1)) ≡ true
+      each : (session : ℕ × SessionState A) → is_own_session before session.1 ≡ true → (b : Bool) → is_own_session before (cond b session.1 (record_commit changes session.1)) ≡ true
       each session all true = all
       each session all false = record_commit-stands before rises changes carry session.1 all
 
   -- a session after a diff of a table, which found rows of the table's width under their own keys
-  pub record_diff-stands : (database : Tables A) (name : List ℕ) (differences : List (Difference A)) (session : SessionState A) → differences_stand (schema_of database name) differences ≡ true → session_stands database session ≡ true
-      → session_stands database (record_diff name differences session) ≡ true
+  pub record_diff-stands : (database : Tables A) (name : List ℕ) (differences : List (Difference A)) (session : SessionState A) → are_own_differences (schema_of database name) differences ≡ true → is_own_session database session ≡ true
+      → is_own_session database (record_diff name differences session) ≡ true
   record_diff-stands database name differences session new all =
-      list_all-map (λ attached. records_stand (schema_of database attached.0) attached.1) (λ attached. records_stand (schema_of database attached.0) attached.1)
+      list_all-map (λ attached. are_own_records (schema_of database attached.0) attached.1) (λ attached. are_own_records (schema_of database attached.0) attached.1)
       (λ attached. cond (bytes_eq name attached.0) (attached.0, with_touches attached.1 touches) attached) each (attach name session.tables) (attach-stands database name session.tables all)
     where
       touches : List (Touch A)
       touches = touches_found session.indirect differences
 
-      found-stand : (schema : Option (List Bool)) (found : List (Difference A)) → differences_stand schema found ≡ true → list_all (touch_stands schema) (touches_found session.indirect found) ≡ true
-      found-stand schema = list_all-map (λ difference. image_stands schema difference.key difference.image) (touch_stands schema) (λ difference. record { key = difference.key; image = difference.image; indirect = session.indirect }) (λ difference is. is)
+      found-stand : (schema : Option (List Bool)) (found : List (Difference A)) → are_own_differences schema found ≡ true → list_all (touch_stands schema) (touches_found session.indirect found) ≡ true
+      found-stand schema = list_all-map (λ difference. is_own_image schema difference.key difference.image) (touch_stands schema) (λ difference. record { key = difference.key; image = difference.image; indirect = session.indirect }) (λ difference is. is)
 
-      each : (attached : List ℕ × Records A) → records_stand (schema_of database attached.0) attached.1 ≡ true → (let t = cond (bytes_eq name attached.0) (attached.0, with_touches attached.1 touches) attached in records_stand (schema_of database t.0) t.1) ≡ true
+      each : (attached : List ℕ × Records A) → are_own_records (schema_of database attached.0) attached.1 ≡ true → (let t = cond (bytes_eq name attached.0) (attached.0, with_touches attached.1 touches) attached in are_own_records (schema_of database t.0) t.1) ≡ true
       each attached is =
-          elim (bytes_eq name attached.0) as (λ b. bytes_eq name attached.0 ≡ b → (let t = cond b (attached.0, with_touches attached.1 touches) attached in records_stand (schema_of database t.0) t.1) ≡ true) [
+          elim (bytes_eq name attached.0) as (λ b. bytes_eq name attached.0 ≡ b → (let t = cond b (attached.0, with_touches attached.1 touches) attached in are_own_records (schema_of database t.0) t.1) ≡ true) [
             | true ↦ λ same. with_touches-stand (schema_of database attached.0) touches attached.1
-                (found-stand (schema_of database attached.0) differences (subst (λ n. differences_stand (schema_of database n) differences ≡ true) ((bytes_decides name attached.0).0 same) new)) is
+                (found-stand (schema_of database attached.0) differences (subst (λ n. are_own_differences (schema_of database n) differences ≡ true) ((bytes_decides name attached.0).0 same) new)) is
             | false ↦ λ other. is
           ] refl
 
-  pub forgotten-stand : (database : Tables A) (tables : AttachedTables A) → tables_stand database (forget tables) ≡ true
+  pub forgotten-stand : (database : Tables A) (tables : AttachedTables A) → are_own_tables database (forget tables) ≡ true
   forgotten-stand database [] = refl
   forgotten-stand database (attached ∷ tables) = forgotten-stand database tables
 
@@ -239,32 +239,32 @@ module _ {A : Type 0} where
 
   -- a session that is found is sound, and so are all where a sound one replaces it, is appended, or one is
   -- removed
-  pub numbered-stands : (database : Tables A) (sessions : NumberedSessions A) (number : ℕ) (session : SessionState A) → sessions_stand database sessions ≡ true → session_numbered sessions number ≡ Some session → session_stands database session ≡ true
+  pub numbered-stands : (database : Tables A) (sessions : NumberedSessions A) (number : ℕ) (session : SessionState A) → are_own_sessions database sessions ≡ true → session_numbered sessions number ≡ Some session → is_own_session database session ≡ true
   numbered-stands database [] number session all found = cc
   numbered-stands database (s ∷ sessions) number session all found =
-      elim (nat_eq number s.0) as (λ b. cond b (Some s.1) (session_numbered sessions number) ≡ Some session → session_stands database session ≡ true) [
-        | true ↦ λ is. let same : s.1 ≡ session = cc in subst (λ t. session_stands database t ≡ true) same (first (session_stands database s.1) (sessions_stand database sessions) all)
-        | false ↦ λ is. numbered-stands database sessions number session (second (session_stands database s.1) (sessions_stand database sessions) all) is
+      elim (nat_eq number s.0) as (λ b. cond b (Some s.1) (session_numbered sessions number) ≡ Some session → is_own_session database session ≡ true) [
+        | true ↦ λ is. let same : s.1 ≡ session = cc in subst (λ t. is_own_session database t ≡ true) same (first (is_own_session database s.1) (are_own_sessions database sessions) all)
+        | false ↦ λ is. numbered-stands database sessions number session (second (is_own_session database s.1) (are_own_sessions database sessions) all) is
       ] found
 
-  pub with_session-stands : (database : Tables A) (sessions : NumberedSessions A) (number : ℕ) (new : SessionState A) → sessions_stand database sessions ≡ true → session_stands database new ≡ true → sessions_stand database (with_session sessions number new) ≡ true
+  pub with_session-stands : (database : Tables A) (sessions : NumberedSessions A) (number : ℕ) (new : SessionState A) → are_own_sessions database sessions ≡ true → is_own_session database new ≡ true → are_own_sessions database (with_session sessions number new) ≡ true
   with_session-stands database [] number new all one = refl
   with_session-stands database (s ∷ sessions) number new all one =
-      elim (nat_eq number s.0) as (λ b. sessions_stand database (cond b ((s.0, new) ∷ sessions) (s ∷ with_session sessions number new)) ≡ true) [
-        | true ↦ both (session_stands database new) _ one (second (session_stands database s.1) (sessions_stand database sessions) all)
-        | false ↦ both (session_stands database s.1) _ (first (session_stands database s.1) (sessions_stand database sessions) all) (with_session-stands database sessions number new (second (session_stands database s.1) (sessions_stand database sessions) all) one)
+      elim (nat_eq number s.0) as (λ b. are_own_sessions database (cond b ((s.0, new) ∷ sessions) (s ∷ with_session sessions number new)) ≡ true) [
+        | true ↦ both (is_own_session database new) _ one (second (is_own_session database s.1) (are_own_sessions database sessions) all)
+        | false ↦ both (is_own_session database s.1) _ (first (is_own_session database s.1) (are_own_sessions database sessions) all) (with_session-stands database sessions number new (second (is_own_session database s.1) (are_own_sessions database sessions) all) one)
       ]
 
-  pub without_session-stands : (database : Tables A) (sessions : NumberedSessions A) (number : ℕ) → sessions_stand database sessions ≡ true → sessions_stand database (without_session sessions number) ≡ true
+  pub without_session-stands : (database : Tables A) (sessions : NumberedSessions A) (number : ℕ) → are_own_sessions database sessions ≡ true → are_own_sessions database (without_session sessions number) ≡ true
   without_session-stands database [] number all = refl
   without_session-stands database (s ∷ sessions) number all =
-      elim (nat_eq number s.0) as (λ b. sessions_stand database (cond b sessions (s ∷ without_session sessions number)) ≡ true) [
-        | true ↦ second (session_stands database s.1) (sessions_stand database sessions) all
-        | false ↦ both (session_stands database s.1) _ (first (session_stands database s.1) (sessions_stand database sessions) all) (without_session-stands database sessions number (second (session_stands database s.1) (sessions_stand database sessions) all))
+      elim (nat_eq number s.0) as (λ b. are_own_sessions database (cond b sessions (s ∷ without_session sessions number)) ≡ true) [
+        | true ↦ second (is_own_session database s.1) (are_own_sessions database sessions) all
+        | false ↦ both (is_own_session database s.1) _ (first (is_own_session database s.1) (are_own_sessions database sessions) all) (without_session-stands database sessions number (second (is_own_session database s.1) (are_own_sessions database sessions) all))
       ]
 
-  pub added-stands : (database : Tables A) (sessions : NumberedSessions A) (number : ℕ) → sessions_stand database sessions ≡ true → sessions_stand database (sessions ++ (number, new_session) ∷ []) ≡ true
-  added-stands database sessions number all = list_all-push (λ session. session_stands database session.1) sessions (number, new_session) all refl
+  pub added-stands : (database : Tables A) (sessions : NumberedSessions A) (number : ℕ) → are_own_sessions database sessions ≡ true → are_own_sessions database (sessions ++ (number, new_session) ∷ []) ≡ true
+  added-stands database sessions number all = list_all-push (λ session. is_own_session database session.1) sessions (number, new_session) all refl
 
   -- ---- rows with keys
 
@@ -274,37 +274,37 @@ module _ {A : Type 0} where
   key_fields-has_key (true ∷ schema) (field ∷ row) is = refl
   key_fields-has_key (false ∷ schema) (field ∷ row) is = key_fields-has_key schema row is
 
-  pub stands-wide : (schema : List Bool) (key row : Fields A) → keyed_stands schema key row ≡ true → length row ≡ length schema
-  stands-wide schema key row is = let e = first (nat_eq (length row) (length schema)) (is_key_of (key_of schema row) key) is in grind (arith, nat_tests)
+  pub is_keyed_row-wide : (schema : List Bool) (key row : Fields A) → is_keyed_row schema key row ≡ true → length row ≡ length schema
+  is_keyed_row-wide schema key row is = let e = first (nat_eq (length row) (length schema)) (is_key_of (key_of schema row) key) is in grind (arith, nat_tests)
 
   own_key : (own : Option (Fields A)) (key : Fields A) → is_key_of own key ≡ true → own ≡ Some key
   own_key None key is = cc
   own_key (Some own) key is = ap Some (tied fields_cmp own key fields_same is)
 
-  pub stands-key_of : (schema : List Bool) (key row : Fields A) → keyed_stands schema key row ≡ true → key_of schema row ≡ Some key
-  stands-key_of schema key row is = own_key (key_of schema row) key (second (nat_eq (length row) (length schema)) (is_key_of (key_of schema row) key) is)
+  pub is_keyed_row-key_of : (schema : List Bool) (key row : Fields A) → is_keyed_row schema key row ≡ true → key_of schema row ≡ Some key
+  is_keyed_row-key_of schema key row is = own_key (key_of schema row) key (second (nat_eq (length row) (length schema)) (is_key_of (key_of schema row) key) is)
 
-  pub stands-IsKeyedRow : (schema : List Bool) (key row : Fields A) → keyed_stands schema key row ≡ true → IsKeyedRow schema row
-  stands-IsKeyedRow schema key row is = record { wide = stands-wide schema key row is; keyed = ap is_some (stands-key_of schema key row is) }
+  pub is_keyed_row-IsKeyedRow : (schema : List Bool) (key row : Fields A) → is_keyed_row schema key row ≡ true → IsKeyedRow schema row
+  is_keyed_row-IsKeyedRow schema key row is = record { wide = is_keyed_row-wide schema key row is; keyed = ap is_some (is_keyed_row-key_of schema key row is) }
 
-  pub stands-same_key : (schema : List Bool) (key row other : Fields A) → keyed_stands schema key row ≡ true → keyed_stands schema key other ≡ true → key_of schema row ≡ key_of schema other
-  stands-same_key schema key row other a b = stands-key_of schema key row a ∙ sym (stands-key_of schema key other b)
+  pub is_keyed_row-same_key : (schema : List Bool) (key row other : Fields A) → is_keyed_row schema key row ≡ true → is_keyed_row schema key other ≡ true → key_of schema row ≡ key_of schema other
+  is_keyed_row-same_key schema key row other a b = is_keyed_row-key_of schema key row a ∙ sym (is_keyed_row-key_of schema key other b)
 
   key_from-some : (fields key : Fields A) → key_from fields ≡ Some key → nat_le 1 (length fields) ≡ true
   key_from-some fields key is =
       elim (nat_le 1 (length fields)) as (λ b. cond (b && not (list_any is_null fields)) (Some fields) None ≡ Some key → b ≡ true) [ true ↦ λ _. refl | false ↦ λ e. cc ] is
 
-  pub stands-has_key : (schema : List Bool) (key row : Fields A) → keyed_stands schema key row ≡ true → has_key schema ≡ true
-  stands-has_key schema key row is = key_fields-has_key schema row (key_from-some (key_fields schema row) key (stands-key_of schema key row is))
+  pub is_keyed_row-has_key : (schema : List Bool) (key row : Fields A) → is_keyed_row schema key row ≡ true → has_key schema ≡ true
+  is_keyed_row-has_key schema key row is = key_fields-has_key schema row (key_from-some (key_fields schema row) key (is_keyed_row-key_of schema key row is))
 
   -- a row as wide as the table is stored under its own key
-  pub stands-own : (schema : List Bool) (key row : Fields A) → length row ≡ length schema → key_of schema row ≡ Some key → keyed_stands schema key row ≡ true
-  stands-own schema key row wide own =
+  pub is_keyed_row-own : (schema : List Bool) (key row : Fields A) → length row ≡ length schema → key_of schema row ≡ Some key → is_keyed_row schema key row ≡ true
+  is_keyed_row-own schema key row wide own =
       both (nat_eq (length row) (length schema)) _ (grind (arith, nat_tests))
       (subst (λ found. is_key_of found key ≡ true) (sym own) (ap is_eq ((fields_cmp-Equal key key).1 refl)))
 
-  pub image-IsKeyedRow : (schema : List Bool) (key : Fields A) (image : Option (Fields A)) (row : Fields A) → image_stands (Some schema) key image ≡ true → image ≡ Some row → keyed_stands schema key row ≡ true
-  image-IsKeyedRow schema key image row is some = subst (λ found. image_stands (Some schema) key found ≡ true) some is
+  pub image-IsKeyedRow : (schema : List Bool) (key : Fields A) (image : Option (Fields A)) (row : Fields A) → is_own_image (Some schema) key image ≡ true → image ≡ Some row → is_keyed_row schema key row ≡ true
+  image-IsKeyedRow schema key image row is some = subst (λ found. is_own_image (Some schema) key found ≡ true) some is
 
 -- what is so of an answer is so of what it gives
 kept_by : {X E : Type 0} (P : X → Type 0) (r : Result X E) (x : X) → r ≡ Ok x → IfOk r P → P x
@@ -331,22 +331,22 @@ pub take-item : {X : Type 0} (xs : List X) (i : ℕ) (x : X) → i < length xs �
 take-item xs i x lt is = ap (λ k. take k xs) (add-one i) ∙ take-suc xs i x lt ∙ ap (λ y. take i xs ++ y ∷ []) (sym is)
 
 module _ {A : Type 0} where
-  found-stands : (schema : List Bool) (key : Fields A) (found : Option (Bor (Fields A))) → IfSome found (λ row. IsTrue (keyed_stands schema key row.now)) → image_stands (Some schema) key (option_copied found) ≡ true
+  found-stands : (schema : List Bool) (key : Fields A) (found : Option (Bor (Fields A))) → IfSome found (λ row. IsTrue (is_keyed_row schema key row.now)) → is_own_image (Some schema) key (option_copied found) ≡ true
   found-stands schema key None is = refl
   found-stands schema key (Some row) is = is
 
-  pub found-image : (schema : List Bool) (key : Fields A) (found : Option (Bor (Fields A))) → IfSome found (λ row. IsTrue (keyed_stands schema key row.now)) → image_stands (Some schema) key (option_copied found) ≡ true
+  pub found-image : (schema : List Bool) (key : Fields A) (found : Option (Bor (Fields A))) → IfSome found (λ row. IsTrue (is_keyed_row schema key row.now)) → is_own_image (Some schema) key (option_copied found) ≡ true
   found-image = found-stands
 
-  pub images-same_key : (schema : List Bool) (key : Fields A) (image now : Option (Fields A)) → image_stands (Some schema) key image ≡ true → image_stands (Some schema) key now ≡ true
+  pub images-same_key : (schema : List Bool) (key : Fields A) (image now : Option (Fields A)) → is_own_image (Some schema) key image ≡ true → is_own_image (Some schema) key now ≡ true
       → (x : Fields A) → image ≡ Some x → (y : Fields A) → now ≡ Some y → key_of schema x ≡ key_of schema y
-  images-same_key schema key image now a b x is y at = stands-same_key schema key x y (image-IsKeyedRow schema key image x a is) (image-IsKeyedRow schema key now y b at)
+  images-same_key schema key image now a b x is y at = is_keyed_row-same_key schema key x y (image-IsKeyedRow schema key image x a is) (image-IsKeyedRow schema key now y b at)
 
-  pub images-keyed : (schema : List Bool) (key : Fields A) (image : Option (Fields A)) → image_stands (Some schema) key image ≡ true → (x : Fields A) → image ≡ Some x → IsKeyedRow schema x
-  images-keyed schema key image a x is = stands-IsKeyedRow schema key x (image-IsKeyedRow schema key image x a is)
+  pub images-keyed : (schema : List Bool) (key : Fields A) (image : Option (Fields A)) → is_own_image (Some schema) key image ≡ true → (x : Fields A) → image ≡ Some x → IsKeyedRow schema x
+  images-keyed schema key image a x is = is_keyed_row-IsKeyedRow schema key x (image-IsKeyedRow schema key image x a is)
 
   -- a key whose row has changed is one of a table with a key
-  pub changed-keyed : (schema : List Bool) (key : Fields A) (image now : Option (Fields A)) → image_stands (Some schema) key image ≡ true → image_stands (Some schema) key now ≡ true → is_changed image now ≡ true → has_key schema ≡ true
-  changed-keyed schema key (Some x) now a b is = stands-has_key schema key x a
-  changed-keyed schema key None (Some y) a b is = stands-has_key schema key y b
+  pub changed-keyed : (schema : List Bool) (key : Fields A) (image now : Option (Fields A)) → is_own_image (Some schema) key image ≡ true → is_own_image (Some schema) key now ≡ true → is_changed image now ≡ true → has_key schema ≡ true
+  changed-keyed schema key (Some x) now a b is = is_keyed_row-has_key schema key x a
+  changed-keyed schema key None (Some y) a b is = is_keyed_row-has_key schema key y b
   changed-keyed schema key None None a b is = cc

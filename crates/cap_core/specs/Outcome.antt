@@ -58,6 +58,6 @@ module _ {A : Type 0} where
   -- A command that writes nothing leaves the tables as they are.
   abbrev pub outcome : SnapshotState A → Command A → Result (Effect A) Refused
   outcome now (CreateTable name schema) = created (create now.database name schema)
-  outcome now (Commit batch) = commit_unless (stale batch.base batch.seen now) now.database batch.ops
+  outcome now (Commit batch) = commit_unless (stale batch.base batch.reads now) now.database batch.ops
   outcome now (Apply blob policy quiet) = applied (apply now.database blob policy)
   outcome now _ = Ok (no_effect now.database)

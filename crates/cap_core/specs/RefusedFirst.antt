@@ -46,7 +46,7 @@ module _ {A : Type 0} where
   -- without it.
   abbrev pub refused_first : State A → Command A → Option Why
   refused_first state (Commit batch) =
-      refused_batch (stale batch.base batch.seen (snapshot_of state)) state.main batch.ops
+      refused_batch (stale batch.base batch.reads (snapshot_of state)) state.main batch.ops
   refused_first state (Apply blob policy quiet) = whole (refused_quiet state.sessions quiet)
   refused_first state command = refusal_in (answer state command)
 

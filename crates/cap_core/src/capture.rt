@@ -4,7 +4,7 @@ ghost use Rattle.std.specs.List.{cons_option, filter_map, list_all};
 ghost use Rattle.std.specs.Option.{option_copied, option_map, ForSome};
 ghost use Rattle.cap_row.specs.Key.{fields_cmp};
 ghost use Rattle.cap_row.specs.Schema.{has_key};
-ghost use Rattle.cap_table.specs.Sound.{keyed_stands};
+ghost use Rattle.cap_table.specs.Sound.{is_keyed_row};
 ghost use Rattle.cap_tree.specs.Tree.{get};
 ghost use Rattle.cap_changes.specs.Change.{HaveSameKey, IsKeyedRow, change_of};
 ghost use Rattle.cap_changes.specs.Patch.{patch_list_of};
@@ -15,7 +15,7 @@ ghost use Rattle.cap_codec.specs.Writable.{IsWritable};
 ghost use Rattle.cap_codec.specs.declared.read.Contents.TheVariants as contents;
 ghost use Rattle.cap_core.specs.Capture.{changes_of, session_changes, table_changes};
 ghost use Rattle.cap_core.specs.Code.Grouped.{IsGroupOf, changes_in};
-ghost use Rattle.cap_core.specs.CanCapture.{image_stands, records_stand, session_stands, tables_stand};
+ghost use Rattle.cap_core.specs.CanCapture.{are_own_records, are_own_tables, is_own_image, is_own_session};
 
 use crate::changeset_bytes::changeset_of;
 use cap_changes::{ChangeList, Group, is_changed, to_patches};
@@ -40,7 +40,7 @@ pub struct Capture<A: AllocHandle> {
 
 impl<A: AllocHandle> Model for Capture<A> {
     ghost use Rattle.std.specs.Prelude.{IsTrue};
-    ghost use Rattle.cap_core.specs.CanCapture.{session_stands};
+    ghost use Rattle.cap_core.specs.CanCapture.{is_own_session};
     ghost use Rattle.cap_core.specs.Capture.{CaptureState, session_changes};
 
     ghost Value = { CaptureState A };
@@ -50,13 +50,13 @@ impl<A: AllocHandle> Model for Capture<A> {
       changes = session_changes c.main c.session;
     } };
 
-    ghost invariant = { λ c. IsTrue (session_stands c.main c.session) };
+    ghost invariant = { λ c. IsTrue (is_own_session c.main c.session) };
 }
 
 impl<A: AllocHandle> Capture<A> {
     // What the session captures against the tables of this version.
     pub(crate) fn new(version: u64, session: Session<A>, main: Database<A>) -> Self
-        requires { IsTrue (session_stands main session) }
+        requires { IsTrue (is_own_session main session) }
         ensures { result ≡ record { version = version; changes = session_changes main session } }
     {
         Capture {
@@ -133,7 +133,7 @@ pub(crate) fn changes_of<A: AllocHandle>(
     attached: Attached<'_, A>,
     main: &Database<A>,
 ) -> Result<ChangeList<A>, OutOfMemory>
-    requires { IsTrue (tables_stand main.now attached) }
+    requires { IsTrue (are_own_tables main.now attached) }
     ensures { IfOk result (λ list. list ≡ changes_of main.now attached.entry) }
 {
     let mut list = ChangeList::new(alloc);
@@ -167,7 +167,7 @@ fn changes_of_table<A: AllocHandle>(
     records: &Records<A>,
     table: Option<&Table<A>>,
 ) -> Result<Option<Group<A>>, OutOfMemory>
-    requires { IsTrue (records_stand (option_map (λ t. t.schema) (option_copied table)) records.now) }
+    requires { IsTrue (are_own_records (option_map (λ t. t.schema) (option_copied table)) records.now) }
     ensures { IfOk result (λ group. group
         ≡ table_changes (name.now, records.now) (option_copied table.entry)) }
 {
@@ -183,7 +183,7 @@ fn group_of<A: AllocHandle>(
     records: &Records<A>,
     table: &Table<A>,
 ) -> Result<Option<Group<A>>, OutOfMemory>
-    requires { IsTrue (records_stand (Some table.now.schema) records.now) }
+    requires { IsTrue (are_own_records (Some table.now.schema) records.now) }
     ensures { IfOk result (λ group. group ≡ table_changes (name.now, records.now) (Some table.now)) }
 {
     let mut group = None;
@@ -200,7 +200,7 @@ fn group_of<A: AllocHandle>(
 // The row with this primary key, if there is one.
 pub(crate) fn row_now<'a, A: AllocHandle>(table: &'a Table<A>, key: &Key<A>) -> Option<&'a Row<A>>
     ensures row { option_copied result ≡ get fields_cmp table.now.keyed key.now }
-    ensures stands { IfSome result (λ row. IsTrue (keyed_stands table.now.schema key.now row.now)) }
+    ensures sound { IfSome result (λ row. IsTrue (is_keyed_row table.now.schema key.now row.now)) }
 {
     table.keyed().get(key)
 }

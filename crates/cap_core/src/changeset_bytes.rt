@@ -9,7 +9,7 @@ ghost use Rattle.cap_codec.specs.Changeset.{changes_under, header_bytes, list_by
 ghost use Rattle.cap_changes.specs.KindByte.{changeset_kind};
 ghost use Rattle.cap_changes.specs.Change.{change_of};
 ghost use Rattle.cap_core.specs.Capture.{change_now, changes_of, table_changes};
-ghost use Rattle.cap_core.specs.Code.ChangesetBytes.{behind, header_unless};
+ghost use Rattle.cap_core.specs.Code.ChangesetBytes.{header_unless, remaining_bytes};
 
 use crate::capture::row_now;
 use cap_codec::{KeyFlags, is_changed, push_change_between, push_group_header};
@@ -90,8 +90,8 @@ fn push_touched<A: AllocHandle>(
     now: Option<&Row<A>>,
 ) -> Result<bool, OutOfMemory>
     ensures { IfOk result (λ some. (others : List (RowChange A))
-        → out.new.items ++ behind some (header_bytes key_flags changeset_kind name.now schema.now) others
-        ≡ out.old.items ++ behind begun (header_bytes key_flags changeset_kind name.now schema.now)
+        → out.new.items ++ remaining_bytes some (header_bytes key_flags changeset_kind name.now schema.now) others
+        ≡ out.old.items ++ remaining_bytes begun (header_bytes key_flags changeset_kind name.now schema.now)
         (cons_option (change_of schema.now kept.now.indirect kept.now.image (option_copied now.entry))
         others)) }
 {

@@ -1,7 +1,7 @@
 //! The commands of the server.
 
 use crate::{QuietSessions, SessionCommand};
-use cap_apply::{Policy, blob_fits_its_columns};
+use cap_apply::Policy;
 use cap_codec::Contents;
 use cap_row::Schema;
 use cap_txn::Batch;
@@ -89,7 +89,7 @@ impl<A: AllocHandle> Command<A> {
         ensures { BlobFits self.now }
     {
         if let Command::Apply { blob, .. } = self {
-            blob_fits_its_columns(blob);
+            cap_apply::laws::blob_fits_its_columns(blob);
         }
     }
 }

@@ -1,7 +1,7 @@
 //! The differences of a table from a saved database.
 ghost use Rattle.std.specs.Prelude.{IfOk, IfSome, IsTrue};
 ghost use Rattle.std.specs.Option.{option_map};
-ghost use Rattle.cap_core.specs.Code.Sound.{differences_stand};
+ghost use Rattle.cap_core.specs.Code.Sound.{are_own_differences};
 ghost use Rattle.cap_core.specs.Diff.{diff};
 ghost use Rattle.cap_database.specs.Tables.{schema_of};
 ghost use Rattle.cap_value.specs.Memory.{ShowsUnlessMemory};
@@ -26,8 +26,8 @@ pub(crate) fn differences<A: AllocHandle>(
 ) -> Result<Differences<A>, Fault<Refusal>>
     ensures found { ShowsUnlessMemory (option_map (λ found. found.items)) result
         (diff main.now saved.now from.now name.now) }
-    ensures stand { IfOk result (λ answer. IfSome answer (λ found.
-        IsTrue (differences_stand (schema_of main.now name.now) found.items))) }
+    ensures sound { IfOk result (λ answer. IfSome answer (λ found.
+        IsTrue (are_own_differences (schema_of main.now name.now) found.items))) }
 {
     let Some(table) = main.table(name) else {
         return Ok(None);
@@ -38,7 +38,7 @@ pub(crate) fn differences<A: AllocHandle>(
     let Some(database) = saved.get(from) else {
         return Err(Fault::Refused(Refusal::NoDatabase));
     };
-    database.rows_stand();
+    database.sound_rows_law();
     let found = compare(alloc, database.table(name), table)?;
     Ok(Some(found))
 }

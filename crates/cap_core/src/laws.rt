@@ -5,8 +5,8 @@ ghost use Rattle.std.specs.List.{All};
 ghost use Rattle.cap_value.specs.Bytes.{bytes_cmp};
 ghost use Rattle.cap_tree.specs.Tree.{IsOrdered};
 ghost use Rattle.cap_database.specs.Tables.{AreRising, EachRises};
-ghost use Rattle.cap_txn.specs.Batch.{BatchState, WhereSeen};
-ghost use Rattle.cap_txn.specs.Stale.{StandsFor};
+ghost use Rattle.cap_txn.specs.Batch.{BatchState, WhereRead};
+ghost use Rattle.cap_txn.specs.Stale.{AreOpsOf};
 ghost use Rattle.cap_core.specs.declared.command.Command.{Command};
 ghost use Rattle.cap_core.specs.declared.event.Event.{Event};
 ghost use Rattle.cap_core.specs.declared.reply.Reply.{Reply};
@@ -16,9 +16,7 @@ ghost use Rattle.cap_core.specs.Commit.{CommitsIfUnchanged};
 ghost use Rattle.cap_core.specs.Table.{BlobFits, BlobsFit, BlobsFitPast, IsKeyed, IsLoose};
 ghost use Rattle.cap_core.specs.Transition.{next};
 
-use cap_apply::applied_blobs_keep_order;
-use cap_database::tables_keep_order;
-use cap_txn::footprints_judge_batches;
+use crate::Command;
 use cap_value::AllocHandle;
 
 /// The empty history is legal, and a legal history with one more event is legal where the event has the reply
@@ -64,22 +62,31 @@ pub fn legal_histories_were_legal<A: AllocHandle>()
 /// the first item that has changed.
 pub fn transactions_commit_if_unchanged<A: AllocHandle>()
     ensures { (now : State A) (batch : BatchState A) → EachRises now.main →
-        WhereSeen batch.base batch.seen (StandsFor batch.ops) →
-        WhereSeen batch.base batch.seen
+        WhereRead batch.base batch.reads (AreOpsOf batch.ops) →
+        WhereRead batch.base batch.reads
         (CommitsIfUnchanged (snapshot_of now) (answer now (Command.Commit batch))) }
 {
-    footprints_judge_batches::<A>();
+    cap_txn::laws::footprints_judge_batches::<A>();
 }
 
 /// After any history whose blobs fit the names of the tables rise. In each table keys and ids rise, each row
 /// has as many fields as the table has columns, and is stored under its own primary key, or under its id
 /// where it has none. The next id is at least 1 and at most 2^63.
-pub fn rows_stand_under_own_keys<A: AllocHandle>()
+pub fn rows_are_under_own_keys<A: AllocHandle>()
     ensures names { (h : List (Event A)) → BlobsFit h → IsOrdered bytes_cmp (state h).main }
     ensures keyed { (h : List (Event A)) → BlobsFit h → All (λ named. IsKeyed named.1) (state h).main }
     ensures loose { (h : List (Event A)) → BlobsFit h → All (λ named. IsLoose named.1) (state h).main }
     ensures rising { (h : List (Event A)) → BlobsFit h → AreRising (state h).main }
 {
-    tables_keep_order::<A>();
-    applied_blobs_keep_order::<A>();
+    cap_database::laws::tables_keep_order::<A>();
+    cap_apply::laws::applied_blobs_keep_order::<A>();
+}
+
+// The blobs of these commands fit their tables.
+pub(crate) fn blobs_fit<A: AllocHandle>(commands: &[Command<A>])
+    ensures { All BlobFits commands.now }
+{
+    for command in commands {
+        command.blob_fits();
+    }
 }

@@ -8,7 +8,7 @@ mod commit_hook;
 mod diff;
 mod dump;
 mod event;
-mod laws;
+pub mod laws;
 mod limits;
 mod listed_session;
 mod listed_table;
@@ -29,10 +29,6 @@ pub use command::Command;
 pub use commit_hook::{CommitHook, Never, NoHook};
 pub use dump::Dump;
 pub use event::Event;
-pub use laws::{
-    fitting_histories_grow, legal_histories_grow, legal_histories_were_legal,
-    rows_stand_under_own_keys, transactions_commit_if_unchanged,
-};
 pub use limits::{EVENTS_MAX, SAVED_MAX, SESSIONS_MAX};
 pub use listed_session::ListedSession;
 pub use listed_table::ListedTable;

@@ -80,7 +80,7 @@ impl<A: AllocHandle> Core<A> {
 
     // A batch is out of date, or its first operation is refused.
     fn refused_batch(&self, batch: &Batch<A>) -> Option<Why>
-        ensures { result ≡ refused_batch (stale batch.now.base batch.now.seen (snapshot_of self.now))
+        ensures { result ≡ refused_batch (stale batch.now.base batch.now.reads (snapshot_of self.now))
             self.now.main batch.now.ops }
     {
         if let Some(why) = batch.stale(self.version, &self.main) {

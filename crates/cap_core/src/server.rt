@@ -1,6 +1,6 @@
 //! The sequential server, `Core`. No module may be named `core`.
 ghost use Rattle.std.specs.Prelude.{◌≡◌, ℕ, ◌<◌, ◌^◌, ◌≤◌, [], ◌∷◌, ◌++◌, List, Some, Ok, Err, IfOk, IfErr};
-ghost use Rattle.std.specs.Prelude.{All, OnOk, OnErr, IsTrue, length};
+ghost use Rattle.std.specs.Prelude.{OnOk, OnErr, IsTrue, length};
 ghost use Rattle.cap_core.specs.declared.event.Event.{Event};
 ghost use Rattle.cap_core.specs.Answer.{State, state, reply_of, IsLegal, event_by, history_of, answer};
 ghost use Rattle.cap_core.specs.Answer.{drop_reply, has_room_for, save_reply, snapshot_of};
@@ -10,12 +10,12 @@ ghost use Rattle.cap_value.specs.Memory.{MatchFault};
 ghost use Rattle.cap_core.specs.Code.CommandOutcome.{Reports};
 ghost use Rattle.cap_core.specs.Past.{HasRoom};
 ghost use Rattle.cap_core.specs.RefusedFirst.{RepliesFirst, refused_first};
-ghost use Rattle.cap_core.specs.Table.{BlobFits, BlobsFit};
+ghost use Rattle.cap_core.specs.Table.{BlobsFit};
 ghost use Rattle.cap_core.specs.Transition.{next, one_more, after_drop, after_save};
 
 use crate::commit_hook::{ReplyHook, ask};
 use crate::names::names_of;
-use crate::{Command, CommitHook, Dump, NoHook, Reply, SAVED_MAX, SessionList, TableList};
+use crate::{Command, CommitHook, Dump, NoHook, Reply, SAVED_MAX, SessionList, TableList, laws};
 use cap_database::{Database, Snapshot};
 use cap_session::Sessions;
 use cap_tree::Tree;
@@ -40,7 +40,7 @@ impl<A: AllocHandle> Model for Core<A> {
     ghost use Rattle.std.specs.Coded.{codes};
     ghost use Rattle.cap_filter.specs.Rule.{coded_rule};
     ghost use Rattle.cap_core.specs.Answer.{State};
-    ghost use Rattle.cap_core.specs.Code.Sound.{sessions_stand};
+    ghost use Rattle.cap_core.specs.Code.Sound.{are_own_sessions};
 
     ghost Value = { State A };
 
@@ -56,7 +56,7 @@ impl<A: AllocHandle> Model for Core<A> {
     } };
 
     ghost invariant = { λ c. (c.version ≤ c.events) × (c.sessions_made ≤ c.events)
-        × IsTrue (sessions_stand c.main c.sessions) };
+        × IsTrue (are_own_sessions c.main c.sessions) };
 }
 
 impl<A: AllocHandle> Core<A> {
@@ -136,7 +136,7 @@ impl<A: AllocHandle> Core<A> {
         ensures state { IfOk result (λ r. r.0 ≡ state (history_of commands.now r.1.items)) }
         ensures fits { IfOk result (λ r. BlobsFit (history_of commands.now r.1.items)) }
     {
-        blobs_fit(commands);
+        laws::blobs_fit(commands);
         let mut core = Core::new(alloc);
         let mut replies = Vec::with_capacity(alloc, commands.len())?;
         for command in commands {
@@ -398,13 +398,4 @@ pub(crate) fn has_room_for<A: AllocHandle>(
     ensures { result ≡ has_room_for saved.now name.now }
 {
     saved.get(name).is_some() || saved.len() < SAVED_MAX
-}
-
-// The blobs of these commands fit their tables.
-fn blobs_fit<A: AllocHandle>(commands: &[Command<A>])
-    ensures { All BlobFits commands.now }
-{
-    for command in commands {
-        command.blob_fits();
-    }
 }

@@ -2,8 +2,8 @@
 ghost use Rattle.std.specs.Prelude.{◌≡◌, IfOk, IsTrue};
 ghost use Rattle.std.specs.Option.{option_copied, option_map};
 ghost use Rattle.cap_row.specs.Key.{fields_eq, key_fields};
-ghost use Rattle.cap_table.specs.Sound.{keyed_stands};
-ghost use Rattle.cap_core.specs.CanCapture.{image_stands, records_stand, session_stands};
+ghost use Rattle.cap_table.specs.Sound.{is_keyed_row};
+ghost use Rattle.cap_core.specs.CanCapture.{are_own_records, is_own_image, is_own_session};
 ghost use Rattle.cap_core.specs.Capture.{session_changes};
 
 use crate::capture;
@@ -23,7 +23,7 @@ pub fn changes_of<A: AllocHandle>(
     session: &Session<A>,
     database: &Database<A>,
 ) -> Result<ChangeList<A>, OutOfMemory>
-    requires { IsTrue (session_stands database.now session.now) }
+    requires { IsTrue (is_own_session database.now session.now) }
     ensures { IfOk result (λ list. list ≡ session_changes database.now session.now) }
 {
     capture::changes_of(alloc, session.attached(), database)
@@ -32,10 +32,10 @@ pub fn changes_of<A: AllocHandle>(
 /// Whether a session can be captured against a database: each first image is a row of a table of the
 /// database, with the table's width, and has the key of its record. Takes no memory.
 pub fn can_capture<A: AllocHandle>(session: &Session<A>, database: &Database<A>) -> bool
-    ensures { result ≡ session_stands database.now session.now }
+    ensures { result ≡ is_own_session database.now session.now }
 {
     for (name, records) in session.attached() {
-        if !records_stand(database.table(name), records) {
+        if !are_own_records(database.table(name), records) {
             return false;
         }
     }
@@ -43,35 +43,35 @@ pub fn can_capture<A: AllocHandle>(session: &Session<A>, database: &Database<A>)
 }
 
 // Whether each first image is a row of this table.
-fn records_stand<A: AllocHandle>(table: Option<&Table<A>>, records: &Records<A>) -> bool
-    ensures { result ≡ records_stand (option_map (λ t. t.schema) (option_copied table.entry)) records.now }
+fn are_own_records<A: AllocHandle>(table: Option<&Table<A>>, records: &Records<A>) -> bool
+    ensures { result ≡ are_own_records (option_map (λ t. t.schema) (option_copied table.entry)) records.now }
 {
     for (key, record) in records {
-        if !image_stands(table, key, record.image.as_ref()) {
+        if !is_own_image(table, key, record.image.as_ref()) {
             return false;
         }
     }
     true
 }
 
-fn image_stands<A: AllocHandle>(
+fn is_own_image<A: AllocHandle>(
     table: Option<&Table<A>>,
     key: &Key<A>,
     image: Option<&Row<A>>,
 ) -> bool
-    ensures { result ≡ image_stands (option_map (λ t. t.schema) (option_copied table.entry)) key.now
+    ensures { result ≡ is_own_image (option_map (λ t. t.schema) (option_copied table.entry)) key.now
         (option_copied image.entry) }
 {
     match (table, image) {
         (_, None) => true,
         (None, Some(_)) => false,
-        (Some(table), Some(row)) => keyed_stands(table.schema(), key, row),
+        (Some(table), Some(row)) => is_keyed_row(table.schema(), key, row),
     }
 }
 
 // Whether the row is as wide as the table, and has this key.
-fn keyed_stands<A: AllocHandle>(schema: &Schema<A>, key: &Key<A>, row: &Row<A>) -> bool
-    ensures { result ≡ keyed_stands schema.now key.now row.now }
+fn is_keyed_row<A: AllocHandle>(schema: &Schema<A>, key: &Key<A>, row: &Row<A>) -> bool
+    ensures { result ≡ is_keyed_row schema.now key.now row.now }
 {
     row.width() == schema.width() && has_key_fields(schema.flags(), row.fields(), key.fields())
 }

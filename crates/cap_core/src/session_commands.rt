@@ -3,8 +3,8 @@
 ghost use Rattle.std.specs.Prelude.{◌≡◌, ◌+◌, ◌∷◌, ◌++◌, [], IfOk, IsTrue};
 ghost use Rattle.cap_core.specs.Answer.{capture_reply, change_reply, diffed, new_session_reply};
 ghost use Rattle.cap_core.specs.Answer.{session_answer, session_reply};
-ghost use Rattle.cap_core.specs.CanCapture.{session_stands};
-ghost use Rattle.cap_core.specs.Code.Sound.{differences_stand};
+ghost use Rattle.cap_core.specs.CanCapture.{is_own_session};
+ghost use Rattle.cap_core.specs.Code.Sound.{are_own_differences};
 ghost use Rattle.cap_core.specs.Code.CommandOutcome.{Reports};
 ghost use Rattle.cap_core.specs.Code.SessionChange.{changed_session};
 ghost use Rattle.cap_core.specs.Diff.{diff};
@@ -199,7 +199,7 @@ impl<A: AllocHandle> Core<A> {
         hook: &mut C,
     ) -> Result<Reply<A>, Fault<C::Refusal>>
         requires room { HasRoom self.old.events }
-        requires stand { IsTrue (differences_stand (schema_of self.old.main name.now) found.now) }
+        requires sound { IsTrue (are_own_differences (schema_of self.old.main name.now) found.now) }
         requires can_ask { C.can_ask hook.old Reply.Done }
         ensures { Reports C.gives Reply.Done
             (changed_session self.old number (record_diff name.now found.now))
@@ -253,7 +253,7 @@ fn change_reply<A: AllocHandle>(
     session: &Session<A>,
     main: &Database<A>,
 ) -> Result<Reply<A>, OutOfMemory>
-    requires { IsTrue (session_stands main.now session.now) }
+    requires { IsTrue (is_own_session main.now session.now) }
     ensures { IfOk result (λ reply. reply ≡ change_reply change.now version main.now session.now) }
 {
     match change {
@@ -270,7 +270,7 @@ fn capture_reply<A: AllocHandle>(
     session: &Session<A>,
     main: &Database<A>,
 ) -> Result<Reply<A>, OutOfMemory>
-    requires { IsTrue (session_stands main.now session.now) }
+    requires { IsTrue (is_own_session main.now session.now) }
     ensures { IfOk result (λ reply. reply ≡ capture_reply version main.now session.now) }
 {
     let capture = Capture::new(version, session.copy()?, main.snapshot()?);

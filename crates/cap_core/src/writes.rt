@@ -1,6 +1,6 @@
 //! The commands that write: a new table, a transaction, and a blob that is applied.
 ghost use Rattle.std.specs.Prelude.{◌≡◌, ◌+◌, ◌∷◌, [], Ok, OnErr, OnOk, Some};
-ghost use Rattle.cap_table.specs.WithHook.{LeavesOnceAllowed};
+ghost use Rattle.cap_table.specs.WithHook.{LeavesIfAllowed};
 ghost use Rattle.cap_database.specs.Carried.{CarryFirstRows};
 ghost use Rattle.cap_database.specs.KeptKey.{kept_key};
 ghost use Rattle.cap_database.specs.Operation.{changes, run, step};
@@ -18,12 +18,12 @@ ghost use Rattle.cap_value.specs.Memory.{AnswersUnlessMemory, MatchFault};
 
 use crate::commit_hook::{RecordingHook, ask};
 use crate::{CommitHook, Core, Reply};
-use cap_apply::{Applied, Policy, applied_blobs_keep_columns};
+use cap_apply::{Applied, Policy};
 use cap_codec::Contents;
-use cap_database::{Change, Database, Op, Outcome, run_ops, tables_keep_columns};
+use cap_database::{Change, Database, Op, Outcome, run_ops};
 use cap_row::{Key, Schema};
 use cap_session::Sessions;
-use cap_table::NotMade;
+use cap_table::ChangeFault;
 use cap_txn::Batch;
 use cap_value::{AllocHandle, Fault, Name, Refusal};
 
@@ -43,7 +43,7 @@ impl<A: AllocHandle> Core<A> {
             Reports C.gives (write_reply self.old effect) (after_write self.old [] effect)
             self.old self.new hook.old hook.new result }
     {
-        tables_keep_columns::<A>();
+        cap_database::laws::tables_keep_columns::<A>();
         match with_table(&self.main, name, schema) {
             Ok(tables) => {
                 let changes = Vec::new(self.alloc);
@@ -69,9 +69,9 @@ impl<A: AllocHandle> Core<A> {
     ) -> Result<Reply<A>, Fault<C::Refusal>>
         requires room { HasRoom self.old.events }
         requires can_ask { C.can_ask hook.old (write_reply self.old (commit_unless
-            (stale batch.now.base batch.now.seen (snapshot_of self.old)) self.old.main batch.now.ops)) }
+            (stale batch.now.base batch.now.reads (snapshot_of self.old)) self.old.main batch.now.ops)) }
         ensures { let effect = commit_unless
-            (stale batch.now.base batch.now.seen (snapshot_of self.old)) self.old.main batch.now.ops in
+            (stale batch.now.base batch.now.reads (snapshot_of self.old)) self.old.main batch.now.ops in
             Reports C.gives (write_reply self.old effect) (after_write self.old [] effect)
             self.old self.new hook.old hook.new result }
     {
@@ -118,7 +118,7 @@ impl<A: AllocHandle> Core<A> {
             Reports C.gives (write_reply self.old effect) (after_write self.old [] effect)
             self.old self.new hook.old hook.new result }
     {
-        tables_keep_columns::<A>();
+        cap_database::laws::tables_keep_columns::<A>();
         match run_ops(self.alloc, &self.main, ops) {
             Ok(outcome) => self.write_outcome(outcome, hook),
             Err(Fault::Refused(refused)) => {
@@ -147,12 +147,12 @@ impl<A: AllocHandle> Core<A> {
     {
         match self.commit_in_place(op, key, hook) {
             Ok(reply) => Ok(reply),
-            Err(NotMade::Refused(why)) => self.reply_only(
+            Err(ChangeFault::Refused(why)) => self.reply_only(
                 Reply::Refused { at: Some(0), why },
                 hook,
             ),
-            Err(NotMade::OutOfMemory) => Err(Fault::OutOfMemory),
-            Err(NotMade::Vetoed(why)) => Err(Fault::Refused(why)),
+            Err(ChangeFault::OutOfMemory) => Err(Fault::OutOfMemory),
+            Err(ChangeFault::Vetoed(why)) => Err(Fault::Refused(why)),
         }
     }
 
@@ -162,15 +162,15 @@ impl<A: AllocHandle> Core<A> {
         op: &Op<A>,
         key: &Key<A>,
         hook: &mut C,
-    ) -> Result<Reply<A>, NotMade<C::Refusal>>
+    ) -> Result<Reply<A>, ChangeFault<C::Refusal>>
         requires room { HasRoom self.old.events }
         requires key { kept_key self.old.main op.now ≡ Some key.now }
         requires can_ask { (after : Tables A) → step self.old.main op.now ≡ Ok after
             → C.can_ask hook.old (Reply.Written (self.old.version + 1)) }
         ensures { ReportsStep C.gives op.now self.old self.new hook.old hook.new result }
     {
-        tables_keep_columns::<A>();
-        self.main.rows_stand();
+        cap_database::laws::tables_keep_columns::<A>();
+        self.main.sound_rows_law();
         let reply = Reply::Written {
             version: self.version + 1,
         };
@@ -246,7 +246,7 @@ impl<A: AllocHandle> Core<A> {
             Reports C.gives (write_reply self.old effect) (after_write self.old quiet.now effect)
             self.old self.new hook.old hook.new result }
     {
-        applied_blobs_keep_columns::<A>();
+        cap_apply::laws::applied_blobs_keep_columns::<A>();
         match cap_apply::apply(self.alloc, &self.main, blob, policy) {
             Ok(applied) => self.write_applied(applied, quiet, hook),
             Err(Fault::Refused(why)) => {
@@ -300,7 +300,7 @@ impl<A: AllocHandle> Core<A> {
         ensures { Reports C.gives reply (written self.old tables changes.now quiet.now)
             self.old self.new hook.old hook.new result }
     {
-        self.main.rows_stand();
+        self.main.sound_rows_law();
         let delta = self.sessions.reserve(changes, quiet)?;
         ask(hook, &reply)?;
         self.sessions.publish(delta);
@@ -320,10 +320,10 @@ fn step_and_record<A: AllocHandle, C: CommitHook<A>>(
     key: &Key<A>,
     reply: &Reply<A>,
     hook: &mut C,
-) -> Result<(), NotMade<C::Refusal>>
+) -> Result<(), ChangeFault<C::Refusal>>
     requires key { kept_key main.old op.now ≡ Some key.now }
     requires can_ask { (after : Tables A) → step main.old op.now ≡ Ok after → C.can_ask hook.old reply.now }
-    ensures tables { LeavesOnceAllowed result (step main.old op.now) main.new
+    ensures tables { LeavesIfAllowed result (step main.old op.now) main.new
         (hook.new ≡ hook.old) (λ answer. C.gives hook.old reply.now answer hook.new) }
     ensures kept { OnErr result (main.new ≡ main.old) }
     ensures recorded { OnOk result (sessions.new
@@ -346,18 +346,18 @@ fn step_and_record<A: AllocHandle, C: CommitHook<A>>(
             }
             Ok(())
         }
-        Err(NotMade::Refused(why)) => Err(NotMade::Refused(why)),
-        Err(NotMade::OutOfMemory) => Err(NotMade::OutOfMemory),
-        Err(NotMade::Vetoed(fault)) => Err(not_made(fault)),
+        Err(ChangeFault::Refused(why)) => Err(ChangeFault::Refused(why)),
+        Err(ChangeFault::OutOfMemory) => Err(ChangeFault::OutOfMemory),
+        Err(ChangeFault::Vetoed(fault)) => Err(change_fault(fault)),
     }
 }
 
-fn not_made<E>(fault: Fault<E>) -> NotMade<E>
-    ensures memory { MatchFault fault (result ≡ NotMade.OutOfMemory) (λ why. result ≡ NotMade.Vetoed why) }
+fn change_fault<E>(fault: Fault<E>) -> ChangeFault<E>
+    ensures memory { MatchFault fault (result ≡ ChangeFault.OutOfMemory) (λ why. result ≡ ChangeFault.Vetoed why) }
 {
     match fault {
-        Fault::OutOfMemory => NotMade::OutOfMemory,
-        Fault::Refused(why) => NotMade::Vetoed(why),
+        Fault::OutOfMemory => ChangeFault::OutOfMemory,
+        Fault::Refused(why) => ChangeFault::Vetoed(why),
     }
 }
 

@@ -202,9 +202,9 @@ module _ {A : Type 0} where
   -- ---- the event
 
   module _ (past : Past A) (event : Event A) (session : ℕ) (name : List ℕ) (table : TableState A) (key row : Fields A) (is : IsInsertOfAbsent past event session name table key row) where
-    inserted : WasInserted (main past) name table key row (commit_unless (stale is.base is.seen (snapshot past)) (main past) (insert_of name row ∷ []))
+    inserted : WasInserted (main past) name table key row (commit_unless (stale is.base is.reads (snapshot past)) (main past) (insert_of name row ∷ []))
     inserted =
-        batch_inserted (state_after past) (main past) name table key row (stale is.base is.seen (snapshot past)) is.there is.own
+        batch_inserted (state_after past) (main past) name table key row (stale is.base is.reads (snapshot past)) is.there is.own
         (ap (λ c. is_accepted (answer (state_after past) c)) (sym is.inserts)
         ∙ ap is_accepted (sym is.legal.0)
         ∙ is.accepted)

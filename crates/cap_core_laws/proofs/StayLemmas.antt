@@ -71,7 +71,7 @@ module _ {A : Type 0} where
 
     outcome-stays : (now : SnapshotState A) (c : Command A) → EffectStays now.database (outcome now c)
     outcome-stays now (command.CreateTable other schema) = create-stays now.database other schema
-    outcome-stays now (command.Commit batch) = commit-stays (stale batch.base batch.seen now) now.database batch.ops
+    outcome-stays now (command.Commit batch) = commit-stays (stale batch.base batch.reads now) now.database batch.ops
     outcome-stays now (command.Apply blob policy quiet) = applied-stays now.database (apply now.database blob policy) (apply-more name key now.database blob policy)
     outcome-stays now _ = λ _. refl
 
@@ -159,7 +159,7 @@ module _ {A : Type 0} where
 
       outcome-keeps : (now : SnapshotState A) (c : Command A) → EffectKeeps now.database (outcome now c)
       outcome-keeps now (command.CreateTable other schema) = created-keeps now.database (create now.database other schema) (creates now.database other schema)
-      outcome-keeps now (command.Commit batch) = commit-keeps (stale batch.base batch.seen now) now.database batch.ops
+      outcome-keeps now (command.Commit batch) = commit-keeps (stale batch.base batch.reads now) now.database batch.ops
       outcome-keeps now (command.Apply blob policy quiet) = applied-keeps now.database (apply now.database blob policy) (apply-more name key now.database blob policy)
       outcome-keeps now _ = nothing-keeps now.database
 

@@ -14,7 +14,7 @@ use Rattle.cap_database.specs.declared.cause.Cause.TheVariants.{Direct}
 use Rattle.cap_database.specs.declared.op.Action.TheVariants.{Insert}
 use Rattle.cap_database.specs.declared.op.Op.{Op}
 use Rattle.cap_session.specs.Records.{Records}
-use Rattle.cap_txn.specs.Seen.{SeenState}
+use Rattle.cap_txn.specs.ReadSet.{ReadSetState}
 use Rattle.cap_core.specs.declared.command.Command.TheVariants.{Commit}
 use Rattle.cap_core.specs.declared.event.Event.{Event}
 use Rattle.cap_core.specs.Answer.{IsLegalPast}
@@ -35,8 +35,8 @@ module _ {A : Type 0} where
       (table : TableState A) (key row : Fields A) : Type 0 where
     pub legal : IsLegalPast (event ∷ past)
     pub base : Option ℕ
-    pub seen : Option (SeenState A)
-    pub inserts : event.command ≡ Commit (record { base = base; ops = insert_of name row ∷ []; seen = seen })
+    pub reads : Option (ReadSetState A)
+    pub inserts : event.command ≡ Commit (record { base = base; ops = insert_of name row ∷ []; reads = reads })
     pub accepted : is_accepted event.reply ≡ true
     pub there : table_of (main past) name ≡ Some table
     pub own : key_of table.schema row ≡ Some key

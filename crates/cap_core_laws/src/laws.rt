@@ -41,13 +41,7 @@ ghost use Rattle.cap_core.specs.Session.{all_indirect, records_of, session_of};
 ghost use Rattle.cap_core.specs.Table.{BlobsFitPast};
 ghost use Rattle.cap_core.specs.Touch.{Touch, restarts, touches, touches_of};
 
-use cap_apply::applied_blobs_keep_order;
-use cap_apply_laws::{
-    a_changeset_gives_the_rows_now, a_patchset_gives_the_rows_now, captures_fit_their_columns,
-};
-use cap_codec::key_flags_read_alike;
-use cap_compare::differences_are_just_those;
-use cap_database::{Database, tables_keep_columns, tables_keep_order};
+use cap_database::Database;
 use cap_value::AllocHandle;
 
 /// A session without touches captures nothing.
@@ -110,7 +104,7 @@ pub fn database_rises<A: AllocHandle>(database: &Database<A>)
     ensures { AreRising database.now }
 {
     let _tables = database.len();
-    database.rows_stand();
+    database.sound_rows_law();
 }
 
 /// A capture, applied to a database that has the tables of its touched rows with the same columns and the
@@ -139,10 +133,10 @@ pub fn a_capture_gives_the_rows_now<A: AllocHandle>()
         → capture_after past session ≡ Reply.Capture capture
         → capture.version ≡ version past }
 {
-    a_changeset_gives_the_rows_now::<A>();
-    a_patchset_gives_the_rows_now::<A>();
-    applied_blobs_keep_order::<A>();
-    tables_keep_order::<A>();
+    cap_apply_laws::laws::a_changeset_gives_the_rows_now::<A>();
+    cap_apply_laws::laws::a_patchset_gives_the_rows_now::<A>();
+    cap_apply::laws::applied_blobs_keep_order::<A>();
+    cap_database::laws::tables_keep_order::<A>();
 }
 
 /// An application leaves each quiet session as it is: its flags, its filter, its tables and its records.
@@ -170,11 +164,11 @@ pub fn a_capture_after_a_diff_gives_the_rows_now<A: AllocHandle>()
         → AppliesRows policy (Contents.Patches (patch_list_of capture.changes))
         (changes_in capture.changes) database (main (later ++ event ∷ past)) name }
 {
-    a_changeset_gives_the_rows_now::<A>();
-    a_patchset_gives_the_rows_now::<A>();
-    applied_blobs_keep_order::<A>();
-    differences_are_just_those::<A>();
-    tables_keep_order::<A>();
+    cap_apply_laws::laws::a_changeset_gives_the_rows_now::<A>();
+    cap_apply_laws::laws::a_patchset_gives_the_rows_now::<A>();
+    cap_apply::laws::applied_blobs_keep_order::<A>();
+    cap_compare::laws::differences_are_just_those::<A>();
+    cap_database::laws::tables_keep_order::<A>();
 }
 
 /// Captures in a row, each by a restart of the session, are applied in order to a database that has, for each
@@ -200,12 +194,12 @@ pub fn captures_in_a_row_give_the_rows_now<A: AllocHandle>()
         × AppliesAllPatches policy (captures session (event ∷ later) start) database left
         × HasRowsNow left session (event ∷ later) start }
 {
-    a_changeset_gives_the_rows_now::<A>();
-    a_patchset_gives_the_rows_now::<A>();
-    applied_blobs_keep_order::<A>();
-    captures_fit_their_columns::<A>();
-    tables_keep_columns::<A>();
-    tables_keep_order::<A>();
+    cap_apply_laws::laws::a_changeset_gives_the_rows_now::<A>();
+    cap_apply_laws::laws::a_patchset_gives_the_rows_now::<A>();
+    cap_apply::laws::applied_blobs_keep_order::<A>();
+    cap_apply_laws::laws::captures_fit_their_columns::<A>();
+    cap_database::laws::tables_keep_columns::<A>();
+    cap_database::laws::tables_keep_order::<A>();
 }
 
 /// Whatever the command, a row under a key that none of its changes names stays as it was: so no session
@@ -277,5 +271,5 @@ pub fn bytes_of_a_capture_give_the_rows_now<A: AllocHandle>()
 {
     a_capture_gives_the_rows_now::<A>();
     captures_have_no_empty_group::<A>();
-    key_flags_read_alike::<A>();
+    cap_codec::laws::key_flags_read_alike::<A>();
 }

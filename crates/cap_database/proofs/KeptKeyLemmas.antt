@@ -12,8 +12,8 @@ use Rattle.cap_table.specs.KeptKey.{keeps_key}
 use Rattle.cap_table.specs.Operation.{row_of, updated}
 use Rattle.cap_table.specs.Sound.{IsRising, IsTable, is_key_of}
 use Rattle.cap_table.specs.Table.{TableState}
-use Rattle.cap_table.specs.WithHook.{LeavesOnceAllowed}
-use Rattle.cap_table.specs.declared.not_made.NotMade.{NotMade}
+use Rattle.cap_table.specs.WithHook.{LeavesIfAllowed}
+use Rattle.cap_table.specs.declared.change_fault.ChangeFault.{ChangeFault}
 use Rattle.cap_table.specs.declared.row_ref.RowRef.TheVariants.{Key, Loose}
 use Rattle.cap_table.proofs.KeptKeyLemmas.{same_key}
 use Rattle.cap_table.proofs.BackLemmas.{own-row}
@@ -85,10 +85,10 @@ module _ {A : Type 0} where
       inner : (r : Result (TableState A) Refusal) → act t op.action ≡ r → in_place ts op.table r ≡ Ok left → AreOfKey op key (row_at ts op.table key) (changes_in (Some t) op)
       inner (Ok after) acts made =
           subst (λ (before : Option (Fields A)). AreOfKey op key before (changes_in (Some t) op)) (sym (row-found ts op.table t key there))
-          (told (keys-kept t (each-found IsRising ts op.table t each there).stand op.action key kept after acts))
+          (told (keys-kept t (each-found IsRising ts op.table t each there).sound op.action key kept after acts))
       inner (Err why) acts made = absurd cc
 
-  pub changes-of-key : {E : Type 0} (ts : Tables A) → EachRises ts → (op : Op A) (key : Fields A) → kept_key ts op ≡ Some key → (r : Result (Unit {0}) (NotMade E)) (left : Tables A) (unasked : Type 0) (gives : Result (Unit {0}) E → Type 0)
-      → LeavesOnceAllowed r (step ts op) left unasked gives → OnOk r (AreOfKey op key (row_at ts op.table key) (changes ts op))
+  pub changes-of-key : {E : Type 0} (ts : Tables A) → EachRises ts → (op : Op A) (key : Fields A) → kept_key ts op ≡ Some key → (r : Result (Unit {0}) (ChangeFault E)) (left : Tables A) (unasked : Type 0) (gives : Result (Unit {0}) E → Type 0)
+      → LeavesIfAllowed r (step ts op) left unasked gives → OnOk r (AreOfKey op key (row_at ts op.table key) (changes ts op))
   changes-of-key ts each op key kept (Ok done) left unasked gives is = made-of-key ts each op key (table_of ts op.table) refl kept left is.0
   changes-of-key ts each op key kept (Err why) left unasked gives is = tt

@@ -16,11 +16,11 @@ use Rattle.cap_value.specs.declared.refusal.Refusal.TheVariants.{TableExists, To
 use Rattle.cap_row.specs.Fields.{Fields}
 use Rattle.cap_tree.specs.Tree.{get, put_entry}
 use Rattle.cap_tree.proofs.EntryLemmas.{put_entry-Updates}
-use Rattle.cap_table.specs.WithHook.{LeavesOnceAllowed}
+use Rattle.cap_table.specs.WithHook.{LeavesIfAllowed}
 use Rattle.cap_table.specs.Operation.{delete_row, empty_table, insert_row, update_row}
 use Rattle.cap_table.specs.Sound.{IsRising}
 use Rattle.cap_table.specs.Table.{TableState}
-use Rattle.cap_table.specs.declared.not_made.NotMade.{NotMade}
+use Rattle.cap_table.specs.declared.change_fault.ChangeFault.{ChangeFault}
 use Rattle.cap_table.specs.declared.row_ref.RowRef.{RowRef}
 use Rattle.cap_table.proofs.KeptLemmas.{sorted-put as sorted-entries}
 use Rattle.cap_database.specs.Assigned.{Assigned}
@@ -172,8 +172,8 @@ module _ {A : Type 0} where
     left-each (Err e) tables left op each is same = subst EachRises (sym same) each
 
     -- the same where it waits for a commit hook
-    pub agreed-each : {E : Type 0} (r : Result (Unit {0}) (NotMade E)) (tables left : Tables A) (op : Op A) (unasked : Type 0) (gives : Result (Unit {0}) E → Type 0) → EachRises tables
-        → LeavesOnceAllowed r (step tables op) left unasked gives → OnErr r (left ≡ tables) → EachRises left
+    pub agreed-each : {E : Type 0} (r : Result (Unit {0}) (ChangeFault E)) (tables left : Tables A) (op : Op A) (unasked : Type 0) (gives : Result (Unit {0}) E → Type 0) → EachRises tables
+        → LeavesIfAllowed r (step tables op) left unasked gives → OnErr r (left ≡ tables) → EachRises left
     agreed-each (Ok done) tables left op unasked gives each is same = step-each tables left op each is.0
     agreed-each (Err e) tables left op unasked gives each is same = subst EachRises (sym same) each
 

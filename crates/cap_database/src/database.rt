@@ -5,10 +5,10 @@ ghost use Rattle.std.specs.Option.{option_copied};
 ghost use Rattle.cap_value.specs.Bytes.{bytes_cmp};
 ghost use Rattle.cap_value.specs.declared.refusal.Refusal.{Refusal};
 ghost use Rattle.cap_tree.specs.Tree.{IsOrdered};
-ghost use Rattle.cap_table.specs.WithHook.{LeavesOnceAllowed};
+ghost use Rattle.cap_table.specs.WithHook.{LeavesIfAllowed};
 ghost use Rattle.cap_value.specs.Memory.{LeavesUnlessMemory, RefusesFirst};
 ghost use Rattle.cap_database.specs.Tables.{EachRises, Tables, create, refused_create, table_of};
-ghost use Rattle.cap_table.specs.NotMade.{RefusesAtOnce};
+ghost use Rattle.cap_table.specs.ChangeFault.{RefusesAtOnce};
 ghost use Rattle.cap_database.specs.Operation.{step, changes_made, changes, refused_step};
 ghost use Rattle.cap_database.specs.KeptKey.{AreOfKey, kept_key, row_left};
 ghost use Rattle.cap_database.specs.Keyed.{IsOwnRow, row_set};
@@ -20,7 +20,7 @@ use crate::limits::TABLES_MAX;
 use crate::place::{copies, place_of, put_at, step_at, step_keyed_at};
 use crate::{Effect, Op};
 use cap_row::{Key, Row, Schema};
-use cap_table::{NotMade, RowRef, Scan, Table, operations_keep_tables};
+use cap_table::{ChangeFault, RowRef, Scan, Table};
 use cap_tree::Hook;
 use cap_value::{AllocHandle, Exact, Fault, Name, OutOfMemory, Refusal};
 use std::marker::Model;
@@ -80,7 +80,7 @@ impl<A: AllocHandle> Database<A> {
     /// A law of every database, for who keeps rows of it: in each table keys and ids rise, each row has the
     /// table's width, and is stored under its own key, or where it has none under an id that was given. The
     /// call does nothing.
-    pub fn rows_stand(&self)
+    pub fn sound_rows_law(&self)
         ensures { EachRises self.now }
     {
         let _tables = &self.tables;
@@ -113,7 +113,7 @@ impl<A: AllocHandle> Database<A> {
         ensures kept { OnErr result (self.new ≡ self.old) }
         ensures first { RefusesFirst (refused_create self.old name) result }
     {
-        operations_keep_tables::<A>();
+        cap_table::laws::operations_keep_tables::<A>();
         let place = match place_of(&self.tables, &name) {
             Ok(_) => return Err(Fault::Refused(Refusal::TableExists)),
             Err(place) => place,
@@ -134,7 +134,7 @@ impl<A: AllocHandle> Database<A> {
         ensures changes { IfOk result (λ step. changes_made step ≡ changes self.old op.now) }
         ensures first { RefusesFirst (refused_step self.old op.now) result }
     {
-        operations_keep_tables::<A>();
+        cap_table::laws::operations_keep_tables::<A>();
         match place_of(&self.tables, &op.table) {
             Ok(place) => step_at(&mut self.tables, place, op),
             Err(_) => Err(Fault::Refused(Refusal::NoTable)),
@@ -161,12 +161,12 @@ impl<A: AllocHandle> Database<A> {
         op: &Op<A>,
         key: &Key<A>,
         hook: &mut H,
-    ) -> Result<(), NotMade<H::Refusal>>
+    ) -> Result<(), ChangeFault<H::Refusal>>
         requires key { kept_key self.old op.now ≡ Some key.now }
         requires can_ask { (after : Tables A) → step self.old op.now ≡ Ok after
             → H.can_ask hook.old (row_at self.old op.now.table key.now)
             (row_left op.now.action (row_at self.old op.now.table key.now)) }
-        ensures tables { LeavesOnceAllowed result (step self.old op.now) self.new (hook.new ≡ hook.old)
+        ensures tables { LeavesIfAllowed result (step self.old op.now) self.new (hook.new ≡ hook.old)
             (λ answer. H.gives hook.old (row_at self.old op.now.table key.now)
             (row_left op.now.action (row_at self.old op.now.table key.now)) answer hook.new) }
         ensures kept { OnErr result (self.new ≡ self.old) }
@@ -174,7 +174,7 @@ impl<A: AllocHandle> Database<A> {
             (changes self.old op.now)) }
         ensures first { RefusesAtOnce (refused_step self.old op.now) result }
     {
-        operations_keep_tables::<A>();
+        cap_table::laws::operations_keep_tables::<A>();
         let Ok(place) = place_of(&self.tables, &op.table) else {
             unreachable!()
         };

@@ -3,16 +3,16 @@ ghost use Rattle.std.specs.Prelude.{◌≡◌, IfOk, OnErr, Ok, Some};
 ghost use Rattle.cap_row.specs.Key.{fields_cmp};
 ghost use Rattle.cap_tree.specs.Tree.{get};
 ghost use Rattle.cap_table.specs.KeptKey.{new_key};
-ghost use Rattle.cap_table.specs.NotMade.{RefusesAtOnce};
+ghost use Rattle.cap_table.specs.ChangeFault.{RefusesAtOnce};
 ghost use Rattle.cap_table.specs.Operation.{insert_row};
 ghost use Rattle.cap_table.specs.Table.{TableState};
-ghost use Rattle.cap_table.specs.WithHook.{LeavesOnceAllowed};
+ghost use Rattle.cap_table.specs.WithHook.{LeavesIfAllowed};
 ghost use Rattle.cap_database.specs.KeptKey.{kept_in, row_left};
 ghost use Rattle.cap_database.specs.Operation.{act, refused_act};
 
 use crate::Action;
 use cap_row::{Key, Row};
-use cap_table::{NotMade, RowRef, Table};
+use cap_table::{ChangeFault, RowRef, Table};
 use cap_tree::Hook;
 use cap_value::{AllocHandle, OutOfMemory};
 
@@ -42,12 +42,12 @@ pub(crate) fn act_keyed<A: AllocHandle, H: Hook<Row<A>>>(
     action: &Action<A>,
     key: &Key<A>,
     hook: &mut H,
-) -> Result<(), NotMade<H::Refusal>>
+) -> Result<(), ChangeFault<H::Refusal>>
     requires key { kept_in table.old action.now ≡ Some key.now }
     requires can_ask { (after : TableState A) → act table.old action.now ≡ Ok after
         → H.can_ask hook.old (get fields_cmp table.old.keyed key.now)
         (row_left action.now (get fields_cmp table.old.keyed key.now)) }
-    ensures table { LeavesOnceAllowed result (act table.old action.now) table.new (hook.new ≡ hook.old)
+    ensures table { LeavesIfAllowed result (act table.old action.now) table.new (hook.new ≡ hook.old)
         (λ answer. H.gives hook.old (get fields_cmp table.old.keyed key.now)
         (row_left action.now (get fields_cmp table.old.keyed key.now)) answer hook.new) }
     ensures kept { OnErr result (table.new ≡ table.old) }
@@ -68,16 +68,16 @@ fn insert_keyed<A: AllocHandle, H: Hook<Row<A>>>(
     row: &Row<A>,
     key: &Key<A>,
     hook: &mut H,
-) -> Result<(), NotMade<H::Refusal>>
+) -> Result<(), ChangeFault<H::Refusal>>
     requires key { new_key table.old row.now ≡ Some key.now }
     requires can_ask { (after : TableState A) → insert_row table.old row.now ≡ Ok after
         → H.can_ask hook.old (get fields_cmp table.old.keyed key.now) (Some row.now) }
-    ensures table { LeavesOnceAllowed result (insert_row table.old row.now) table.new (hook.new ≡ hook.old)
+    ensures table { LeavesIfAllowed result (insert_row table.old row.now) table.new (hook.new ≡ hook.old)
         (λ answer. H.gives hook.old (get fields_cmp table.old.keyed key.now) (Some row.now) answer hook.new) }
     ensures kept { OnErr result (table.new ≡ table.old) }
 {
     match (key.copy(), row.copy()) {
         (Ok(key), Ok(row)) => table.insert_keyed_hooked(key, row, hook),
-        _ => Err(NotMade::OutOfMemory),
+        _ => Err(ChangeFault::OutOfMemory),
     }
 }

@@ -8,7 +8,7 @@ ghost use Rattle.cap_database.specs.Tables.{AreTables, table_of};
 
 use crate::place::place_of;
 use cap_row::{Key, Row};
-use cap_table::{Table, keyed_rows_keep_tables};
+use cap_table::Table;
 use cap_value::{AllocHandle, Name, OutOfMemory};
 
 // Puts a row under its own key in the table of the name.
@@ -26,7 +26,7 @@ pub(crate) fn put_under<A: AllocHandle>(
     ensures kept { OnErr result (tables.new ≡ tables.old) }
     ensures before { IfOk result (λ before. before ≡ row_at tables.old name.now key) }
 {
-    keyed_rows_keep_tables::<A>();
+    cap_table::laws::keyed_rows_keep_tables::<A>();
     put_in(tables, name, key, row)
 }
 
@@ -64,7 +64,7 @@ pub(crate) fn take_under<A: AllocHandle>(
     ensures before { IfOk result (λ before. before ≡ row_at tables.old name.now key.now) }
     ensures none { IfOk result (λ before. IfNone before (tables.new ≡ tables.old)) }
 {
-    keyed_rows_keep_tables::<A>();
+    cap_table::laws::keyed_rows_keep_tables::<A>();
     take_from(tables, name, key)
 }
 

@@ -4,7 +4,6 @@ ghost use Rattle.cap_database.specs.Operation.{run};
 ghost use Rattle.cap_database.specs.Tables.{AreRising, Tables, create, schema_of};
 ghost use Rattle.cap_database.specs.declared.op.Op.{Op};
 
-use cap_table::{operations_keep_columns, operations_keep_tables};
 use cap_value::AllocHandle;
 
 /// Whatever is made of a database, a table keeps its columns.
@@ -15,7 +14,7 @@ pub fn tables_keep_columns<A: AllocHandle>()
         IfOk (create tables name schema) (λ after. (other : List ℕ) (columns : List Bool)
         → schema_of tables other ≡ Some columns → schema_of after other ≡ Some columns) }
 {
-    operations_keep_columns::<A>();
+    cap_table::laws::operations_keep_columns::<A>();
 }
 
 /// In a database that tables and operations were made in, names, keys and ids rise, each row has its table's
@@ -27,5 +26,5 @@ pub fn tables_keep_order<A: AllocHandle>()
     ensures create { (tables : Tables A) (name : List ℕ) (schema : List Bool) → AreRising tables
         → IfOk (create tables name schema) AreRising }
 {
-    operations_keep_tables::<A>();
+    cap_table::laws::operations_keep_tables::<A>();
 }

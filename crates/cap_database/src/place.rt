@@ -4,10 +4,10 @@ ghost use Rattle.std.specs.Prelude.{Some, None, Ok, IfOk, OnOk, OnErr, is_some, 
 ghost use Rattle.std.specs.List.{insert};
 ghost use Rattle.cap_value.specs.Bytes.{bytes_cmp};
 ghost use Rattle.cap_tree.specs.Tree.{IsOrdered, get, put_entry};
-ghost use Rattle.cap_table.specs.WithHook.{LeavesOnceAllowed};
+ghost use Rattle.cap_table.specs.WithHook.{LeavesIfAllowed};
 ghost use Rattle.cap_database.specs.Tables.{Tables};
 ghost use Rattle.cap_value.specs.Memory.{LeavesUnlessMemory, RefusesFirst};
-ghost use Rattle.cap_table.specs.NotMade.{RefusesAtOnce};
+ghost use Rattle.cap_table.specs.ChangeFault.{RefusesAtOnce};
 ghost use Rattle.cap_table.specs.Table.{TableState};
 ghost use Rattle.cap_database.specs.KeptKey.{kept_key, row_left};
 ghost use Rattle.cap_database.specs.Operation.{step, changes_made, changes, refused_step};
@@ -16,7 +16,7 @@ ghost use Rattle.cap_database.specs.Read.{row_at};
 use crate::kept_key::act_keyed;
 use crate::{Effect, Op};
 use cap_row::{Key, Row};
-use cap_table::{NotMade, Table};
+use cap_table::{ChangeFault, Table};
 use cap_tree::Hook;
 use cap_value::{AllocHandle, Fault, Name, OutOfMemory, Refusal};
 use std::cmp::Ordering;
@@ -97,7 +97,7 @@ pub(crate) fn step_keyed_at<A: AllocHandle, H: Hook<Row<A>>>(
     op: &Op<A>,
     key: &Key<A>,
     hook: &mut H,
-) -> Result<(), NotMade<H::Refusal>>
+) -> Result<(), ChangeFault<H::Refusal>>
     requires within { place < length tables.old }
     requires get { (d : List ℕ × TableState A) → get bytes_cmp tables.old op.now.table ≡ Some
         (slice_index_or tables.old place d).1 }
@@ -108,7 +108,7 @@ pub(crate) fn step_keyed_at<A: AllocHandle, H: Hook<Row<A>>>(
     requires can_ask { (after : Tables A) → step tables.old op.now ≡ Ok after
         → H.can_ask hook.old (row_at tables.old op.now.table key.now)
         (row_left op.now.action (row_at tables.old op.now.table key.now)) }
-    ensures tables { LeavesOnceAllowed result (step tables.old op.now) tables.new (hook.new ≡ hook.old)
+    ensures tables { LeavesIfAllowed result (step tables.old op.now) tables.new (hook.new ≡ hook.old)
         (λ answer. H.gives hook.old (row_at tables.old op.now.table key.now)
         (row_left op.now.action (row_at tables.old op.now.table key.now)) answer hook.new) }
     ensures kept { OnErr result (tables.new ≡ tables.old) }

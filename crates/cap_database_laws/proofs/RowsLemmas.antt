@@ -184,7 +184,7 @@ module _ {A : Type 0} where
 
   kept-row : (t : TableState A) (p : Plan A) (name : RowRef A) → IsRising t → is_some (row_of t name) ≡ true → At (λ x. x ≡ name → ⊥) p → row_of (applied t p) name ≡ row_of t name
   kept-row t p (Key key) rise there at = kept-key t p key rise at.0
-  kept-row t p (Loose id) rise there at = kept-id t p id rise (was_given t id rise.stand there) at.1
+  kept-row t p (Loose id) rise there at = kept-id t p id rise (was_given t id rise.sound there) at.1
 
   kept-taken : (t : TableState A) (p : Plan A) (key : Option (Fields A)) → IsRising t → At (λ x. AllByRecursion (λ y. x ≡ y → ⊥) (by_key key)) p → is_taken (applied t p) key ≡ is_taken t key
   kept-taken t p None rise at = refl
@@ -301,9 +301,9 @@ module _ {A : Type 0} where
     loose-same : (x y : Option (Fields A)) → (x ≡ None) ⊎ (y ≡ None) → LooseSame x y
     loose-same None None one = swap_ids p.ids q.ids ids_apart
     loose-same None (Some s) one =
-        swap_ids p.ids ((t.next_id, Some s) ∷ []) (weaker (λ (w : ℕ × Option (Fields A)). w.0 < t.next_id) (λ w. AllByRecursion (λ (v : ℕ × Option (Fields A)). w.0 ≡ v.0 → ⊥) ((t.next_id, Some s) ∷ [])) (λ w l. ((λ e. absurd (omega (arith, l, e))), tt)) p.ids (ids-below t a p rise.stand plans_a))
+        swap_ids p.ids ((t.next_id, Some s) ∷ []) (weaker (λ (w : ℕ × Option (Fields A)). w.0 < t.next_id) (λ w. AllByRecursion (λ (v : ℕ × Option (Fields A)). w.0 ≡ v.0 → ⊥) ((t.next_id, Some s) ∷ [])) (λ w l. ((λ e. absurd (omega (arith, l, e))), tt)) p.ids (ids-below t a p rise.sound plans_a))
     loose-same (Some r) None one =
-        swap_ids ((t.next_id, Some r) ∷ []) q.ids (weaker (λ (v : ℕ × Option (Fields A)). v.0 < t.next_id) (λ (v : ℕ × Option (Fields A)). t.next_id ≡ v.0 → ⊥) (λ v l e. absurd (omega (arith, l, e))) q.ids (ids-below t b q rise.stand plans_b), tt)
+        swap_ids ((t.next_id, Some r) ∷ []) q.ids (weaker (λ (v : ℕ × Option (Fields A)). v.0 < t.next_id) (λ (v : ℕ × Option (Fields A)). t.next_id ≡ v.0 → ⊥) (λ v l e. absurd (omega (arith, l, e))) q.ids (ids-below t b q rise.sound plans_b), tt)
     loose-same (Some r) (Some s) one = either one
       where
         either : (Some r ≡ None) ⊎ (Some s ≡ None) → LooseSame (Some r) (Some s)

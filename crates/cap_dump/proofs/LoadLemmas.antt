@@ -18,7 +18,7 @@ use Rattle.cap_row.specs.Schema.{has_key}
 use Rattle.cap_tree.specs.Tree.{put_entry}
 use Rattle.cap_tree.proofs.EntryLemmas.{Each, get-past, put_entry-past, reversed, sorted_nil}
 use Rattle.cap_table.specs.Operation.{empty_table}
-use Rattle.cap_table.specs.Sound.{IsRising, keyed_stands}
+use Rattle.cap_table.specs.Sound.{IsRising, is_keyed_row}
 use Rattle.cap_table.specs.Table.{TableState}
 use Rattle.cap_database.specs.Operation.{run}
 use Rattle.cap_database.specs.declared.op.Op.{Op}
@@ -125,7 +125,7 @@ module _ {A : Type 0} where
       ap (λ es. table_of es p.0) is ∙ get-past bytes_cmp p.0 done (map blank (p ∷ parts)) (above_done done p parts below) ∙ ap (λ b. cond b (Some (empty_table p.1.schema)) (table_of (map blank parts) p.0)) self in (
         record {
           there = there;
-          rows = new_rows p.1.schema p.1.keyed are.0.rises.stand.keyed are.0.rises.keys;
+          rows = new_rows p.1.schema p.1.keyed are.0.rises.sound.keyed are.0.rises.keys;
           ordered = sorted_nil fields_cmp;
         },
         others_above p.0 parts order.0,
@@ -134,7 +134,7 @@ module _ {A : Type 0} where
 
   blank_rises : (schema : List Bool) → IsRising (empty_table {A = A} schema)
   blank_rises schema = record {
-    stand = record { keyed = refl; loose = refl; first = omega arith; last = omega arith };
+    sound = record { keyed = refl; loose = refl; first = omega arith; last = omega arith };
     keys = refl;
     ids = refl;
   }
@@ -154,20 +154,20 @@ module _ {A : Type 0} where
 
   -- ---- the changes fit
 
-  inserts_fit : (schema : List Bool) (rows : List (Fields A × Fields A)) → AllByRecursion (λ row. keyed_stands schema row.0 row.1 ≡ true) rows → AllByRecursion (λ change. change_fits schema change ≡ true) (map (λ row. insert_of row.1) rows)
+  inserts_fit : (schema : List Bool) (rows : List (Fields A × Fields A)) → AllByRecursion (λ row. is_keyed_row schema row.0 row.1 ≡ true) rows → AllByRecursion (λ change. change_fits schema change ≡ true) (map (λ row. insert_of row.1) rows)
   inserts_fit schema [] stand = tt
   inserts_fit schema (row ∷ rows) stand = (full_fits schema row.1 (keyed_row schema row.0 row.1 stand.0), inserts_fit schema rows stand.1)
 
-  each_stands : (schema : List Bool) (rows : List (Fields A × Fields A)) → list_all (λ row. keyed_stands schema row.0 row.1) rows ≡ true → AllByRecursion (λ row. keyed_stands schema row.0 row.1 ≡ true) rows
+  each_stands : (schema : List Bool) (rows : List (Fields A × Fields A)) → list_all (λ row. is_keyed_row schema row.0 row.1) rows ≡ true → AllByRecursion (λ row. is_keyed_row schema row.0 row.1 ≡ true) rows
   each_stands schema [] stand = tt
   each_stands schema (row ∷ rows) stand =
-      let parts = and_parts (keyed_stands schema row.0 row.1) (list_all (λ r. keyed_stands schema r.0 r.1) rows) stand in (parts.0, each_stands schema rows parts.1)
+      let parts = and_parts (is_keyed_row schema row.0 row.1) (list_all (λ r. is_keyed_row schema r.0 r.1) rows) stand in (parts.0, each_stands schema rows parts.1)
 
   pub table_fits : (p : List ℕ × TableState A) → has_key p.1.schema ≡ true → IsRising p.1 → IsFitting change_fits (inserts_of p)
   table_fits p keyed rises = record {
     keyed = keyed;
     each = All-from_recursion (λ change. change_fits p.1.schema change ≡ true) (map (λ row. insert_of row.1) p.1.keyed)
-        (inserts_fit p.1.schema p.1.keyed (each_stands p.1.schema p.1.keyed rises.stand.keyed));
+        (inserts_fit p.1.schema p.1.keyed (each_stands p.1.schema p.1.keyed rises.sound.keyed));
   }
 
   tables_fit : (parts : Tables A) → AreParts parts → AllByRecursion (IsFitting change_fits) (map inserts_of parts)
@@ -273,7 +273,7 @@ module _ {A : Type 0} where
 
   pub part_rises : (table : TableState A) → IsRising table → IsRising (keyed_part table)
   part_rises table rises = record {
-    stand = record { keyed = rises.stand.keyed; loose = refl; first = omega arith; last = omega arith };
+    sound = record { keyed = rises.sound.keyed; loose = refl; first = omega arith; last = omega arith };
     keys = rises.keys;
     ids = refl;
   }

@@ -17,10 +17,10 @@ use Rattle.cap_row.specs.Fields.{Fields}
 use Rattle.cap_row.specs.Key.{fields_cmp, fields_cmp-Equal, fields_eq_decides, key_of}
 use Rattle.cap_tree.specs.Tree.{IsOrdered, get}
 use Rattle.cap_table.specs.Operation.{empty_table}
-use Rattle.cap_table.specs.Sound.{is_key_of, keyed_stands}
+use Rattle.cap_table.specs.Sound.{is_key_of, is_keyed_row}
 use Rattle.cap_table.specs.Table.{TableState}
 use Rattle.cap_changes.specs.Change.{IsKeyedRow}
-use Rattle.cap_apply.specs.Difference.{AreApart, Difference, StandAfter, StandBefore}
+use Rattle.cap_apply.specs.Difference.{AreApart, Difference, HoldAfter, HoldBefore}
 use Rattle.cap_dump.specs.Dump.{insert_of}
 
 -- ---- entries in order
@@ -69,12 +69,12 @@ module _ {A : Type 0} where
   own_key None key is = cc
   own_key (Some own) key is = ap Some ((fields_eq_decides own key).0 is)
 
-  pub stands_under : (schema : List Bool) (key row : Fields A) → keyed_stands schema key row ≡ true → (length row ≡ length schema) × (key_of schema row ≡ Some key)
+  pub stands_under : (schema : List Bool) (key row : Fields A) → is_keyed_row schema key row ≡ true → (length row ≡ length schema) × (key_of schema row ≡ Some key)
   stands_under schema key row is =
       let parts = and_parts (nat_eq (length row) (length schema)) (is_key_of (key_of schema row) key) is in
       (let wide = parts.0 in grind (arith, nat_tests), own_key (key_of schema row) key parts.1)
 
-  pub keyed_row : (schema : List Bool) (key row : Fields A) → keyed_stands schema key row ≡ true → IsKeyedRow schema row
+  pub keyed_row : (schema : List Bool) (key row : Fields A) → is_keyed_row schema key row ≡ true → IsKeyedRow schema row
   keyed_row schema key row is = let under = stands_under schema key row is in record { wide = under.0; keyed = ap is_some under.1 }
 
   -- a row that was not there
@@ -82,7 +82,7 @@ module _ {A : Type 0} where
   new_row_of row = record { key = row.0; before = None; after = Some row.1; change = insert_of row.1 }
 
   abbrev AllStand : List Bool → List (Fields A × Fields A) → Type 0
-  AllStand schema rows = list_all (λ row. keyed_stands schema row.0 row.1) rows ≡ true
+  AllStand schema rows = list_all (λ row. is_keyed_row schema row.0 row.1) rows ≡ true
 
   apart_above : (key : Fields A) (rows : List (Fields A × Fields A)) → below_all fields_cmp key rows ≡ true → AreApart key (map new_row_of rows)
   apart_above key [] below = tt
@@ -91,15 +91,15 @@ module _ {A : Type 0} where
       (λ same. let tie : fields_cmp key row.0 ≡ Equal = (fields_cmp-Equal key row.0).1 same in absurd cc, apart_above key rows first.1)
 
   -- the rows are the differences from a table without rows
-  pub new_rows : (schema : List Bool) (rows : List (Fields A × Fields A)) → AllStand schema rows → is_sorted fields_cmp rows ≡ true → StandBefore schema (empty_table schema) (map new_row_of rows)
+  pub new_rows : (schema : List Bool) (rows : List (Fields A × Fields A)) → AllStand schema rows → is_sorted fields_cmp rows ≡ true → HoldBefore schema (empty_table schema) (map new_row_of rows)
   new_rows schema [] stand sorted = tt
   new_rows schema (row ∷ rows) stand sorted =
-      let parts = and_parts (keyed_stands schema row.0 row.1) (list_all (λ r. keyed_stands schema r.0 r.1) rows) stand in
+      let parts = and_parts (is_keyed_row schema row.0 row.1) (list_all (λ r. is_keyed_row schema r.0 r.1) rows) stand in
       let order = sorted_parts fields_cmp row rows sorted in
       (record { before = tt; after = stands_under schema row.0 row.1 parts.0; change = (false, refl) }, refl, apart_above row.0 rows order.0, new_rows schema rows parts.1 order.1)
 
   -- what is found under a key, where the rows stand and no other
-  pub found_under : (rows : List (Fields A × Fields A)) (found : TableState A) (q : Fields A) → StandAfter found (map new_row_of rows) → (AreApart q (map new_row_of rows) → get fields_cmp found.keyed q ≡ None)
+  pub found_under : (rows : List (Fields A × Fields A)) (found : TableState A) (q : Fields A) → HoldAfter found (map new_row_of rows) → (AreApart q (map new_row_of rows) → get fields_cmp found.keyed q ≡ None)
       → get fields_cmp found.keyed q ≡ get fields_cmp rows q
   found_under [] found q stand others = others tt
   found_under (row ∷ rows) found q stand others =

@@ -10,7 +10,7 @@ ghost use Rattle.cap_dump.specs.Dump.{dump_bytes, dump_table, insert_of, inserts
 ghost use Rattle.cap_dump.specs.Dump.{whole_group_bytes};
 ghost use Rattle.cap_dump.specs.Load.{load};
 
-use crate::dumps_are_loaded_again;
+use crate::laws;
 use cap_codec::{KeyFlags, push_change_between, push_group_header};
 use cap_database::Database;
 use cap_row::{Row, Schema};
@@ -60,9 +60,9 @@ pub fn dump_all<A: AllocHandle>(
 fn is_loaded_again<A: AllocHandle>(database: &Database<A>)
     ensures { load [] (Changes (whole.dump database.now)) ≡ Ok (keyed_parts database.now) }
 {
-    dumps_are_loaded_again::<A>();
+    laws::dumps_are_loaded_again::<A>();
     let _tables = database.len();
-    database.rows_stand();
+    database.sound_rows_law();
 }
 
 // Appends the groups of these tables.

@@ -9,7 +9,6 @@ ghost use Rattle.cap_dump.specs.Dump.{AreHeldWhole, dump, dump_bytes, keyed_part
 ghost use Rattle.cap_dump.specs.Limits.{HasLimits};
 ghost use Rattle.cap_dump.specs.Load.{load};
 
-use cap_database::tables_keep_order;
 use cap_value::AllocHandle;
 
 /// The dumps of tables, one behind the other, are read as one changeset with the groups of each, those
@@ -29,5 +28,5 @@ pub fn dumps_are_loaded_again<A: AllocHandle>()
         → load [] (Changes (dump tables)) ≡ Ok (keyed_parts tables) }
     ensures whole { (tables : Tables A) → AreHeldWhole tables → keyed_parts tables ≡ tables }
 {
-    tables_keep_order::<A>();
+    cap_database::laws::tables_keep_order::<A>();
 }

@@ -2,13 +2,12 @@
 #![tactic(auto)]
 
 mod dump_bytes;
-mod laws;
+pub mod laws;
 mod limits_kept;
 mod load_blob;
 mod whole_way;
 
 pub use dump_bytes::{dump, dump_all};
-pub use laws::{dumps_are_loaded_again, dumps_are_read_again};
 pub use limits_kept::table_has_limits;
 pub use load_blob::load;
 pub use whole_way::dump_and_load;

@@ -6,7 +6,7 @@ ghost use Rattle.cap_table.specs.Sound.{IsRising};
 ghost use Rattle.cap_dump.specs.Dump.{comes_again, keyed_parts};
 
 use crate::dump_bytes::bytes_of;
-use crate::{dumps_are_loaded_again, dumps_are_read_again, load, table_has_limits};
+use crate::{laws, load, table_has_limits};
 use cap_codec::{KeyFlags, read_blob};
 use cap_database::Database;
 use cap_table::Table;
@@ -24,7 +24,7 @@ pub fn dump_and_load<A: AllocHandle>(
     ensures again { AnswersUnlessMemory result (comes_again database.now name.now) }
     ensures first { RefusesFirst (result_err (comes_again database.now name.now)) result }
 {
-    database.rows_stand();
+    database.sound_rows_law();
     match database.table(name) {
         Some(table) => Ok(carry(alloc, key_flags, name, table)?),
         None => Err(Fault::Refused(Refusal::NoTable)),
@@ -40,8 +40,8 @@ fn carry<A: AllocHandle>(
     requires { IsRising table.now }
     ensures { IfOk result (λ again. again ≡ keyed_parts ((name.now, table.now) ∷ [])) }
 {
-    dumps_are_loaded_again::<A>();
-    dumps_are_read_again::<A>();
+    laws::dumps_are_loaded_again::<A>();
+    laws::dumps_are_read_again::<A>();
     table_has_limits(name, table);
     let bytes = bytes_of(alloc, key_flags, name, table)?;
     match read_blob(alloc, bytes.as_slice()) {

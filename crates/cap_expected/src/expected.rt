@@ -6,7 +6,7 @@ ghost use Rattle.cap_expected.specs.Expected.{later_words, listed, literals, rea
 ghost use Rattle.cap_expected.specs.Expected.{where_on, words_or_name};
 
 use cap_language::after_blanks;
-use cap_script::{COMMAND_WORDS, ScriptFault, a_line_without_fault, read_line};
+use cap_script::{COMMAND_WORDS, ScriptFault, read_line};
 use cap_value::{AllocHandle, Fault, OutOfMemory};
 
 const INNER_WORDS: [&str; 19] = [
@@ -175,7 +175,7 @@ fn goes_on<A: AllocHandle>(alloc: A, before: &str, text: &str) -> Result<bool, O
 fn reads_on<A: AllocHandle>(alloc: A, whole: bool, line: &str) -> Result<bool, OutOfMemory>
     ensures { IfOk result (λ on. on ≡ reads_on A whole line.now) }
 {
-    a_line_without_fault::<A>();
+    cap_script::laws::a_line_without_fault::<A>();
     match read_line(alloc, 1, line) {
         Ok(Some(_)) => Ok(true),
         Ok(None) => Ok(false),

@@ -2,7 +2,7 @@
 #![tactic(auto)]
 
 mod filter;
-mod laws;
+pub mod laws;
 mod limits;
 mod reading;
 mod table_filter;
@@ -10,9 +10,6 @@ mod token;
 mod word;
 
 pub use filter::{Filter, write_quoted};
-pub use laws::{
-    one_filter, printed_is_spelled, read_is_spelled, spelled_is_read, too_deep_text, unfit_place,
-};
 pub use limits::{DEPTH_MAX, NODES_MAX};
 pub use table_filter::TableFilter;
 pub use token::{after, is_word_byte, split_at_quote, word_len};

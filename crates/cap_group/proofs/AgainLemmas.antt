@@ -27,7 +27,7 @@ use Rattle.cap_group.specs.Combined.{KeepsKey, combined, patches_combined}
 use Rattle.cap_group.specs.KeyedChanges.{KeyedChanges, change_after, entries_of, keyed_of, no_changes, set_change, with_change, with_changes}
 use Rattle.cap_group.specs.Place.{IsPlace, place_of}
 use Rattle.cap_group.specs.Record.{differ, old_field, record_over, update_between}
-use Rattle.cap_group.proofs.AloneLemmas.{behind_nil, rising, under_keys}
+use Rattle.cap_group.proofs.RisingLemmas.{behind_nil, rising, under_keys}
 use Rattle.cap_group.proofs.FitLemmas.{alike, are_alike, combined-fits, if_some, patches_combined-fits, rows_alike, updates_alike}
 use Rattle.cap_group.proofs.SortLemmas.{all_ordered, kept_names}
 use Rattle.cap_group.proofs.RunLemmas.{is_Equal}

@@ -1,7 +1,7 @@
 -- Two changes of one row, each between two of its states, are together the change from the first to the last.
 use Rattle.std.proofs.Common.{◌≡◌, List, [], ◌∷◌, length, Bool, true, false, not, ◌&&◌, ◌||◌, Option, Some, None, cond, refl, ap, sym, ◌∙◌, true≢false}
 use Rattle.std.specs.Prelude.{fold}
-use Rattle.std.specs.List.{AllByRecursion, list_any}
+use Rattle.std.specs.List.{list_any}
 use Rattle.cap_value.specs.declared.value.Value.{Value}
 use Rattle.cap_value.specs.Value.{value_eq, value_eq_decides}
 use Rattle.cap_row.specs.Fields.{Fields}
@@ -21,10 +21,6 @@ use Rattle.cap_group.specs.Record.{record_over, field_over, old_field, new_field
 
 some_same : {X : Type 0} {x y : X} → Some x ≡ Some y → x ≡ y
 some_same e = cc
-
-and_self : (b : Bool) → (b && b) ≡ b
-and_self true = refl
-and_self false = refl
 
 not_either : (x y : Bool) → (not x || y) ≡ false → (x ≡ true) × (y ≡ false)
 not_either true y e = (refl, e)
@@ -216,7 +212,7 @@ module _ {A : Type 0} where
 
   module _ (flags : List Bool) (m m' : Bool) where
     -- the flag of two changes, where the first step has a change or has none
-    abbrev flag_of_both : Option (RowChange A) → Bool
+    abbrev pub flag_of_both : Option (RowChange A) → Bool
     flag_of_both None = m'
     flag_of_both (Some present) = m && m'
 
@@ -269,7 +265,7 @@ module _ {A : Type 0} where
             | false ↦ λ e. updates image row now g (h row refl) (h' now refl) is
           ] refl
 
-      step : (first next last : Option (Fields A)) → ForSome first (IsRowUnder flags key) → ForSome next (IsRowUnder flags key) → ForSome last (IsRowUnder flags key) → touched.change_of flags m' next last ≡ Some added →
+      pub step : (first next last : Option (Fields A)) → ForSome first (IsRowUnder flags key) → ForSome next (IsRowUnder flags key) → ForSome last (IsRowUnder flags key) → touched.change_of flags m' next last ≡ Some added →
           change_after combined flags (touched.change_of flags m first next) added ≡ touched.change_of flags (flag_of_both (touched.change_of flags m first next)) first last
       step None next last f h h' is = from_none next last h h' is
       step (Some image) next last f h h' is = from_some image next last (f image refl) h h' is
@@ -284,22 +280,7 @@ module _ {A : Type 0} where
       let so = follow_from flags key flag first row changes last f under more in
       (so.0, ap (λ (o : Option (RowChange A)). fold (change_after combined flags) o changes) (step flags m (is_indirect change) key change first next row f h under is) ∙ so.1)
 
-  same_flag : (flags : List Bool) (m : Bool) (o : Option (RowChange A)) → flag_of_both flags m m o ≡ m
-  same_flag flags m None = refl
-  same_flag flags m (Some present) = and_self m
-
-  -- the flag that all of them have
-  follow_one_flag : (flags : List Bool) (key : Fields A) (m : Bool) (first next : Option (Fields A)) (changes : List (RowChange A)) (last : Option (Fields A)) →
-      ForSome first (IsRowUnder flags key) → ForSome next (IsRowUnder flags key) → Follow flags key next changes last → AllByRecursion (λ change. is_indirect change ≡ m) changes →
-      fold (change_after combined flags) (touched.change_of flags m first next) changes ≡ touched.change_of flags m first last
-  follow_one_flag flags key m first next [] last f h is same = ap (λ (row : Option (Fields A)). touched.change_of flags m first row) is
-  follow_one_flag flags key m first next (change ∷ changes) last f h (row, under, is, more) same =
-      ap (λ (o : Option (RowChange A)). fold (change_after combined flags) o changes)
-      (step flags m m key change first next row f h under (ap (λ (i : Bool). touched.change_of flags i next row) (sym same.0) ∙ is)
-      ∙ ap (λ (i : Bool). touched.change_of flags i first row) (same_flag flags m (touched.change_of flags m first next)))
-      ∙ follow_one_flag flags key m first row changes last f under more same.1
-
-  none_yet : (flags : List Bool) (m : Bool) (row : Option (Fields A)) → touched.change_of flags m row row ≡ None
+  pub none_yet : (flags : List Bool) (m : Bool) (row : Option (Fields A)) → touched.change_of flags m row row ≡ None
   none_yet flags m None = refl
   none_yet flags m (Some row) = ap (λ b. cond b None (Some (Update m (by_column touched.old_field flags row row) (by_column touched.new_field flags row row)))) ((fields_eq_decides row row).1 refl)
 
@@ -308,8 +289,3 @@ module _ {A : Type 0} where
   followed flags key first changes last f h =
       let so = follow_from flags key false first first changes last f f h in
       (so.0, ap (λ (o : Option (RowChange A)). fold (change_after combined flags) o changes) (sym (none_yet flags false first)) ∙ so.1)
-
-  pub followed_one_flag : (flags : List Bool) (key : Fields A) (m : Bool) (first : Option (Fields A)) (changes : List (RowChange A)) (last : Option (Fields A)) →
-      ForSome first (IsRowUnder flags key) → Follow flags key first changes last → AllByRecursion (λ change. is_indirect change ≡ m) changes → together combined flags changes ≡ touched.change_of flags m first last
-  followed_one_flag flags key m first changes last f h same =
-      ap (λ (o : Option (RowChange A)). fold (change_after combined flags) o changes) (sym (none_yet flags m first)) ∙ follow_one_flag flags key m first first changes last f f h same

@@ -3,7 +3,7 @@ pub mod GroupLemmas
 pub mod TableLemmas
 pub mod JoinLemmas
 pub mod RowLemmas
-pub mod AloneLemmas
+pub mod RisingLemmas
 pub mod AgainLemmas
 pub mod BytesLemmas
 pub mod SameLemmas
@@ -12,4 +12,3 @@ pub mod RunLemmas
 pub mod GrownLemmas
 pub mod FieldLemmas
 pub mod ValueLemmas
-pub mod PutLemmas

@@ -1,26 +1,14 @@
--- Lists with one change for each row, as SQLite makes them, and the changes of one row.
-use Rattle.std.specs.Prelude.{◌≡◌, Bool, List, [], ◌∷◌, Option, Some, None, fold, map, filter, length, All}
-use Rattle.std.specs.List.{IsDistinct}
-use Rattle.std.specs.List.Sorted.{IsStrictlySortedBy}
+-- The changes of one row, one after another.
+use Rattle.std.specs.Prelude.{◌≡◌, Bool, List, [], ◌∷◌, Option, Some, None, fold, filter, length}
 use Rattle.std.specs.Option.{ForSome}
-use Rattle.cap_value.specs.Bytes.{bytes_eq}
 use Rattle.cap_row.specs.Fields.{Fields}
-use Rattle.cap_row.specs.Key.{fields_cmp, fields_eq, key_fields}
+use Rattle.cap_row.specs.Key.{fields_eq, key_fields}
 use Rattle.cap_changes.specs.Change.{change_of}
-use Rattle.cap_changes.specs.Entries.{TableEntries}
 use Rattle.cap_changes.specs.declared.row_change.RowChange.{RowChange}
 use Rattle.cap_changes.specs.declared.row_change.RowChange.TheVariants.{Insert, Update, Delete}
-use Rattle.cap_codec.specs.declared.read.Contents.{Contents}
-use Rattle.cap_codec.specs.declared.read.Contents.TheVariants.{Changes, Patches}
-use Rattle.cap_group.specs.ChangeKey.{change_key, patch_key}
 use Rattle.cap_group.specs.KeyedChanges.{change_after}
 
 module _ {A X : Type 0} (key : List Bool → X → Fields A) where
-  -- one group for each table, and in it one change for each row, in the order of the keys
-  pub record HasOneForEachRow (groups : List (TableEntries X)) : Type 0 where
-    pub tables : IsDistinct bytes_eq (map (λ group. group.table) groups)
-    pub rows : All (λ group. IsStrictlySortedBy fields_cmp (map (key group.schema) group.changes)) groups
-
   -- the changes of the row under a key
   abbrev pub changes_of_row : List Bool → Fields A → List X → List X
   changes_of_row flags row changes = filter (λ change. fields_eq (key flags change) row) changes
@@ -30,10 +18,6 @@ abbrev pub together : {X : Type 0} → (List Bool → X → X → Option X) → 
 together combine flags changes = fold (change_after combine flags) None changes
 
 module _ {A : Type 0} where
-  abbrev pub BlobHasOneForEachRow : Contents A → Type 0
-  BlobHasOneForEachRow (Changes groups) = HasOneForEachRow change_key groups
-  BlobHasOneForEachRow (Patches groups) = HasOneForEachRow patch_key groups
-
   abbrev pub is_indirect : RowChange A → Bool
   is_indirect (Insert indirect new) = indirect
   is_indirect (Update indirect old new) = indirect

@@ -1,15 +1,11 @@
 //! Two changes of one row in changesets.
-ghost use Rattle.std.specs.Prelude.{◌≡◌, Bool, List, IfOk};
-ghost use Rattle.cap_changes.specs.ChangeRef.{change_of};
-ghost use Rattle.cap_changes.specs.declared.row_change.RowChange.TheVariants.{Insert, Update, Delete};
+ghost use Rattle.std.specs.Prelude.{◌≡◌, IfOk};
 ghost use Rattle.cap_group.specs.Combined.{combined};
 ghost use Rattle.cap_group.specs.Put.{IsPut};
 
 use crate::combine::Combine;
 use crate::record::{RecordOver, push_over, push_update_between};
-use cap_changes::{
-    ChangeRef, EntryRef, Operation, RecordRef, RowChange, push_operation, push_record,
-};
+use cap_changes::{ChangeRef, EntryRef, Operation, RecordRef, RowChange, push_operation};
 use cap_value::{AllocHandle, OutOfMemory};
 
 impl<A: AllocHandle> Combine<A> for RowChange<A> {
@@ -38,7 +34,7 @@ impl<A: AllocHandle> Combine<A> for RowChange<A> {
         // For the proof: a clause of `as_bytes` says that the fields are values.
         let _present = present.as_bytes();
         let _added = added.as_bytes();
-        push_together(out, flags, present.read(), added.read())
+        push_together(out, flags, present, added)
     }
 
     fn keeps_key() {}
@@ -51,109 +47,56 @@ impl<A: AllocHandle> Combine<A> for RowChange<A> {
 fn push_together<A: AllocHandle>(
     out: &mut Vec<u8, A>,
     flags: &[bool],
-    present: ChangeRef<'_, A>,
-    added: ChangeRef<'_, A>,
+    present: &EntryRef<'_, RowChange<A>>,
+    added: &EntryRef<'_, RowChange<A>>,
 ) -> Result<bool, OutOfMemory>
     ensures { IfOk result (λ some. IsPut some out.old.items out.new.items
-        (combined flags.now (change_of present.entry) (change_of added.entry))) }
+        (combined flags.now present.now added.now)) }
 {
-    match present {
-        ChangeRef::Insert { indirect, new } => after_insert(out, indirect, new, added),
-        ChangeRef::Update { indirect, old, new } => {
-            after_update(out, flags, indirect, old, new, added)
-        }
-        ChangeRef::Delete { indirect, old } => { after_delete(out, flags, indirect, old, added) }
-    }
-}
-
-fn after_insert<A: AllocHandle>(
-    out: &mut Vec<u8, A>,
-    indirect: bool,
-    new: RecordRef<'_, A>,
-    added: ChangeRef<'_, A>,
-) -> Result<bool, OutOfMemory>
-    ensures { (flags : List Bool) → IfOk result (λ some. IsPut some out.old.items out.new.items
-        (combined flags (Insert indirect new.entry) (change_of added.entry))) }
-{
-    match added {
-        ChangeRef::Insert { .. } => {
-            push_operation(out, Operation::Insert, indirect)?;
-            push_record(out, new)?;
-            Ok(true)
-        }
-        ChangeRef::Update {
-            indirect: added,
-            new: last,
-            ..
-        } => {
-            push_operation(out, Operation::Insert, indirect && added)?;
+    match (present.read(), added.read()) {
+        (
+            ChangeRef::Insert { indirect, new },
+            ChangeRef::Update {
+                indirect: too,
+                new: last,
+                ..
+            },
+        ) => {
+            push_operation(out, Operation::Insert, indirect && too)?;
             push_over(out, RecordOver::new(new, last))?;
             Ok(true)
         }
-        ChangeRef::Delete { .. } => Ok(false),
-    }
-}
-
-fn after_update<A: AllocHandle>(
-    out: &mut Vec<u8, A>,
-    flags: &[bool],
-    indirect: bool,
-    old: RecordRef<'_, A>,
-    new: RecordRef<'_, A>,
-    added: ChangeRef<'_, A>,
-) -> Result<bool, OutOfMemory>
-    ensures { IfOk result (λ some. IsPut some out.old.items out.new.items
-        (combined flags.now (Update indirect old.entry new.entry) (change_of added.entry))) }
-{
-    match added {
-        ChangeRef::Insert { .. } => {
-            push_operation(out, Operation::Update, indirect)?;
-            push_record(out, old)?;
-            push_record(out, new)?;
-            Ok(true)
-        }
-        ChangeRef::Update {
-            indirect: added,
-            old: then,
-            new: last,
-        } => {
+        (ChangeRef::Insert { .. }, ChangeRef::Delete { .. }) => Ok(false),
+        (
+            ChangeRef::Update { indirect, old, new },
+            ChangeRef::Update {
+                indirect: too,
+                old: then,
+                new: last,
+            },
+        ) => {
             let first = RecordOver::new(then, old);
             let last = RecordOver::new(new, last);
-            push_update_between(out, flags, indirect && added, &first, &last)
+            push_update_between(out, flags, indirect && too, &first, &last)
         }
-        ChangeRef::Delete {
-            indirect: added,
-            old: then,
-        } => {
-            push_operation(out, Operation::Delete, indirect && added)?;
+        (
+            ChangeRef::Update { indirect, old, .. },
+            ChangeRef::Delete {
+                indirect: too,
+                old: then,
+            },
+        ) => {
+            push_operation(out, Operation::Delete, indirect && too)?;
             push_over(out, RecordOver::new(then, old))?;
             Ok(true)
         }
-    }
-}
-
-fn after_delete<A: AllocHandle>(
-    out: &mut Vec<u8, A>,
-    flags: &[bool],
-    indirect: bool,
-    old: RecordRef<'_, A>,
-    added: ChangeRef<'_, A>,
-) -> Result<bool, OutOfMemory>
-    ensures { IfOk result (λ some. IsPut some out.old.items out.new.items
-        (combined flags.now (Delete indirect old.entry) (change_of added.entry))) }
-{
-    match added {
-        ChangeRef::Insert {
-            indirect: added,
-            new,
-        } => {
+        (ChangeRef::Delete { indirect, old }, ChangeRef::Insert { indirect: too, new }) => {
             let first = RecordOver::alone(old);
             let last = RecordOver::alone(new);
-            push_update_between(out, flags, indirect && added, &first, &last)
+            push_update_between(out, flags, indirect && too, &first, &last)
         }
         _ => {
-            push_operation(out, Operation::Delete, indirect)?;
-            push_record(out, old)?;
+            out.extend_from_slice(present.as_bytes())?;
             Ok(true)
         }
     }

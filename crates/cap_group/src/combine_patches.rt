@@ -1,7 +1,5 @@
 //! Two changes of one row in patchsets.
 ghost use Rattle.std.specs.Prelude.{◌≡◌, IfOk};
-ghost use Rattle.cap_changes.specs.ChangeRef.{patch_of};
-ghost use Rattle.cap_changes.specs.declared.patch.Patch.TheVariants.{Insert, Update, Delete};
 ghost use Rattle.cap_group.specs.Combined.{patches_combined};
 ghost use Rattle.cap_group.specs.Put.{IsPatchPut};
 
@@ -38,7 +36,7 @@ impl<A: AllocHandle> Combine<A> for Patch<A> {
         // For the proof: a clause of `as_bytes` says that the fields are values.
         let _present = present.as_bytes();
         let _added = added.as_bytes();
-        push_together(out, present.read(), added.read())
+        push_together(out, present, added)
     }
 
     fn keeps_key() {}
@@ -50,101 +48,48 @@ impl<A: AllocHandle> Combine<A> for Patch<A> {
 // Appends what becomes of a change when another one of its row follows.
 fn push_together<A: AllocHandle>(
     out: &mut Vec<u8, A>,
-    present: PatchRef<'_, A>,
-    added: PatchRef<'_, A>,
+    present: &EntryRef<'_, Patch<A>>,
+    added: &EntryRef<'_, Patch<A>>,
 ) -> Result<bool, OutOfMemory>
     ensures { IfOk result (λ some. IsPatchPut some out.old.items out.new.items
-        (patches_combined (patch_of present.entry) (patch_of added.entry))) }
+        (patches_combined present.now added.now)) }
 {
-    match present {
-        PatchRef::Insert { indirect, new } => after_insert(out, indirect, new, added),
-        PatchRef::Update { indirect, new } => after_update(out, indirect, new, added),
-        PatchRef::Delete { indirect, key } => after_delete(out, indirect, key, added),
-    }
-}
-
-fn after_insert<A: AllocHandle>(
-    out: &mut Vec<u8, A>,
-    indirect: bool,
-    new: RecordRef<'_, A>,
-    added: PatchRef<'_, A>,
-) -> Result<bool, OutOfMemory>
-    ensures { IfOk result (λ some. IsPatchPut some out.old.items out.new.items
-        (patches_combined (Insert indirect new.entry) (patch_of added.entry))) }
-{
-    match added {
-        PatchRef::Insert { .. } => {
-            push_operation(out, Operation::Insert, indirect)?;
-            push_record(out, new)?;
-            Ok(true)
-        }
-        PatchRef::Update {
-            indirect: added,
-            new: last,
-        } => {
-            push_operation(out, Operation::Insert, indirect && added)?;
+    match (present.read(), added.read()) {
+        (
+            PatchRef::Insert { indirect, new },
+            PatchRef::Update {
+                indirect: too,
+                new: last,
+            },
+        ) => {
+            push_operation(out, Operation::Insert, indirect && too)?;
             push_over(out, RecordOver::new(new, last))?;
             Ok(true)
         }
-        PatchRef::Delete { .. } => Ok(false),
-    }
-}
-
-fn after_update<A: AllocHandle>(
-    out: &mut Vec<u8, A>,
-    indirect: bool,
-    new: RecordRef<'_, A>,
-    added: PatchRef<'_, A>,
-) -> Result<bool, OutOfMemory>
-    ensures { IfOk result (λ some. IsPatchPut some out.old.items out.new.items
-        (patches_combined (Update indirect new.entry) (patch_of added.entry))) }
-{
-    match added {
-        PatchRef::Insert { .. } => {
-            push_operation(out, Operation::Update, indirect)?;
-            push_record(out, new)?;
-            Ok(true)
-        }
-        PatchRef::Update {
-            indirect: added,
-            new: last,
-        } => {
-            push_operation(out, Operation::Update, indirect && added)?;
+        (PatchRef::Insert { .. }, PatchRef::Delete { .. }) => Ok(false),
+        (
+            PatchRef::Update { indirect, new },
+            PatchRef::Update {
+                indirect: too,
+                new: last,
+            },
+        ) => {
+            push_operation(out, Operation::Update, indirect && too)?;
             push_over(out, RecordOver::new(new, last))?;
             Ok(true)
         }
-        PatchRef::Delete {
-            indirect: added,
-            key,
-        } => {
-            push_operation(out, Operation::Delete, indirect && added)?;
+        (PatchRef::Update { indirect, .. }, PatchRef::Delete { indirect: too, key }) => {
+            push_operation(out, Operation::Delete, indirect && too)?;
             push_key(out, key)?;
             Ok(true)
         }
-    }
-}
-
-fn after_delete<A: AllocHandle>(
-    out: &mut Vec<u8, A>,
-    indirect: bool,
-    key: RecordRef<'_, A>,
-    added: PatchRef<'_, A>,
-) -> Result<bool, OutOfMemory>
-    ensures { IfOk result (λ some. IsPatchPut some out.old.items out.new.items
-        (patches_combined (Delete indirect key.entry) (patch_of added.entry))) }
-{
-    match added {
-        PatchRef::Insert {
-            indirect: added,
-            new,
-        } => {
-            push_operation(out, Operation::Update, indirect && added)?;
+        (PatchRef::Delete { indirect, .. }, PatchRef::Insert { indirect: too, new }) => {
+            push_operation(out, Operation::Update, indirect && too)?;
             push_record(out, new)?;
             Ok(true)
         }
         _ => {
-            push_operation(out, Operation::Delete, indirect)?;
-            push_key(out, key)?;
+            out.extend_from_slice(present.as_bytes())?;
             Ok(true)
         }
     }

@@ -8,7 +8,6 @@ mod combine;
 mod combine_changes;
 mod combine_patches;
 mod key_ref;
-mod laws;
 mod one_each;
 mod place;
 mod record;
@@ -18,6 +17,5 @@ mod together;
 
 pub use bytes::concat_bytes;
 pub use change_group::{ChangeGroup, concat};
-pub use laws::{changes_that_follow, each_row_by_itself, one_list_alone};
 pub use record::{RecordOver, push_if, push_over, push_update_between};
 pub use refusal::{BlobRefusal, ConcatRefusal, GroupRefusal};

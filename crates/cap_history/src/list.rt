@@ -7,7 +7,7 @@ ghost use Rattle.cap_history.specs.History.{IsHistory, longer};
 
 use crate::law::{Add, Call, Law, Look, Nothing};
 use crate::{Front, Overtaken};
-use cap_core::{Command, Event, Reply, fitting_histories_grow, legal_histories_grow};
+use cap_core::{Command, Event, Reply};
 use cap_value::AllocHandle;
 use logbook::{Offer, Seen};
 use std::marker::Model;
@@ -105,8 +105,8 @@ impl<A: AllocHandle> List<A> {
         ensures overtaken { IfErr result (λ overtaken. length at.now.log < overtaken.front) }
         ensures history { IsHistory self.new.log }
     {
-        legal_histories_grow::<A>();
-        fitting_histories_grow::<A>();
+        cap_core::laws::legal_histories_grow::<A>();
+        cap_core::laws::fitting_histories_grow::<A>();
         command.blob_fits();
         self.seen.learn(&at.seen);
         let call = Call { by, command, reply };

@@ -2,7 +2,6 @@
 ghost use Rattle.std.specs.Prelude.{◌≡◌, [], length};
 
 use crate::{Front, List};
-use cap_core::{fitting_histories_grow, legal_histories_grow};
 use cap_value::AllocHandle;
 use logbook::{Seen, Start, Word};
 
@@ -18,8 +17,8 @@ pub struct Opened<A: AllocHandle> {
 impl<A: AllocHandle> Opened<A> {
     /// An empty history. It takes no memory.
     pub fn new() -> Self {
-        legal_histories_grow::<A>();
-        fitting_histories_grow::<A>();
+        cap_core::laws::legal_histories_grow::<A>();
+        cap_core::laws::fitting_histories_grow::<A>();
         let (seen, mut first, _second) = Seen::open(Start::alone(), 0, 0);
         let front = Front {
             word: Word::tracked(0, &mut first),

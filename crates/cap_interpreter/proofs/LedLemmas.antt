@@ -9,10 +9,10 @@ use Rattle.cap_database.specs.Tables.{Tables}
 use Rattle.cap_database.specs.declared.op.Action.{Action}
 use Rattle.cap_txn.specs.Calls.{answer_to}
 use Rattle.cap_txn.specs.Transaction.{IsTraced, TxnState, begin_traced, traced}
-use Rattle.cap_txn.specs.declared.look.Answer.{Answer}
-use Rattle.cap_txn.specs.declared.look.Answer.TheVariants as told
-use Rattle.cap_txn.specs.declared.look.Asked.{Asked}
-use Rattle.cap_txn.specs.declared.look.Asked.TheVariants as asked
+use Rattle.cap_txn.specs.declared.answered_call.Answer.{Answer}
+use Rattle.cap_txn.specs.declared.answered_call.Answer.TheVariants as told
+use Rattle.cap_txn.specs.declared.answered_call.Asked.{Asked}
+use Rattle.cap_txn.specs.declared.answered_call.Asked.TheVariants as asked
 use Rattle.cap_apply.specs.Apply.{and_then}
 use Rattle.cap_apply.specs.Operations.{directly}
 use Rattle.cap_applier.specs.Looked.{looked_at}
@@ -26,11 +26,11 @@ use Rattle.cap_interpreter.proofs.StopLemmas.{ok_same}
 module _ {A : Type 0} (kept : IsKept A) where
   -- it is what calls make of a transaction on this snapshot
   record IsFrom (base : SnapshotState A) (txn : TxnState A) : Type 0 where
-    on : txn.standing.base ≡ base
+    on : txn.workspace.base ≡ base
     calls : IsTraced txn
 
   one_call : (base : SnapshotState A) (txn : TxnState A) (call : Asked A) → IsFrom base txn → IsFrom base (traced txn call)
-  one_call base txn call from = record { on = call_base txn.standing call ∙ from.on; calls = kept txn call from.calls }
+  one_call base txn call from = record { on = call_base txn.workspace call ∙ from.on; calls = kept txn call from.calls }
 
   one_made : (base : SnapshotState A) (answer : Answer A) (next txn : TxnState A) → unless_refused answer next ≡ Ok txn → IsFrom base next → IsFrom base txn
   one_made base (told.Refused why) next txn is from = absurd cc
@@ -43,12 +43,12 @@ module _ {A : Type 0} (kept : IsKept A) where
   one_action base name None from txn is held = subst (IsFrom base) (ok_same from txn is) held
   one_action base name (Some action) from txn is held =
       let call = asked.Op (directly name action) in
-      one_made base (answer_to from.standing call) (traced from call) txn is (one_call base from call held)
+      one_made base (answer_to from.workspace call) (traced from call) txn is (one_call base from call held)
 
   one_row : (base : SnapshotState A) (left : Tables A) (name : List ℕ) (key : Fields A) (from txn : TxnState A) → row_led left name key from ≡ Ok txn → IsFrom base from → IsFrom base txn
   one_row base left name key from txn is held =
       let looked = asked.Get name (Key key) in
-      one_action base name (leading key (row_at from.standing.database name key) (row_at left name key)) (traced from looked) txn is (one_call base from looked held)
+      one_action base name (leading key (row_at from.workspace.database name key) (row_at left name key)) (traced from looked) txn is (one_call base from looked held)
 
   more_rows : (base : SnapshotState A) (left : Tables A) (rows : List (List ℕ × Fields A)) (txn : TxnState A) (first : Result (TxnState A) Refusal)
       → ((next : TxnState A) → rows_led left rows next ≡ Ok txn → IsFrom base next → IsFrom base txn) → and_then first (rows_led left rows) ≡ Ok txn → ((next : TxnState A) → first ≡ Ok next → IsFrom base next) → IsFrom base txn

@@ -9,13 +9,13 @@ use Rattle.cap_database.specs.Operation.{step as op_step}
 use Rattle.cap_database.specs.Snapshot.{SnapshotState}
 use Rattle.cap_database.specs.Tables.{AreRising, EachRises, Tables}
 use Rattle.cap_database.specs.declared.op.Op.{Op}
-use Rattle.cap_txn.specs.Batch.{BatchState, WhereSeen}
+use Rattle.cap_txn.specs.Batch.{BatchState, WhereRead}
 use Rattle.cap_txn.specs.Calls.{after_call, unless_refused}
-use Rattle.cap_txn.specs.Stale.{StandsFor}
-use Rattle.cap_txn.specs.Transaction.{IsTraced, TxnState, batch_of, begin_traced, seen_of, traced}
+use Rattle.cap_txn.specs.Stale.{AreOpsOf}
+use Rattle.cap_txn.specs.Transaction.{IsTraced, TxnState, batch_of, begin_traced, reads_of, traced}
 use Rattle.cap_txn.specs.Workspace.{WorkspaceState, back_at, numbered, op_made, refused_savepoint, savepoint_unless}
-use Rattle.cap_txn.specs.declared.look.Asked.{Asked}
-use Rattle.cap_txn.specs.declared.look.Asked.TheVariants as asked
+use Rattle.cap_txn.specs.declared.answered_call.Asked.{Asked}
+use Rattle.cap_txn.specs.declared.answered_call.Asked.TheVariants as asked
 use Rattle.cap_txn.specs.declared.savepoint.Savepoint.{Savepoint}
 use Rattle.cap_apply.specs.declared.policy.Answer.{Answer}
 use Rattle.cap_apply.specs.declared.policy.Answer.TheVariants.{Omit}
@@ -98,7 +98,7 @@ module _ {A : Type 0} where
     front = on.front;
     rest = on.rest;
     parts = on.parts;
-    base = call_base txn.standing call ∙ on.base;
+    base = call_base txn.workspace call ∙ on.base;
     traced = kept txn call on.traced;
   }
   called_on kept h txn call (Some why) on = on
@@ -300,13 +300,13 @@ module _ {A : Type 0} where
   pub commits : (h : List (Event A)) (txn : TxnState A) → IsOn h txn → BlobsFit h
       → ((h : List (Event A)) → BlobsFit h → AreRising (state h).main)
       → ((h more : List (Event A)) → BlobsFit (h ++ more) → BlobsFit h)
-      → ((txn : TxnState A) → IsTraced txn → EachRises txn.standing.base.database → StandsFor txn.standing.ops txn.standing.base.version (seen_of txn))
-      → ((now : State A) (batch : BatchState A) → EachRises now.main → WhereSeen batch.base batch.seen (StandsFor batch.ops)
-      → WhereSeen batch.base batch.seen (CommitsIfUnchanged (snapshot_of now) (answer now (Commit batch))))
+      → ((txn : TxnState A) → IsTraced txn → EachRises txn.workspace.base.database → AreOpsOf txn.workspace.ops txn.workspace.base.version (reads_of txn))
+      → ((now : State A) (batch : BatchState A) → EachRises now.main → WhereRead batch.base batch.reads (AreOpsOf batch.ops)
+      → WhereRead batch.base batch.reads (CommitsIfUnchanged (snapshot_of now) (answer now (Commit batch))))
       → reply_of h (Commit (batch_of txn)) ≡ answer (state h) (Commit (batch_of txn))
-      → CommitsIfUnchanged (snapshot_of (state h)) (reply_of h (Commit (batch_of txn))) txn.standing.base.version (seen_of txn)
+      → CommitsIfUnchanged (snapshot_of (state h)) (reply_of h (Commit (batch_of txn))) txn.workspace.base.version (reads_of txn)
   commits h txn on fits rising begins stands judged reply =
       let front = begins on.front on.rest (subst BlobsFit on.parts fits) in
       let base = subst (λ (s : SnapshotState A). EachRises s.database) (sym on.base) (rising on.front front).each in
       let judge = judged (state h) (batch_of txn) (rising h fits).each (stands txn on.traced base) in
-      subst (λ (r : Reply A). CommitsIfUnchanged (snapshot_of (state h)) r txn.standing.base.version (seen_of txn)) (sym reply) judge
+      subst (λ (r : Reply A). CommitsIfUnchanged (snapshot_of (state h)) r txn.workspace.base.version (reads_of txn)) (sym reply) judge

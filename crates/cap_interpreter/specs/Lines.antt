@@ -8,9 +8,9 @@ use Rattle.cap_filter.specs.Rule.{Rule}
 use Rattle.cap_codec.specs.declared.read.Contents.{Contents}
 use Rattle.cap_txn.specs.Batch.{BatchState}
 use Rattle.cap_txn.specs.Transaction.{IsTraced, TxnState, batch_of, begin_traced}
-use Rattle.cap_txn.specs.declared.look.Answer.TheVariants as told
-use Rattle.cap_txn.specs.declared.look.Asked.{Asked}
-use Rattle.cap_txn.specs.declared.look.Asked.TheVariants as asked
+use Rattle.cap_txn.specs.declared.answered_call.Answer.TheVariants as told
+use Rattle.cap_txn.specs.declared.answered_call.Asked.{Asked}
+use Rattle.cap_txn.specs.declared.answered_call.Asked.TheVariants as asked
 use Rattle.cap_apply.specs.declared.policy.Answer.{Answer as ConflictAnswer}
 use Rattle.cap_applier.specs.Applier.{met}
 use Rattle.cap_applier.specs.Looked.{KeepsTo}
@@ -248,7 +248,7 @@ module _ {A : Type 0} where
     pub front : List (Event A)
     pub rest : List (Event A)
     pub parts : history ≡ front ++ rest
-    pub base : txn.standing.base ≡ snapshot_of (state front)
+    pub base : txn.workspace.base ≡ snapshot_of (state front)
     pub traced : IsTraced txn
 
   -- the application is on a snapshot of a beginning of the history, and changes none but the rows that it looks

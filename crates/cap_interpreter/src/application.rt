@@ -10,10 +10,7 @@ ghost use Rattle.cap_applier.specs.Merge.{refused_merge};
 ghost use Rattle.cap_interpreter.specs.Application.{answered_from, opened, passed_in, put_in, stop_from};
 ghost use Rattle.cap_interpreter.specs.Application.{stopped, transaction_left};
 
-use cap_applier::{
-    Applier, MergeRefusal, a_transaction_leaves_what_the_application_left,
-    applications_keep_to_the_rows_that_they_look_at, chosen_of,
-};
+use cap_applier::{Applier, MergeRefusal, chosen_of};
 use cap_apply::{Answer, Report};
 use cap_codec::Contents;
 use cap_database::{Database, Snapshot};
@@ -146,9 +143,9 @@ impl<A: AllocHandle> Application<A> {
     pub(crate) fn is_committed(&self)
         ensures { (why : Refusal) → transaction_left self.now ≡ Err why → ⊥ }
     {
-        a_transaction_leaves_what_the_application_left::<A>();
-        self.base.database().rows_stand();
-        self.applier.applied().database().rows_stand();
+        cap_applier::laws::a_transaction_leaves_what_the_application_left::<A>();
+        self.base.database().sound_rows_law();
+        self.applier.applied().database().sound_rows_law();
     }
 
     // How many groups it passed over, where it has a filter.
@@ -193,7 +190,7 @@ fn begun_on<A: AllocHandle>(
     ensures filter { IfOk result (λ applier. applier.filter ≡ filter.now) }
     ensures keeps { IfOk result (KeepsTo database.now) }
 {
-    applications_keep_to_the_rows_that_they_look_at::<A>();
+    cap_applier::laws::applications_keep_to_the_rows_that_they_look_at::<A>();
     let blob = copy_of_blob(alloc, blob)?;
     let filter = copy_of_filter(filter)?;
     let applier = Applier::new(alloc, database, blob, filter)?;
@@ -210,7 +207,7 @@ fn answered<A: AllocHandle>(
     ensures filter { IfOk result (λ to. to.filter ≡ applier.filter) }
     ensures keeps { (base : Tables A) → KeepsTo base applier → IfOk result (KeepsTo base) }
 {
-    applications_keep_to_the_rows_that_they_look_at::<A>();
+    cap_applier::laws::applications_keep_to_the_rows_that_they_look_at::<A>();
     match applier.answer(answer) {
         Ok(to) => {
             stands(&to);
@@ -227,7 +224,7 @@ fn merged<A: AllocHandle>(applier: Applier<A>, row: Row<A>) -> Result<Applier<A>
     ensures filter { IfOk result (λ to. to.filter ≡ applier.filter) }
     ensures keeps { (base : Tables A) → KeepsTo base applier → IfOk result (KeepsTo base) }
 {
-    applications_keep_to_the_rows_that_they_look_at::<A>();
+    cap_applier::laws::applications_keep_to_the_rows_that_they_look_at::<A>();
     let to = applier.merge(row)?;
     stands(&to);
     Ok(to)

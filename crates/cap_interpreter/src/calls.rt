@@ -1,6 +1,6 @@
 //! The calls of an open transaction that lines make.
 ghost use Rattle.std.specs.Prelude.{IfOk};
-ghost use Rattle.cap_txn.specs.declared.look.Asked.{Asked};
+ghost use Rattle.cap_txn.specs.declared.answered_call.Asked.{Asked};
 ghost use Rattle.cap_interpreter.specs.Calls.{IsCalled};
 
 use cap_database::Op;

@@ -20,7 +20,7 @@ use crate::application::Application;
 use crate::held::Open;
 use crate::printed::{make, make_stop};
 use cap_codec::Contents;
-use cap_core::{Command, Core, EVENTS_MAX, Reply, legal_histories_grow};
+use cap_core::{Command, Core, EVENTS_MAX, Reply};
 use cap_filter::TableFilter;
 use cap_locked::CallFault;
 use cap_replies::{Outcome, Printer, RunLine, append_made};
@@ -48,7 +48,7 @@ pub(crate) fn serve<A: AllocHandle>(
     ensures unchanged { OnErr result (core.new ≡ core.old) }
     ensures same { OnErr result (string_bytes output.new ≡ string_bytes output.old) }
 {
-    legal_histories_grow::<A>();
+    cap_core::laws::legal_histories_grow::<A>();
     if core.events() >= EVENTS_MAX {
         return Err(CallFault::HistoryFull);
     }
@@ -130,7 +130,7 @@ pub(crate) fn begin<A: AllocHandle>(
     ensures unchanged { OnErr result (core.new ≡ core.old) }
     ensures same { OnErr result (string_bytes output.new ≡ string_bytes output.old) }
 {
-    legal_histories_grow::<A>();
+    cap_core::laws::legal_histories_grow::<A>();
     if core.events() >= EVENTS_MAX {
         return Err(CallFault::HistoryFull);
     }
@@ -188,7 +188,7 @@ pub(crate) fn apply_each<A: AllocHandle>(
     ensures unchanged { OnErr result (core.new ≡ core.old) }
     ensures same { OnErr result (string_bytes output.new ≡ string_bytes output.old) }
 {
-    legal_histories_grow::<A>();
+    cap_core::laws::legal_histories_grow::<A>();
     if core.events() >= EVENTS_MAX {
         return Err(CallFault::HistoryFull);
     }

@@ -6,7 +6,7 @@ ghost use Rattle.cap_interpreter.specs.Lines.{text_of};
 
 use crate::held::Open;
 use crate::lines::{run_alone, run_open};
-use cap_core::{Core, fitting_histories_grow, legal_histories_grow};
+use cap_core::Core;
 use cap_locked::CallFault;
 use cap_replies::RunLine;
 use cap_value::AllocHandle;
@@ -37,8 +37,8 @@ impl<A: AllocHandle> Interpreter<A> {
     pub fn new(alloc: A) -> Self
         ensures { IsAt begin_course result }
     {
-        legal_histories_grow::<A>();
-        fitting_histories_grow::<A>();
+        cap_core::laws::legal_histories_grow::<A>();
+        cap_core::laws::fitting_histories_grow::<A>();
         Interpreter {
             core: Core::new(alloc),
             txn: None,

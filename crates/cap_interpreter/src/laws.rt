@@ -1,6 +1,6 @@
 //! Laws of lines, over the definitions alone. The functions do nothing.
 ghost use Rattle.std.specs.Prelude.{◌≡◌, ◌++◌, ◌∷◌, [], List, None, Ok, Some, false};
-ghost use Rattle.cap_txn.specs.Transaction.{TxnState, batch_of, seen_of};
+ghost use Rattle.cap_txn.specs.Transaction.{TxnState, batch_of, reads_of};
 ghost use Rattle.cap_core.specs.Answer.{event_by, reply_of, snapshot_of, state};
 ghost use Rattle.cap_core.specs.Commit.{CommitsIfUnchanged};
 ghost use Rattle.cap_core.specs.Table.{BlobsFit};
@@ -12,12 +12,6 @@ ghost use Rattle.cap_interpreter.specs.declared.held.Open.{Open};
 ghost use Rattle.cap_interpreter.specs.Lines.{Course, IsApplying, IsOn, after_line, after_lines, begin_course};
 ghost use Rattle.cap_interpreter.specs.Lines.{is_step, text_of};
 
-use cap_applier::applications_keep_to_the_rows_that_they_look_at;
-use cap_core::{
-    fitting_histories_grow, legal_histories_grow, rows_stand_under_own_keys,
-    transactions_commit_if_unchanged,
-};
-use cap_txn::transactions_are_traced;
 use cap_value::AllocHandle;
 
 /// Where nothing is open, a line that is no step is its command of the server: it is one event,
@@ -47,14 +41,14 @@ pub fn transactions_of_lines_commit_if_unchanged<A: AllocHandle>()
         course.txn ≡ Some (Open.Transaction txn) → BlobsFit course.history
         → CommitsIfUnchanged (snapshot_of (state course.history))
         (reply_of course.history (Command.Commit (batch_of txn)))
-        txn.standing.base.version (seen_of txn) }
+        txn.workspace.base.version (reads_of txn) }
 {
-    transactions_are_traced::<A>();
-    applications_keep_to_the_rows_that_they_look_at::<A>();
-    transactions_commit_if_unchanged::<A>();
-    rows_stand_under_own_keys::<A>();
-    fitting_histories_grow::<A>();
-    legal_histories_grow::<A>();
+    cap_txn::laws::transactions_are_traced::<A>();
+    cap_applier::laws::applications_keep_to_the_rows_that_they_look_at::<A>();
+    cap_core::laws::transactions_commit_if_unchanged::<A>();
+    cap_core::laws::rows_are_under_own_keys::<A>();
+    cap_core::laws::fitting_histories_grow::<A>();
+    cap_core::laws::legal_histories_grow::<A>();
 }
 
 /// After any lines, the application that is open is on a snapshot of a beginning of the history, and changes none
@@ -69,12 +63,12 @@ pub fn applications_of_lines_commit_if_unchanged<A: AllocHandle>()
         course.txn ≡ Some (Open.Application app) → transaction_left app ≡ Ok txn → BlobsFit course.history
         → CommitsIfUnchanged (snapshot_of (state course.history))
         (reply_of course.history (Command.Commit (batch_of txn)))
-        txn.standing.base.version (seen_of txn) }
+        txn.workspace.base.version (reads_of txn) }
 {
-    transactions_are_traced::<A>();
-    transactions_commit_if_unchanged::<A>();
-    applications_keep_to_the_rows_that_they_look_at::<A>();
-    rows_stand_under_own_keys::<A>();
-    fitting_histories_grow::<A>();
-    legal_histories_grow::<A>();
+    cap_txn::laws::transactions_are_traced::<A>();
+    cap_core::laws::transactions_commit_if_unchanged::<A>();
+    cap_applier::laws::applications_keep_to_the_rows_that_they_look_at::<A>();
+    cap_core::laws::rows_are_under_own_keys::<A>();
+    cap_core::laws::fitting_histories_grow::<A>();
+    cap_core::laws::legal_histories_grow::<A>();
 }

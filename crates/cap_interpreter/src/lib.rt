@@ -7,12 +7,8 @@ mod calls;
 mod commands;
 mod held;
 mod interpreter;
-mod laws;
+pub mod laws;
 mod lines;
 mod printed;
 
 pub use interpreter::Interpreter;
-pub use laws::{
-    applications_of_lines_commit_if_unchanged, lines_without_steps_are_commands,
-    transactions_of_lines_commit_if_unchanged,
-};

@@ -10,7 +10,7 @@ ghost use Rattle.cap_locked.specs.Fault.{MatchHookFault};
 ghost use Rattle.cap_value.specs.Memory.{MatchFault};
 
 use crate::HookFault;
-use cap_core::{Command, CommitHook, Core, Reply, legal_histories_grow};
+use cap_core::{Command, CommitHook, Core, Reply};
 use cap_history::{Front, List, Overtaken, Seat};
 use cap_value::{AllocHandle, Fault};
 
@@ -110,7 +110,7 @@ pub(crate) fn step_and_exchange<A: AllocHandle, C: CommitHook<A>>(
         (λ overtaken. (hook.new ≡ hook.old)
         ⊎ C.gives hook.old (reply_of list.now.log command.now) (Ok tt) hook.new))) }
 {
-    legal_histories_grow::<A>();
+    cap_core::laws::legal_histories_grow::<A>();
     let _length = list.len();
     let mut hook = CallHook {
         front,

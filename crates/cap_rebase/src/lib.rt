@@ -5,7 +5,7 @@
 mod buffer;
 mod bytes;
 mod change;
-mod laws;
+pub mod laws;
 mod left;
 mod push;
 mod rebaser;
@@ -16,9 +16,6 @@ mod rows;
 pub use buffer::buffer_of;
 pub use bytes::{buffer_bytes, rebase_bytes};
 pub use change::rebase_change;
-pub use laws::{
-    one_row_has_one_key, rebased_from_the_hub_to_the_client, rebased_over_each_in_turn,
-};
 pub use left::ChangeLeft;
 pub use rebaser::Rebaser;
 pub use refusal::{BlobRefusal, NumberedRefusal, RebaseRefusal};

@@ -6,9 +6,9 @@ use Rattle.cap_value.specs.declared.memory.Fault.TheVariants as fault
 use Rattle.cap_database.specs.declared.op.Op.{Op}
 use Rattle.cap_txn.specs.Batch.{refused_push}
 use Rattle.cap_txn.specs.Transaction.{IsAnsweredUnless, TxnState, traced}
-use Rattle.cap_txn.specs.declared.look.Answer.TheVariants.{Done}
-use Rattle.cap_txn.specs.declared.look.Asked.{Asked}
-use Rattle.cap_txn.specs.declared.look.Asked.TheVariants as asked
+use Rattle.cap_txn.specs.declared.answered_call.Answer.TheVariants.{Done}
+use Rattle.cap_txn.specs.declared.answered_call.Asked.{Asked}
+use Rattle.cap_txn.specs.declared.answered_call.Asked.TheVariants as asked
 use Rattle.cap_records.specs.Arguments.{row_argument, table_argument}
 use Rattle.cap_records.specs.Fault.{HandsOn, ◌>>=◌}
 use Rattle.cap_records.specs.Rows.{RowCursorState}
@@ -19,7 +19,7 @@ abbrev pub MakesOp : Op Global → TxnState Global → TxnState Global → Resul
     Type 0
 MakesOp op old new result =
     HandsOn {X = Unit {0}}
-    (λ answer. IsAnsweredUnless (refused_push old.standing.ops) (λ _. Done) answer (asked.Op op) old new) result
+    (λ answer. IsAnsweredUnless (refused_push old.workspace.ops) (λ _. Done) answer (asked.Op op) old new) result
 
 -- the call that the arguments make
 abbrev pub get_asked : List ℕ → List ℕ → ℕ → Result (Asked Global) RecordFault

@@ -28,7 +28,7 @@ pub enum ItemKind {
 /// An item of what a transaction's batch looked at, counted from 0. A batch that no transaction made has
 /// none.
 pub fn item_at(batch: &Batch<Global>, at: usize) -> Option<&Item<Global>>
-    ensures { option_copied result ≡ slice_get (footprint_of batch.now.seen) at }
+    ensures { option_copied result ≡ slice_get (footprint_of batch.now.reads) at }
 {
     batch.footprint().get(at)
 }

@@ -2,7 +2,7 @@
 ghost use Rattle.std.specs.Prelude.{◌≡◌};
 ghost use Rattle.cap_value.specs.Memory.{AnswersUnlessMemory, RefusesFirst};
 ghost use Rattle.cap_database.specs.Read.{read};
-ghost use Rattle.cap_txn.specs.declared.look.Asked.TheVariants as asked;
+ghost use Rattle.cap_txn.specs.declared.answered_call.Asked.TheVariants as asked;
 ghost use Rattle.cap_records.specs.Arguments.{row_misuse, table_misuse};
 ghost use Rattle.cap_records.specs.Reads.{get_in, over, scan_in};
 ghost use Rattle.cap_records.specs.Transactions.{LeavesAsked, LeavesScanned, MakesOp, get_asked, scan_asked};
@@ -38,7 +38,7 @@ pub fn txn_get(
     key: &[u8],
     id: u64,
 ) -> Result<RowCursor, Fault<RecordFault>>
-    ensures rows { AnswersUnlessMemory result (get_in txn.old.standing.database table.now key.now id) }
+    ensures rows { AnswersUnlessMemory result (get_in txn.old.workspace.database table.now key.now id) }
     ensures left { LeavesAsked txn.old txn.new (get_asked table.now key.now id) result }
     ensures first { RefusesFirst (row_misuse table.now key.now id) result }
 {
@@ -53,10 +53,10 @@ fn get_standing(
     row: &RowRef<Global>,
 ) -> Result<RowCursor, Fault<RecordFault>>
     ensures rows { AnswersUnlessMemory result
-        (over (one_row row.now) (read txn.old.standing.database table.now row.now)) }
+        (over (one_row row.now) (read txn.old.workspace.database table.now row.now)) }
     ensures left { LeavesAsked txn.old txn.new (Ok (asked.Get table.now row.now)) result }
 {
-    txn.stands();
+    txn.sound_law();
     let mut rows = Vec::new(alloc);
     if rows.reserve(1).is_err() {
         return Err(Fault::OutOfMemory);
@@ -79,12 +79,12 @@ pub fn txn_scan(
     txn: &mut Txn<Global>,
     table: &[u8],
 ) -> Result<RowCursor, Fault<RecordFault>>
-    ensures rows { AnswersUnlessMemory result (scan_in txn.old.standing.database table.now) }
+    ensures rows { AnswersUnlessMemory result (scan_in txn.old.workspace.database table.now) }
     ensures left { LeavesScanned txn.old txn.new (scan_asked table.now) result }
     ensures first { RefusesFirst (table_misuse table.now) result }
 {
     let table = table_argument(alloc, table)?;
-    txn.stands();
+    txn.sound_law();
     match txn.scan(&table) {
         Ok(rows) => Ok(RowCursor::new(id_rows(alloc, rows.scan())?)),
         Err(Fault::Refused(why)) => Err(Fault::Refused(RecordFault::Refused(why))),

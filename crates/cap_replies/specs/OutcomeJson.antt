@@ -5,8 +5,8 @@ use Rattle.json.specs.Token.{Token}
 use Rattle.json.specs.Token as token
 use Rattle.cap_row.specs.Fields.{Fields}
 use Rattle.cap_table.specs.declared.row_ref.RowRef.{RowRef}
-use Rattle.cap_txn.specs.declared.look.Answer as look
-use Rattle.cap_txn.specs.declared.look.Answer.TheVariants.{Done, Mark, Refused, Row, Rows}
+use Rattle.cap_txn.specs.declared.answered_call.Answer as answered
+use Rattle.cap_txn.specs.declared.answered_call.Answer.TheVariants.{Done, Mark, Refused, Row, Rows}
 use Rattle.cap_replies.specs.ReplyJson.{found, kind, line_members, named_refusal, number_member, refused}
 use Rattle.cap_replies.specs.ReplyJson.{rows_member}
 use Rattle.cap_replies.specs.declared.outcome.Outcome.{Outcome}
@@ -23,7 +23,7 @@ module _ {A : Type 0} where
   rows_answer rows = kind (codes "rows") ++ rows_member rows
 
   -- what the open transaction answers to a call
-  abbrev pub answer_members : look.Answer A → List Token
+  abbrev pub answer_members : answered.Answer A → List Token
   answer_members Done = kind (codes "done")
   answer_members (Refused why) = refused None why
   answer_members (Row fields) = row_answer fields

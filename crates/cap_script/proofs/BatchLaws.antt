@@ -2,7 +2,7 @@
 use Rattle.std.proofs.Common.{◌≡◌, ℕ, Bool, false, leb, List, [], ◌∷◌, ◌++◌, length, IsErrAnd, Option, Some, None, Result, Ok, Err, ap, sym, ◌∙◌, subst}
 use Rattle.cap_database.specs.declared.op.Op.{Op}
 use Rattle.cap_txn.specs.Batch.{BatchState}
-use Rattle.cap_txn.specs.Seen.{SeenState}
+use Rattle.cap_txn.specs.ReadSet.{ReadSetState}
 use Rattle.cap_language.specs.Forms.{separated}
 use Rattle.cap_language.specs.Grammar.{Fails, Read, Reads, and_then, each, read, sign_at}
 use Rattle.cap_language.specs.Tokens.{behind_blanks}
@@ -17,7 +17,7 @@ passed_on (Err why) rest fault answer is fails = subst (λ why. Fails why answer
 
 module _ {A : Type 0} where
   abbrev in_batch : Option ℕ → List (Op A) → List ℕ → Read (BatchState A)
-  in_batch base ops rest = Ok (record { base = base; ops = ops; seen = None }, rest)
+  in_batch base ops rest = Ok (record { base = base; ops = ops; reads = None }, rest)
 
   -- what is read of a batch behind these operations
   abbrev pub batch_so_far : BatchState A → List ℕ → Read (BatchState A)
@@ -37,10 +37,10 @@ module _ {A : Type 0} where
       ap (λ r. and_then r (in_batch made.base)) (next_item 59 nth_operation made.ops all.ops here inner op behind sign is ops_are)
       ∙ ap (λ (b : Option ℕ). and_then (so_far 59 nth_operation all.ops behind) (in_batch b)) (sym base_is)
 
-  pub last_in_batch : (made : BatchState A) (here rest : List ℕ) → (sign_at 59 (behind_blanks here) ≡ None) × (rest ≡ behind_blanks here) → made.seen ≡ None → batch_so_far made here ≡ Ok (made, rest)
-  last_in_batch made here rest none seen =
+  pub last_in_batch : (made : BatchState A) (here rest : List ℕ) → (sign_at 59 (behind_blanks here) ≡ None) × (rest ≡ behind_blanks here) → made.reads ≡ None → batch_so_far made here ≡ Ok (made, rest)
+  last_in_batch made here rest none no_reads =
       ap (λ r. and_then r (in_batch made.base)) (last_item 59 nth_operation made.ops here rest none)
-      ∙ ap (λ (s : Option (SeenState A)). Ok (record { base = made.base; ops = made.ops; seen = s }, rest)) (sym seen)
+      ∙ ap (λ (s : Option (ReadSetState A)). Ok (record { base = made.base; ops = made.ops; reads = s }, rest)) (sym no_reads)
 
   pub unread_in_batch : (made : BatchState A) (here inner : List ℕ) (fault : LineFault) → sign_at 59 (behind_blanks here) ≡ Some inner → Fails fault (read (nth_operation {A = A} (length made.ops)) inner) → Fails fault (batch_so_far made here)
   unread_in_batch made here inner fault sign fails =

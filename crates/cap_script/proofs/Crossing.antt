@@ -15,7 +15,7 @@ use Rattle.cap_codec.proofs.read.Contents.TheSendSync as contents
 use Rattle.cap_apply.proofs.policy.Answer.TheSendSync as answer
 use Rattle.cap_apply.proofs.report.Report.TheSendSync as report
 use Rattle.cap_applier.proofs.numbering.Numbering.TheSendSync as numbering
-use Rattle.cap_txn.specs.contracts.look.Asked as Asked
+use Rattle.cap_txn.specs.contracts.answered_call.Asked as Asked
 use Rattle.cap_core.proofs.Crossing.{command_field_send, command_field_sync}
 use Rattle.cap_script.proofs.line.Detail.TheSendSync as detail
 use Rattle.cap_script.specs.contracts.line.Line as Line

@@ -19,9 +19,9 @@ module _ {A : Type 0} where
   ok_or batch (Ok new) = new
   ok_or batch (Err why) = batch
 
-  pushed_is : (refused : Option Refusal) (batch new : BatchState A) (op : Op A) → pushed refused batch op ≡ Ok new → (new.base ≡ batch.base) × (new.ops ≡ batch.ops ++ op ∷ []) × (new.seen ≡ None)
-  pushed_is None batch new op e = let same = ap (ok_or batch) e in (sym (ap (λ (b : BatchState A). b.base) same), sym (ap (λ (b : BatchState A). b.ops) same), sym (ap (λ (b : BatchState A). b.seen) same))
+  pushed_is : (refused : Option Refusal) (batch new : BatchState A) (op : Op A) → pushed refused batch op ≡ Ok new → (new.base ≡ batch.base) × (new.ops ≡ batch.ops ++ op ∷ []) × (new.reads ≡ None)
+  pushed_is None batch new op e = let same = ap (ok_or batch) e in (sym (ap (λ (b : BatchState A). b.base) same), sym (ap (λ (b : BatchState A). b.ops) same), sym (ap (λ (b : BatchState A). b.reads) same))
   pushed_is (Some why) batch new op e = absurd cc
 
-  pub push_is : (batch new : BatchState A) (op : Op A) → push batch op ≡ Ok new → (new.base ≡ batch.base) × (new.ops ≡ batch.ops ++ op ∷ []) × (new.seen ≡ None)
+  pub push_is : (batch new : BatchState A) (op : Op A) → push batch op ≡ Ok new → (new.base ≡ batch.base) × (new.ops ≡ batch.ops ++ op ∷ []) × (new.reads ≡ None)
   push_is batch new op e = pushed_is (refused_push batch.ops) batch new op e

@@ -25,7 +25,7 @@ use Rattle.cap_apply.specs.declared.policy.Answer.{Answer}
 use Rattle.cap_apply.specs.declared.policy.Answer.TheVariants.{Omit, Replace, Abort}
 use Rattle.cap_apply.specs.declared.policy.Policy.{Policy}
 use Rattle.cap_txn.specs.Batch.{BatchState}
-use Rattle.cap_txn.specs.declared.look.Asked.TheVariants as asked
+use Rattle.cap_txn.specs.declared.answered_call.Asked.TheVariants as asked
 use Rattle.cap_core.specs.declared.command.Command.{Command}
 use Rattle.cap_core.specs.declared.command.Command.TheVariants as made
 use Rattle.cap_core.specs.declared.session_command.SessionCommand.{SessionCommand}
@@ -213,7 +213,7 @@ module _ {A : Type 0} where
 
   -- without or with a base version
   unfoldable pub batch : Option ℕ → Grammar (BatchState A)
-  batch base = do ops ← operations; done (record { base = base; ops = ops; seen = None })
+  batch base = do ops ← operations; done (record { base = base; ops = ops; reads = None })
 
   unfoldable pub create : Grammar (Spelled A)
   create = do table ← name; schema ← schema; plain (made.CreateTable table schema)

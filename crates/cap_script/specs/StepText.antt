@@ -1,7 +1,7 @@
 -- The text of what a transaction answers to a step.
 use Rattle.std.specs.Prelude.{ℕ, List, ◌++◌, Ok, codes, decimal}
-use Rattle.cap_txn.specs.declared.look.Answer.{Answer}
-use Rattle.cap_txn.specs.declared.look.Answer.TheVariants.{Done, Mark, Refused, Row, Rows}
+use Rattle.cap_txn.specs.declared.answered_call.Answer.{Answer}
+use Rattle.cap_txn.specs.declared.answered_call.Answer.TheVariants.{Done, Mark, Refused, Row, Rows}
 use Rattle.cap_script.specs.RefusalText.{refusal_text}
 use Rattle.cap_script.specs.RowText.{get_text, scan_text}
 

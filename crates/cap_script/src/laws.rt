@@ -5,7 +5,6 @@ ghost use Rattle.cap_script.specs.LineLimits.{LineWithin};
 ghost use Rattle.cap_script.specs.Script.{SpellsLine};
 ghost use Rattle.cap_script.specs.declared.line.Line.{Line};
 
-use cap_filter::{read_is_spelled, spelled_is_read};
 use cap_value::AllocHandle;
 
 /// A line has no fault exactly where it spells a command within the limits.
@@ -14,6 +13,6 @@ pub fn a_line_without_fault<A: AllocHandle>()
         → (line : Line A) × SpellsLine line text × LineWithin line text }
     ensures read { (text : List ℕ) (line : Line A) → LineWithin line text → line_fault A text ≡ None }
 {
-    spelled_is_read();
-    read_is_spelled();
+    cap_filter::laws::spelled_is_read();
+    cap_filter::laws::read_is_spelled();
 }

@@ -13,7 +13,7 @@ use cap_applier::{Numbering, chosen_of};
 use cap_apply::Report;
 use cap_codec::KeyFlags;
 use cap_core::Command;
-use cap_filter::{TableFilter, read_is_spelled, spelled_is_read, unfit_place};
+use cap_filter::TableFilter;
 use cap_language::{Cursor, LineFault, after_blanks};
 use cap_table::RowRef;
 use cap_value::{AllocHandle, Fault, Name, Refusal};
@@ -75,9 +75,9 @@ impl<A: AllocHandle> Line<A> {
         ensures none { IfErr result (λ fault. NoLine A fault text.now) }
         ensures fault { FaultIs result (line_fault A text.now) }
     {
-        read_is_spelled();
-        spelled_is_read();
-        unfit_place();
+        cap_filter::laws::read_is_spelled();
+        cap_filter::laws::spelled_is_read();
+        cap_filter::laws::unfit_place();
         Self::read(alloc, text)
     }
 

@@ -11,7 +11,6 @@ ghost use Rattle.cap_script.specs.declared.line.Line.{Line};
 use crate::ScriptFault;
 use crate::line::Line;
 use crate::rest::Rest;
-use cap_filter::one_filter;
 use cap_language::after_blanks;
 use cap_value::{AllocHandle, Fault, OutOfMemory};
 use std::collections::VecDeque;
@@ -81,7 +80,7 @@ impl<'t, A: AllocHandle> Lines<'t, A> {
             → MatchResult result (λ found. TakesFirst found lines self.new) (λ none. IsLeft lines self.new) }
         ensures left { IfOk result (λ found. IfSome found (λ line. length self.new < length self.old)) }
     {
-        one_filter();
+        cap_filter::laws::one_filter();
         if let Some(line) = self.kept.pop_front() {
             self.rest.pass::<A>();
             return Ok(Some(line));

@@ -43,7 +43,7 @@ pub(crate) fn batch<A: AllocHandle>(
     cursor: &mut Cursor<'_>,
     empty: Batch<A>,
 ) -> Result<Batch<A>, LineFault>
-    requires { (empty.ops ≡ []) × (empty.seen ≡ None) }
+    requires { (empty.ops ≡ []) × (empty.reads ≡ None) }
     ensures reads { Reads result cursor.new.rest.now (read (batch empty.base) cursor.old.rest.now) }
 {
     let mut made = empty;
@@ -66,7 +66,7 @@ fn is_full<A: AllocHandle>(batch: &Batch<A>) -> bool
 fn push<A: AllocHandle>(batch: &mut Batch<A>, op: Op<A>) -> Result<(), LineFault>
     requires { length batch.old.ops < 10000 }
     ensures base { OnOk result (batch.new.base ≡ batch.old.base) }
-    ensures seen { OnOk result (batch.new.seen ≡ None) }
+    ensures reads { OnOk result (batch.new.reads ≡ None) }
     ensures ops { OnOk result (batch.new.ops ≡ batch.old.ops ++ op ∷ []) }
     ensures memory { IfErr result (λ fault. fault ≡ LineFault.OutOfMemory) }
 {

@@ -11,7 +11,6 @@ ghost use Rattle.cap_script.specs.declared.line.Line.{Line};
 use crate::ScriptFault;
 use crate::fault::in_line;
 use crate::line::{Line, is_ignored};
-use cap_filter::one_filter;
 use cap_value::{AllocHandle, Fault};
 
 // What is left of a workload's text.
@@ -53,7 +52,7 @@ impl<'t> Rest<'t> {
         ensures left { IfOk result (λ found. IfSome found (λ line.
             length self.new.text.now < length self.old.text.now)) }
     {
-        one_filter();
+        cap_filter::laws::one_filter();
         let Some((text, behind)) = self.next_text::<A>() else {
             return Ok(None);
         };

@@ -22,7 +22,7 @@ use Rattle.cap_filter.specs.Printed.{quote}
 use Rattle.cap_apply.specs.declared.policy.Answer.{Answer}
 use Rattle.cap_apply.specs.declared.policy.Answer.TheVariants.{Omit, Replace, Abort}
 use Rattle.cap_apply.specs.declared.policy.Policy.{Policy}
-use Rattle.cap_txn.specs.declared.look.Asked.TheVariants as asked
+use Rattle.cap_txn.specs.declared.answered_call.Asked.TheVariants as asked
 use Rattle.cap_core.specs.declared.command.Command.{Command}
 use Rattle.cap_core.specs.declared.command.Command.TheVariants as made
 use Rattle.cap_core.specs.declared.session_command.SessionCommand.{SessionCommand}
@@ -237,7 +237,7 @@ module _ {A : Type 0} where
 
   form_batch : (base : Option ℕ) → Form (batch {A = A} base)
   unfolding batch
-  form_batch base = form_map operations (λ ops. record { base = base; ops = ops; seen = None }) form_operations
+  form_batch base = form_map operations (λ ops. record { base = base; ops = ops; reads = None }) form_operations
 
   -- ---- blobs
 

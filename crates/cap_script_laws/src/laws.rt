@@ -5,15 +5,13 @@ ghost use Rattle.cap_script_laws.specs.FaultPlace.{BeginsLine, HasSyntaxFault, K
 ghost use Rattle.cap_script.specs.Script.{SpellsScript};
 ghost use Rattle.cap_script.specs.declared.line.Line.{Line};
 
-use cap_apply_laws::spelled_blobs_fit_their_columns;
-use cap_filter::{one_filter, read_is_spelled};
 use cap_value::AllocHandle;
 
 /// A text spells at most one workload.
 pub fn one_workload<A: AllocHandle>()
     ensures { (text : List ℕ) (a b : List (Line A)) → SpellsScript a text → SpellsScript b text → a ≡ b }
 {
-    one_filter();
+    cap_filter::laws::one_filter();
 }
 
 /// The blobs of the commands that a text spells fit their tables.
@@ -21,13 +19,13 @@ pub fn spelled_commands_fit<A: AllocHandle>()
     ensures { (text : List ℕ) (lines : List (Line A)) → SpellsScript lines text
         → All (λ line. BlobFits line.command) lines }
 {
-    spelled_blobs_fit_their_columns::<A>();
-    cap_codec::read_is_spelled::<A>();
+    cap_apply_laws::laws::spelled_blobs_fit_their_columns::<A>();
+    cap_codec::laws::read_is_spelled::<A>();
 }
 
 /// A fault of syntax depends on nothing behind its token: each line that has the same bytes before, and the
 /// same token there, has the fault there. Lines whose filter is reached are left out: in a filter's text
-/// `cap_filter::unfit_place` says which token does not fit.
+/// `cap_filter::laws::unfit_place` says which token does not fit.
 pub fn syntax_fault_lasts<A: AllocHandle>()
     ensures { (line : List ℕ) (left : ℕ) → HasSyntaxFault A line left → (ReachesFilter A line → ⊥)
         → KeepsSyntaxFault A line left }
@@ -35,7 +33,7 @@ pub fn syntax_fault_lasts<A: AllocHandle>()
 
 /// What is before the token of a fault of syntax begins some line: there is a text behind which the line is
 /// read, or has a 10,001st operation. Lines whose filter is reached are left out: of a filter's text
-/// `cap_filter::unfit_place` says the same.
+/// `cap_filter::laws::unfit_place` says the same.
 pub fn syntax_fault_place<A: AllocHandle>()
     ensures { (line : List ℕ) (left : ℕ) → HasSyntaxFault A line left → (ReachesFilter A line → ⊥)
         → BeginsLine A line left }

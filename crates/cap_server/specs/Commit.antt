@@ -1,6 +1,6 @@
 -- The commit of a transaction's batch as the last call of a history.
 use Rattle.std.specs.Prelude.{◌≡◌, ℕ, List, [], ◌∷◌, ◌++◌}
-use Rattle.cap_txn.specs.Batch.{BatchState, WhereSeen}
+use Rattle.cap_txn.specs.Batch.{BatchState, WhereRead}
 use Rattle.cap_core.specs.declared.command.Command.TheVariants.{Commit}
 use Rattle.cap_core.specs.declared.event.Event.{Event}
 use Rattle.cap_core.specs.declared.reply.Reply.{Reply}
@@ -13,4 +13,4 @@ module _ {A : Type 0} where
   abbrev pub CommitsAt : List (Event A) → BatchState A → Reply A → Type 0
   CommitsAt history batch reply =
       (before : List (Event A)) (by : ℕ) → history ≡ before ++ event_by by (Commit batch) reply ∷ []
-      → WhereSeen batch.base batch.seen (CommitsIfUnchanged (snapshot_of (state before)) reply)
+      → WhereRead batch.base batch.reads (CommitsIfUnchanged (snapshot_of (state before)) reply)

@@ -11,10 +11,7 @@ ghost use Rattle.cap_server.specs.Close.{MatchCloseFault};
 ghost use Rattle.cap_server.specs.Commit.{CommitsAt};
 
 use crate::{CloseFault, Closed, Front, Locked, Naming, Seat, named};
-use cap_core::{
-    Command, CommitHook, Reply, fitting_histories_grow, legal_histories_grow,
-    legal_histories_were_legal, rows_stand_under_own_keys, transactions_commit_if_unchanged,
-};
+use cap_core::{Command, CommitHook, Reply};
 use cap_history::Opened;
 use cap_locked::{CallFault, HookFault};
 use cap_txn::Batch;
@@ -79,12 +76,12 @@ impl<J: Naming, A: AllocHandle> Server<J, A> {
         ensures refused { IfErr result (λ fault. LeavesSeat fault seat.old seat.new) }
         ensures cause { IfErr result (λ fault. HasCause fault seat.old (Commit batch)) }
     {
-        legal_histories_grow::<A>();
-        legal_histories_were_legal::<A>();
-        fitting_histories_grow::<A>();
-        rows_stand_under_own_keys::<A>();
-        transactions_commit_if_unchanged::<A>();
-        batch.seen_stands();
+        cap_core::laws::legal_histories_grow::<A>();
+        cap_core::laws::legal_histories_were_legal::<A>();
+        cap_core::laws::fitting_histories_grow::<A>();
+        cap_core::laws::rows_are_under_own_keys::<A>();
+        cap_core::laws::transactions_commit_if_unchanged::<A>();
+        batch.sound_reads_law();
         self.call(rt, seat, &Command::Commit(batch))
     }
 

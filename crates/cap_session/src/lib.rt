@@ -3,7 +3,7 @@
 
 mod attached;
 mod delta;
-mod laws;
+pub mod laws;
 mod record;
 mod records;
 mod records_iter;
@@ -16,11 +16,6 @@ mod touch;
 
 pub use attached::Attached;
 pub use delta::Delta;
-pub use laws::{
-    changes_of_a_key_are_one_touch, commits_touch_attached_tables, disabled_session_gains_nothing,
-    filter_decides, images_are_the_rows_before, records_stay_direct, rule_attaches_changed_tables,
-    touches_make_these_records,
-};
 pub use record::Record;
 pub use records::Records;
 pub use records_iter::RecordsIter;

@@ -21,7 +21,7 @@ use Rattle.cap_tree.specs.Tree.{get, put_entry}
 use Rattle.cap_table.specs.declared.row_ref.RowRef.{RowRef}
 use Rattle.cap_table.specs.declared.row_ref.RowRef.TheVariants.{Key, Loose}
 use Rattle.cap_table.specs.Operation.{delete_row, empty_table, insert_row, moved, placed, rekeyed, row_of, under_key, under_next_id, updated, update_row, with_id, with_key, without}
-use Rattle.cap_table.specs.Sound.{IsRising, IsTable, is_given, is_key_of, keyed_stands, loose_stands}
+use Rattle.cap_table.specs.Sound.{IsRising, IsTable, is_given, is_key_of, is_keyed_row, is_loose_row}
 use Rattle.cap_table.specs.Table.{TableState}
 use Rattle.cap_table.proofs.TableLemmas.{both, fields_same, first, found-passes, given_from_1, is_below, is_same_length, put_keyed, put_loose, put_next, second, take_keyed, take_loose, was_given}
 
@@ -67,26 +67,26 @@ module _ {A : Type 0} where
 
   pub with_key-rises : (t : TableState A) (key row : Fields A) → IsRising t → length row ≡ length t.schema → key_of t.schema row ≡ Some key → IsRising (with_key t key row)
   with_key-rises t key row h wide own = record {
-    stand = put_keyed t key row h.stand wide own;
+    sound = put_keyed t key row h.sound wide own;
     keys = sorted-put fields_cmp fields_cmp_total fields_same t.keyed key row h.keys;
     ids = h.ids;
   }
 
   with_id-rises : (t : TableState A) (id : ℕ) (row : Fields A) → IsRising t → 1 ≤ id → id < t.next_id → length row ≡ length t.schema → key_of t.schema row ≡ None → IsRising (with_id t id row)
   with_id-rises t id row h from_1 given wide none = record {
-    stand = put_loose t id row h.stand from_1 given wide none;
+    sound = put_loose t id row h.sound from_1 given wide none;
     keys = h.keys;
     ids = sorted-put nat_cmp nat_cmp_total nat_cmp-IsAntisymmetric t.loose id row h.ids;
   }
 
   pub without-rises : (t : TableState A) (name : RowRef A) → IsRising t → IsRising (without t name)
   without-rises t (Key key) h = record {
-    stand = take_keyed t key h.stand;
+    sound = take_keyed t key h.sound;
     keys = sorted-remove fields_cmp (is_at (fields_cmp key)) t.keyed h.keys;
     ids = h.ids;
   }
   without-rises t (Loose id) h = record {
-    stand = take_loose t id h.stand;
+    sound = take_loose t id h.sound;
     keys = h.keys;
     ids = sorted-remove nat_cmp (is_at (nat_cmp id)) t.loose h.ids;
   }
@@ -100,7 +100,7 @@ module _ {A : Type 0} where
       let made : Result (TableState A) Refusal = Ok (record (with_id t t.next_id row) { next_id = t.next_id + 1 }) in
       elim (nat_lt t.next_id (2 ^ 63)) as (λ b. nat_lt t.next_id (2 ^ 63) ≡ b → IfOk {E = Refusal} (cond b made (Err IdsSpent)) IsRising) [
         | true ↦ λ e. record {
-          stand = put_next t row h.stand (is_below t.next_id (2 ^ 63) e) wide none;
+          sound = put_next t row h.sound (is_below t.next_id (2 ^ 63) e) wide none;
           keys = h.keys;
           ids = sorted-put nat_cmp nat_cmp_total nat_cmp-IsAntisymmetric t.loose t.next_id row h.ids;
         }
@@ -125,9 +125,9 @@ module _ {A : Type 0} where
   found-wide : (t : TableState A) (name : RowRef A) (row : Fields A) → IsTable t → row_of t name ≡ Some row → length row ≡ length t.schema
   found-wide t (Key key) row h is =
       is_same_length (length row) (length t.schema)
-      (first (length row == length t.schema) (is_key_of (key_of t.schema row) key) (found-passes fields_cmp (λ row. keyed_stands t.schema row.0 row.1) fields_same t.keyed key row h.keyed is))
+      (first (length row == length t.schema) (is_key_of (key_of t.schema row) key) (found-passes fields_cmp (λ row. is_keyed_row t.schema row.0 row.1) fields_same t.keyed key row h.keyed is))
   found-wide t (Loose id) row h is =
-      let stands = found-passes nat_cmp (λ row. loose_stands t.schema t.next_id row.0 row.1) nat_cmp-IsAntisymmetric t.loose id row h.loose is in
+      let stands = found-passes nat_cmp (λ row. is_loose_row t.schema t.next_id row.0 row.1) nat_cmp-IsAntisymmetric t.loose id row h.loose is in
       is_same_length (length row) (length t.schema) (first (length row == length t.schema) _ (first _ (is_given t.next_id id) stands))
 
   row_with-wide : (changes : List (ℕ × Value A)) (row : Fields A) → length (row_with changes row) ≡ length row
@@ -144,12 +144,12 @@ module _ {A : Type 0} where
   moved-rises t (Key old) row (Some new) h there wide own = rekeyed-rises t old row new h wide own
   moved-rises t (Key old) row None h there wide none = under_next_id-rises (without t (Key old)) row (without-rises t (Key old) h) wide none
   moved-rises t (Loose id) row (Some new) h there wide own = under_key-rises (is_some (get fields_cmp t.keyed new)) (without t (Loose id)) new row (without-rises t (Loose id) h) wide own
-  moved-rises t (Loose id) row None h there wide none = with_id-rises t id row h (given_from_1 t id h.stand there) (was_given t id h.stand there) wide none
+  moved-rises t (Loose id) row None h there wide none = with_id-rises t id row h (given_from_1 t id h.sound there) (was_given t id h.sound there) wide none
 
   updated-rises : (t : TableState A) (name : RowRef A) (changes : List (ℕ × Value A)) (found : Option (Fields A)) → IsRising t → row_of t name ≡ found → IfOk (updated t name changes found) IsRising
   updated-rises t name changes None h is = tt
   updated-rises t name changes (Some row) h is =
-      moved-rises t name (row_with changes row) (key_of t.schema (row_with changes row)) h (ap is_some is) (row_with-wide changes row ∙ found-wide t name row h.stand is) refl
+      moved-rises t name (row_with changes row) (key_of t.schema (row_with changes row)) h (ap is_some is) (row_with-wide changes row ∙ found-wide t name row h.sound is) refl
 
   pub update-rises : (t : TableState A) (name : RowRef A) (changes : List (ℕ × Value A)) → IsRising t → IfOk (update_row t name changes) IsRising
   update-rises t name changes h =
@@ -165,7 +165,7 @@ module _ {A : Type 0} where
       elim (is_some (row_of t name)) as (λ b. IfOk {E = Refusal} (cond b (Ok (without t name)) (Err NoRow)) IsRising) [ true ↦ without-rises t name h | false ↦ tt ]
 
   pub empty-rises : (schema : List Bool) → IsRising (empty_table {A = A} schema)
-  empty-rises schema = record { stand = record { keyed = refl; loose = refl; first = omega arith; last = omega arith }; keys = refl; ids = refl }
+  empty-rises schema = record { sound = record { keyed = refl; loose = refl; first = omega arith; last = omega arith }; keys = refl; ids = refl }
 
   -- ---- columns
 

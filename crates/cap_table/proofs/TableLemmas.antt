@@ -12,7 +12,7 @@ use Rattle.std.proofs.lemmas.Bool.Decides.{nat_tests}
 use Rattle.cap_row.specs.Fields.{Fields}
 use Rattle.cap_row.specs.Key.{fields_cmp, fields_cmp_total, fields_cmp-Equal, key_of}
 use Rattle.cap_tree.specs.Tree.{get, put_entry, take_entry}
-use Rattle.cap_table.specs.Sound.{is_given, is_key_of, keyed_stands, loose_stands, IsTable}
+use Rattle.cap_table.specs.Sound.{is_given, is_key_of, is_keyed_row, is_loose_row, IsTable}
 use Rattle.cap_table.specs.Table.{TableState}
 
 pub both : (a b : Bool) → a ≡ true → b ≡ true → (a && b) ≡ true
@@ -106,16 +106,16 @@ module _ {A : Type 0} where
   own_key : (own : Option (Fields A)) (key : Fields A) → own ≡ Some key → is_key_of own key ≡ true
   own_key own key is = ap (λ o. is_key_of o key) is ∙ (Equal-is (fields_cmp key key)).1 (tied_itself fields_cmp_total key)
 
-  pub stands-own : (schema : List Bool) (key row : Fields A) → length row ≡ length schema → key_of schema row ≡ Some key → keyed_stands schema key row ≡ true
-  stands-own schema key row width is = both _ _ (same_length (length row) (length schema) width) (own_key (key_of schema row) key is)
+  pub is_keyed_row-own : (schema : List Bool) (key row : Fields A) → length row ≡ length schema → key_of schema row ≡ Some key → is_keyed_row schema key row ≡ true
+  is_keyed_row-own schema key row width is = both _ _ (same_length (length row) (length schema) width) (own_key (key_of schema row) key is)
 
-  pub stands-loose : (schema : List Bool) (next id : ℕ) (row : Fields A) → length row ≡ length schema → key_of schema row ≡ None → 1 ≤ id → id < next → loose_stands schema next id row ≡ true
-  stands-loose schema next id row width none p l =
+  pub is_loose_row-own : (schema : List Bool) (next id : ℕ) (row : Fields A) → length row ≡ length schema → key_of schema row ≡ None → 1 ≤ id → id < next → is_loose_row schema next id row ≡ true
+  is_loose_row-own schema next id row width none p l =
       both _ _ (both _ _ (same_length (length row) (length schema) width) (ap (λ k. not (is_some k)) none)) (given_of next id p l)
 
   pub put_keyed : (t : TableState A) (key row : Fields A) → IsTable t → length row ≡ length t.schema → key_of t.schema row ≡ Some key → IsTable (record t { keyed = put_entry fields_cmp t.keyed key row })
   put_keyed t key row h width is = record {
-    keyed = list_all-put_entry fields_cmp (λ row. keyed_stands t.schema row.0 row.1) t.keyed key row h.keyed (stands-own t.schema key row width is);
+    keyed = list_all-put_entry fields_cmp (λ row. is_keyed_row t.schema row.0 row.1) t.keyed key row h.keyed (is_keyed_row-own t.schema key row width is);
     loose = h.loose;
     first = h.first;
     last = h.last;
@@ -123,7 +123,7 @@ module _ {A : Type 0} where
 
   pub take_keyed : (t : TableState A) (key : Fields A) → IsTable t → IsTable (record t { keyed = take_entry fields_cmp t.keyed key })
   take_keyed t key h = record {
-    keyed = list_all-remove fields_cmp (λ row. keyed_stands t.schema row.0 row.1) (is_at (fields_cmp key)) t.keyed h.keyed;
+    keyed = list_all-remove fields_cmp (λ row. is_keyed_row t.schema row.0 row.1) (is_at (fields_cmp key)) t.keyed h.keyed;
     loose = h.loose;
     first = h.first;
     last = h.last;
@@ -132,7 +132,7 @@ module _ {A : Type 0} where
   pub put_loose : (t : TableState A) (id : ℕ) (row : Fields A) → IsTable t → 1 ≤ id → id < t.next_id → length row ≡ length t.schema → key_of t.schema row ≡ None → IsTable (record t { loose = put_entry nat_cmp t.loose id row })
   put_loose t id row h p l width none = record {
     keyed = h.keyed;
-    loose = list_all-put_entry nat_cmp (λ row. loose_stands t.schema t.next_id row.0 row.1) t.loose id row h.loose (stands-loose t.schema t.next_id id row width none p l);
+    loose = list_all-put_entry nat_cmp (λ row. is_loose_row t.schema t.next_id row.0 row.1) t.loose id row h.loose (is_loose_row-own t.schema t.next_id id row width none p l);
     first = h.first;
     last = h.last;
   }
@@ -140,12 +140,12 @@ module _ {A : Type 0} where
   pub take_loose : (t : TableState A) (id : ℕ) → IsTable t → IsTable (record t { loose = take_entry nat_cmp t.loose id })
   take_loose t id h = record {
     keyed = h.keyed;
-    loose = list_all-remove nat_cmp (λ row. loose_stands t.schema t.next_id row.0 row.1) (is_at (nat_cmp id)) t.loose h.loose;
+    loose = list_all-remove nat_cmp (λ row. is_loose_row t.schema t.next_id row.0 row.1) (is_at (nat_cmp id)) t.loose h.loose;
     first = h.first;
     last = h.last;
   }
 
-  loose_more : (schema : List Bool) (next id : ℕ) (row : Fields A) → loose_stands schema next id row ≡ true → loose_stands schema (next + 1) id row ≡ true
+  loose_more : (schema : List Bool) (next id : ℕ) (row : Fields A) → is_loose_row schema next id row ≡ true → is_loose_row schema (next + 1) id row ≡ true
   loose_more schema next id row h =
       let front = (length row == length schema) && not (is_some (key_of schema row)) in
       both front _ (first front (is_given next id) h) (given_more next id (second front (is_given next id) h))
@@ -154,7 +154,7 @@ module _ {A : Type 0} where
   one_id_more : (t : TableState A) → IsTable t → t.next_id < 2 ^ 63 → IsTable (record t { next_id = t.next_id + 1 })
   one_id_more t h l = record {
     keyed = h.keyed;
-    loose = list_all-weaker nat_cmp (λ row. loose_stands t.schema t.next_id row.0 row.1) (λ row. loose_stands t.schema (t.next_id + 1) row.0 row.1) (λ row. loose_more t.schema t.next_id row.0 row.1) t.loose h.loose;
+    loose = list_all-weaker nat_cmp (λ row. is_loose_row t.schema t.next_id row.0 row.1) (λ row. is_loose_row t.schema (t.next_id + 1) row.0 row.1) (λ row. loose_more t.schema t.next_id row.0 row.1) t.loose h.loose;
     first = omega (arith, h.first);
     last = omega (arith, l);
   }
@@ -169,7 +169,7 @@ module _ {A : Type 0} where
       given : (found : Option (Fields A)) → get nat_cmp t.loose id ≡ found → is_some found ≡ true → is_given t.next_id id ≡ true
       given None is there = cc
       given (Some row) is there =
-          let stands = found-passes nat_cmp (λ row. loose_stands t.schema t.next_id row.0 row.1) nat_cmp-IsAntisymmetric t.loose id row h.loose is in
+          let stands = found-passes nat_cmp (λ row. is_loose_row t.schema t.next_id row.0 row.1) nat_cmp-IsAntisymmetric t.loose id row h.loose is in
           second ((length row == length t.schema) && not (is_some (key_of t.schema row))) (is_given t.next_id id) stands
 
   pub was_given : (t : TableState A) (id : ℕ) → IsTable t → is_some (get nat_cmp t.loose id) ≡ true → id < t.next_id
@@ -182,13 +182,13 @@ module _ {A : Type 0} where
   pub width-keyed : (t : TableState A) (key : Fields A) (found : Option (Bor (Fields A))) → IsTable t → option_copied found ≡ get fields_cmp t.keyed key → IfSome found (λ row. length row.now ≡ length t.schema)
   width-keyed t key None h is = tt
   width-keyed t key (Some row) h is =
-      is_same_length _ _ (first (length row.now == length t.schema) (is_key_of (key_of t.schema row.now) key) (found-passes fields_cmp (λ row. keyed_stands t.schema row.0 row.1) fields_same t.keyed key row.now h.keyed (sym is)))
+      is_same_length _ _ (first (length row.now == length t.schema) (is_key_of (key_of t.schema row.now) key) (found-passes fields_cmp (λ row. is_keyed_row t.schema row.0 row.1) fields_same t.keyed key row.now h.keyed (sym is)))
 
   pub width-loose : (t : TableState A) (id : ℕ) (found : Option (Bor (Fields A))) → IsTable t → option_copied found ≡ get nat_cmp t.loose id → IfSome found (λ row. length row.now ≡ length t.schema)
   width-loose t id None h is = tt
   width-loose t id (Some row) h is =
       let front = (length row.now == length t.schema) && not (is_some (key_of t.schema row.now)) in
-      is_same_length _ _ (first (length row.now == length t.schema) _ (first front (is_given t.next_id id) (found-passes nat_cmp (λ row. loose_stands t.schema t.next_id row.0 row.1) nat_cmp-IsAntisymmetric t.loose id row.now h.loose (sym is))))
+      is_same_length _ _ (first (length row.now == length t.schema) _ (first front (is_given t.next_id id) (found-passes nat_cmp (λ row. is_loose_row t.schema t.next_id row.0 row.1) nat_cmp-IsAntisymmetric t.loose id row.now h.loose (sym is))))
 
   -- ---- a table as its fields, and as it is seen: the same
 

@@ -3,5 +3,5 @@ pub mod Operation
 pub mod Scan
 pub mod Sound
 pub mod Table
-pub mod NotMade
+pub mod ChangeFault
 pub mod KeptKey

@@ -18,23 +18,23 @@ module _ {A : Type 0} where
   is_key_of (Some own) key = fields_eq own key
 
   -- a row of a table with these columns, under its own key
-  abbrev pub keyed_stands : List Bool → Fields A → Fields A → Bool
-  keyed_stands schema key row = (length row == length schema) && is_key_of (key_of schema row) key
+  abbrev pub is_keyed_row : List Bool → Fields A → Fields A → Bool
+  is_keyed_row schema key row = (length row == length schema) && is_key_of (key_of schema row) key
 
   -- a row of a table with these columns that has no key, under an id that was given
-  abbrev pub loose_stands : List Bool → ℕ → ℕ → Fields A → Bool
-  loose_stands schema next id row =
+  abbrev pub is_loose_row : List Bool → ℕ → ℕ → Fields A → Bool
+  is_loose_row schema next id row =
       (length row == length schema) && not (is_some (key_of schema row)) && is_given next id
 
   -- ids start at 1, and the last one that is given is 2 ^ 63 - 1
   pub record IsTable (table : TableState A) : Type 0 where
-    pub keyed : IsTrue (list_all (λ row. keyed_stands table.schema row.0 row.1) table.keyed)
-    pub loose : IsTrue (list_all (λ row. loose_stands table.schema table.next_id row.0 row.1) table.loose)
+    pub keyed : IsTrue (list_all (λ row. is_keyed_row table.schema row.0 row.1) table.keyed)
+    pub loose : IsTrue (list_all (λ row. is_loose_row table.schema table.next_id row.0 row.1) table.loose)
     pub first : 1 ≤ table.next_id
     pub last : table.next_id ≤ 2 ^ 63
 
   -- the same, and keys and ids rise
   pub record IsRising (table : TableState A) : Type 0 where
-    pub stand : IsTable table
+    pub sound : IsTable table
     pub keys : IsTrue (is_sorted fields_cmp table.keyed)
     pub ids : IsTrue (is_sorted nat_cmp table.loose)

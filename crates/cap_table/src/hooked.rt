@@ -8,15 +8,15 @@ ghost use Rattle.cap_row.specs.Fields.{Fields};
 ghost use Rattle.cap_row.specs.Row.{row_with};
 ghost use Rattle.cap_row.specs.Key.{key_of, fields_cmp};
 ghost use Rattle.cap_tree.specs.Tree.{get};
-ghost use Rattle.cap_table.specs.WithHook.{LeavesOnceAllowed};
-ghost use Rattle.cap_table.specs.NotMade.{RefusesAtOnce};
+ghost use Rattle.cap_table.specs.WithHook.{LeavesIfAllowed};
+ghost use Rattle.cap_table.specs.ChangeFault.{RefusesAtOnce};
 ghost use Rattle.cap_table.specs.Operation.{delete_row, insert_row, under_key, update_row};
 ghost use Rattle.cap_table.specs.Operation.{refused_delete, refused_update, with_key, without};
 ghost use Rattle.cap_table.specs.KeptKey.{keeps_key, new_key};
 ghost use Rattle.cap_table.specs.Table.{TableState};
 
 use crate::table::Table;
-use crate::{NotMade, RowRef};
+use crate::{ChangeFault, RowRef};
 use cap_row::{Key, Row, are_columns, key_of};
 use cap_tree::Hook;
 use cap_value::{AllocHandle, Fault, OutOfMemory, Refusal, Value};
@@ -48,11 +48,11 @@ impl<A: AllocHandle> Table<A> {
         key: Key<A>,
         row: Row<A>,
         hook: &mut H,
-    ) -> Result<(), NotMade<H::Refusal>>
+    ) -> Result<(), ChangeFault<H::Refusal>>
         requires own { new_key self.old row ≡ Some key }
         requires can_ask { (after : TableState A) → insert_row self.old row ≡ Ok after
             → H.can_ask hook.old None (Some row) }
-        ensures table { LeavesOnceAllowed result (insert_row self.old row) self.new
+        ensures table { LeavesIfAllowed result (insert_row self.old row) self.new
             (hook.new ≡ hook.old) (λ answer. H.gives hook.old None (Some row) answer hook.new) }
         ensures kept { OnErr result (self.new ≡ self.old) }
         ensures free { OnOk result (get fields_cmp self.old.keyed key ≡ None) }
@@ -66,19 +66,19 @@ impl<A: AllocHandle> Table<A> {
         key: Key<A>,
         row: Row<A>,
         hook: &mut H,
-    ) -> Result<(), NotMade<H::Refusal>>
+    ) -> Result<(), ChangeFault<H::Refusal>>
         requires width { length row ≡ length self.old.schema }
         requires key { key_of self.old.schema row ≡ Some key }
         requires can_ask { (after : TableState A)
             → under_key (is_some (get fields_cmp self.old.keyed key)) self.old key row ≡ Ok after
             → H.can_ask hook.old None (Some row) }
-        ensures table { LeavesOnceAllowed result
+        ensures table { LeavesIfAllowed result
             (under_key (is_some (get fields_cmp self.old.keyed key)) self.old key row) self.new
             (hook.new ≡ hook.old) (λ answer. H.gives hook.old None (Some row) answer hook.new) }
         ensures kept { OnErr result (self.new ≡ self.old) }
     {
         match self.keyed().get(&key) {
-            Some(_) => Err(NotMade::Refused(Refusal::Duplicate)),
+            Some(_) => Err(ChangeFault::Refused(Refusal::Duplicate)),
             None => self.put_hooked(key, row, hook),
         }
     }
@@ -89,17 +89,17 @@ impl<A: AllocHandle> Table<A> {
         &mut self,
         key: &Key<A>,
         hook: &mut H,
-    ) -> Result<(), NotMade<H::Refusal>>
+    ) -> Result<(), ChangeFault<H::Refusal>>
         requires { (after : TableState A) → delete_row self.old (RowRef.Key key.now) ≡ Ok after
             → H.can_ask hook.old (get fields_cmp self.old.keyed key.now) None }
-        ensures table { LeavesOnceAllowed result (delete_row self.old (RowRef.Key key.now)) self.new
+        ensures table { LeavesIfAllowed result (delete_row self.old (RowRef.Key key.now)) self.new
             (hook.new ≡ hook.old)
             (λ answer. H.gives hook.old (get fields_cmp self.old.keyed key.now) None answer hook.new) }
         ensures kept { OnErr result (self.new ≡ self.old) }
         ensures first { RefusesAtOnce (refused_delete self.old (RowRef.Key key.now)) result }
     {
         match self.keyed().get(key) {
-            None => Err(NotMade::Refused(Refusal::NoRow)),
+            None => Err(ChangeFault::Refused(Refusal::NoRow)),
             Some(_) => self.take_hooked(key, hook),
         }
     }
@@ -111,13 +111,13 @@ impl<A: AllocHandle> Table<A> {
         key: &Key<A>,
         fields: &[(usize, Value<A>)],
         hook: &mut H,
-    ) -> Result<(), NotMade<H::Refusal>>
+    ) -> Result<(), ChangeFault<H::Refusal>>
         requires kept { IsTrue (keeps_key self.old.schema fields.now) }
         requires can_ask { (after : TableState A) → update_row self.old (RowRef.Key key.now) fields.now
             ≡ Ok after
             → H.can_ask hook.old (get fields_cmp self.old.keyed key.now)
             (option_map (row_with fields.now) (get fields_cmp self.old.keyed key.now)) }
-        ensures table { LeavesOnceAllowed result
+        ensures table { LeavesIfAllowed result
             (update_row self.old (RowRef.Key key.now) fields.now) self.new
             (hook.new ≡ hook.old)
             (λ answer. H.gives hook.old (get fields_cmp self.old.keyed key.now)
@@ -126,17 +126,17 @@ impl<A: AllocHandle> Table<A> {
         ensures first { RefusesAtOnce (refused_update self.old (RowRef.Key key.now) fields.now) result }
     {
         if !are_columns(self.schema.width(), fields) {
-            return Err(NotMade::Refused(Refusal::BadColumn));
+            return Err(ChangeFault::Refused(Refusal::BadColumn));
         }
         let Some(old) = self.keyed().get(key) else {
-            return Err(NotMade::Refused(Refusal::NoRow));
+            return Err(ChangeFault::Refused(Refusal::NoRow));
         };
         match (
             key.copy(),
             old.with_fields(self.alloc, self.schema(), fields),
         ) {
             (Ok(key), Ok(row)) => self.put_hooked(key, row, hook),
-            _ => Err(NotMade::OutOfMemory),
+            _ => Err(ChangeFault::OutOfMemory),
         }
     }
 
@@ -145,17 +145,17 @@ impl<A: AllocHandle> Table<A> {
         &mut self,
         key: &Key<A>,
         hook: &mut H,
-    ) -> Result<(), NotMade<H::Refusal>>
+    ) -> Result<(), ChangeFault<H::Refusal>>
         requires { H.can_ask hook.old (get fields_cmp self.old.keyed key.now) None }
-        ensures table { LeavesOnceAllowed result (Ok (without self.old (RowRef.Key key.now))) self.new
+        ensures table { LeavesIfAllowed result (Ok (without self.old (RowRef.Key key.now))) self.new
             (hook.new ≡ hook.old)
             (λ answer. H.gives hook.old (get fields_cmp self.old.keyed key.now) None answer hook.new) }
         ensures kept { OnErr result (self.new ≡ self.old) }
     {
         match self.keyed.remove_hooked(key, hook) {
             Ok(_) => Ok(()),
-            Err(Fault::Refused(why)) => Err(NotMade::Vetoed(why)),
-            Err(Fault::OutOfMemory) => Err(NotMade::OutOfMemory),
+            Err(Fault::Refused(why)) => Err(ChangeFault::Vetoed(why)),
+            Err(Fault::OutOfMemory) => Err(ChangeFault::OutOfMemory),
         }
     }
 
@@ -165,19 +165,19 @@ impl<A: AllocHandle> Table<A> {
         key: Key<A>,
         row: Row<A>,
         hook: &mut H,
-    ) -> Result<(), NotMade<H::Refusal>>
+    ) -> Result<(), ChangeFault<H::Refusal>>
         requires width { length row ≡ length self.old.schema }
         requires key { key_of self.old.schema row ≡ Some key }
         requires can_ask { H.can_ask hook.old (get fields_cmp self.old.keyed key) (Some row) }
-        ensures table { LeavesOnceAllowed result (Ok (with_key self.old key row)) self.new
+        ensures table { LeavesIfAllowed result (Ok (with_key self.old key row)) self.new
             (hook.new ≡ hook.old)
             (λ answer. H.gives hook.old (get fields_cmp self.old.keyed key) (Some row) answer hook.new) }
         ensures kept { OnErr result (self.new ≡ self.old) }
     {
         match self.keyed.insert_hooked(key, row, hook) {
             Ok(_) => Ok(()),
-            Err(Fault::Refused(why)) => Err(NotMade::Vetoed(why)),
-            Err(Fault::OutOfMemory) => Err(NotMade::OutOfMemory),
+            Err(Fault::Refused(why)) => Err(ChangeFault::Vetoed(why)),
+            Err(Fault::OutOfMemory) => Err(ChangeFault::OutOfMemory),
         }
     }
 }

@@ -1,12 +1,12 @@
 //! Tables: rows under their primary keys, and rows without a key under ids.
 #![tactic(auto)]
 
+mod change_fault;
 mod changes_in_place;
 mod hooked;
 mod keyed_rows;
-mod laws;
+pub mod laws;
 mod limits;
-mod not_made;
 mod replaced;
 mod row_name;
 mod row_ref;
@@ -14,9 +14,8 @@ mod rows;
 mod scan;
 mod table;
 
-pub use laws::{keyed_rows_keep_tables, operations_keep_columns, operations_keep_tables};
+pub use change_fault::ChangeFault;
 pub use limits::ROW_IDS_END;
-pub use not_made::NotMade;
 pub use replaced::Replaced;
 pub use row_name::RowName;
 pub use row_ref::RowRef;

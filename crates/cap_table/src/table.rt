@@ -103,7 +103,7 @@ impl<A: AllocHandle> Table<A> {
     /// The rows that have a primary key, by it.
     pub fn keyed(&self) -> &Tree<Key<A>, Row<A>, A>
         ensures rows { result.now ≡ self.now.keyed }
-        ensures stand { IsTable self.now }
+        ensures sound { IsTable self.now }
     {
         &self.keyed
     }

@@ -24,7 +24,7 @@ use Rattle.cap_group.specs.Rows.{IsRowUnder}
 use Rattle.cap_core.specs.declared.session_command.SessionCommand.{SessionCommand}
 use Rattle.cap_core.specs.declared.session_command.SessionCommand.TheVariants as to_session
 use Rattle.cap_core.specs.declared.event.Event.{Event}
-use Rattle.cap_core.specs.CanCapture.{image_stands}
+use Rattle.cap_core.specs.CanCapture.{is_own_image}
 use Rattle.cap_core.specs.Diff.{compared, diff, diff_from, diff_to}
 use Rattle.cap_core.specs.Flags.{command_to, is_enabled, is_indirect}
 use Rattle.cap_core.specs.History.{main, saved, snapshot}
@@ -35,7 +35,7 @@ use Rattle.cap_core.specs.Touch.{Touch, attachings, changes_touch, diff_by, diff
 use Rattle.cap_core.proofs.DiffLemmas.{compared-stand}
 use Rattle.cap_core_laws.proofs.SavedLemmas.{found-rises}
 use Rattle.cap_core.proofs.SmallLemmas.{first, second}
-use Rattle.cap_core.proofs.SoundLemmas.{image-IsKeyedRow, stands-key_of, stands-wide}
+use Rattle.cap_core.proofs.SoundLemmas.{image-IsKeyedRow, is_keyed_row-key_of, is_keyed_row-wide}
 use Rattle.cap_core_laws.proofs.StayLemmas.{event-keeps}
 use Rattle.cap_captures.proofs.CaptureLemmas.{row-under}
 use Rattle.cap_captures.proofs.ConcatLemmas.{some_same}
@@ -157,17 +157,17 @@ module _ {A : Type 0} where
             | false ↦ λ e. cc
           ] is
 
-      difference-stands : (name : List ℕ) (flags : List Bool) → schema_of (main past) name ≡ Some flags → (d : Difference A) → image_stands (Some flags) d.key d.image ≡ true → Stands (main past) (touch_found session past name d)
+      difference-stands : (name : List ℕ) (flags : List Bool) → schema_of (main past) name ≡ Some flags → (d : Difference A) → is_own_image (Some flags) d.key d.image ≡ true → Stands (main past) (touch_found session past name d)
       difference-stands name flags known d stands row is =
           let own = image-IsKeyedRow flags d.key d.image row stands is in
-          (flags, known, record { wide = stands-wide flags d.key row own; under = key-from flags row d.key (stands-key_of flags d.key row own) })
+          (flags, known, record { wide = is_keyed_row-wide flags d.key row own; under = key-from flags row d.key (is_keyed_row-key_of flags d.key row own) })
 
       -- the differences that a diff found
       compared-with : (database : Option (Tables A)) (from name : List ℕ) → get bytes_cmp (saved past) from ≡ database → (table : TableState A) → table_of (main past) name ≡ Some table → (ds : List (Difference A))
           → diff_from database name table ≡ Ok (Some ds) → AllStand (main past) (map (touch_found session past name) ds)
       compared-with None from name at table there ds is = cc
       compared-with (Some database) from name at table there ds is =
-          all-passed (Stands (main past)) (λ d. image_stands (Some table.schema) d.key d.image) (touch_found session past name)
+          all-passed (Stands (main past)) (λ d. is_own_image (Some table.schema) d.key d.image) (touch_found session past name)
           (difference-stands name table.schema (ap (option_map (λ (t : TableState A). t.schema)) there)) ds
           (compared-stand database name table ds (found-rises rises past fits from database at).each (made (compare (table_of database name) table) is))
         where

@@ -16,13 +16,10 @@ ghost use Rattle.cap_test_convergence.specs.Steps.{Hinders, IsCarriedOut, IsExch
 ghost use Rattle.cap_test_convergence.specs.Steps.{IsRebased, IsUnreadable};
 ghost use Rattle.cap_test_convergence.specs.Synchronised.{Explains, HaveOneBase, IsSynchronised};
 
-use cap_apply::{Answer, Policy, Report, applied_blobs_keep_columns, applied_blobs_keep_order};
+use cap_apply::{Answer, Policy, Report};
 use cap_changes::ChangeList;
 use cap_codec::{Contents, changes_are_writable, read_blob, write_changes};
-use cap_convergence::a_rebased_changeset_leads_from_the_hub_to_the_client;
 use cap_core::{Capture, Command, Core, EVENTS_MAX, QuietSessions, Reply, SessionCommand};
-use cap_core_laws::bytes_of_a_capture_give_the_rows_now;
-use cap_database::{tables_keep_columns, tables_keep_order};
 use cap_rebase::{Rebaser, buffer_of};
 use cap_session::SessionChange;
 use cap_value::{AllocHandle, Fault, OutOfMemory, Refusal};
@@ -114,12 +111,12 @@ pub fn synchronise<A: AllocHandle>(
         (λ why. Explains why client.old client_session hub.old hub_session policy) }
     ensures kept { OnErr result ((client.new ≡ client.old) × (hub.new ≡ hub.old)) }
 {
-    a_rebased_changeset_leads_from_the_hub_to_the_client::<A>();
-    applied_blobs_keep_columns::<A>();
-    applied_blobs_keep_order::<A>();
-    bytes_of_a_capture_give_the_rows_now::<A>();
-    tables_keep_columns::<A>();
-    tables_keep_order::<A>();
+    cap_convergence::laws::a_rebased_changeset_leads_from_the_hub_to_the_client::<A>();
+    cap_apply::laws::applied_blobs_keep_columns::<A>();
+    cap_apply::laws::applied_blobs_keep_order::<A>();
+    cap_core_laws::laws::bytes_of_a_capture_give_the_rows_now::<A>();
+    cap_database::laws::tables_keep_columns::<A>();
+    cap_database::laws::tables_keep_order::<A>();
     let made = exchanged(alloc, client, client_session, hub, hub_session, policy)?;
     *client = made.client;
     *hub = made.hub;
@@ -141,12 +138,12 @@ fn exchanged<A: AllocHandle>(
         HaveOneBase client_session (reverse c) hub_session (reverse h) → IfErr result
         (λ why. Explains why client.now client_session hub.now hub_session policy) }
 {
-    a_rebased_changeset_leads_from_the_hub_to_the_client::<A>();
-    applied_blobs_keep_columns::<A>();
-    applied_blobs_keep_order::<A>();
-    bytes_of_a_capture_give_the_rows_now::<A>();
-    tables_keep_columns::<A>();
-    tables_keep_order::<A>();
+    cap_convergence::laws::a_rebased_changeset_leads_from_the_hub_to_the_client::<A>();
+    cap_apply::laws::applied_blobs_keep_columns::<A>();
+    cap_apply::laws::applied_blobs_keep_order::<A>();
+    cap_core_laws::laws::bytes_of_a_capture_give_the_rows_now::<A>();
+    cap_database::laws::tables_keep_columns::<A>();
+    cap_database::laws::tables_keep_order::<A>();
     let Some(local) = captured(client, client_session)? else {
         return Err(NotSynchronised::NoClientSession);
     };

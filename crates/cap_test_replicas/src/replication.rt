@@ -9,11 +9,7 @@ ghost use Rattle.cap_test_replicas.specs.Replica.{Explains, IsNoCapture, IsRepli
 
 use cap_apply::{Applied, Policy, apply};
 use cap_codec::read_blob;
-use cap_core::{
-    Capture, Command, Reply, SessionCommand, fitting_histories_grow, legal_histories_grow,
-    legal_histories_were_legal,
-};
-use cap_core_laws::{bytes_of_a_capture_give_the_rows_now, database_rises};
+use cap_core::{Capture, Command, Reply, SessionCommand};
 use cap_database::Database;
 use cap_locked::CallFault;
 use cap_server::{Naming, Seat, Server};
@@ -59,11 +55,11 @@ pub fn replicate<J: Naming, A: AllocHandle, R: Wait>(
     ensures replicated { IfOk result (IsReplicated seat.old seat.new session replica.now) }
     ensures explained { IfErr result (λ why. Explains why seat.old seat.new session replica.now) }
 {
-    legal_histories_grow::<A>();
-    legal_histories_were_legal::<A>();
-    fitting_histories_grow::<A>();
-    bytes_of_a_capture_give_the_rows_now::<A>();
-    database_rises(replica);
+    cap_core::laws::legal_histories_grow::<A>();
+    cap_core::laws::legal_histories_were_legal::<A>();
+    cap_core::laws::fitting_histories_grow::<A>();
+    cap_core_laws::laws::bytes_of_a_capture_give_the_rows_now::<A>();
+    cap_core_laws::laws::database_rises(replica);
     let command = Command::Session {
         session,
         command: SessionCommand::Capture,

@@ -1,6 +1,6 @@
 //! The first line of a workload, and what the laws of lines say of it.
 ghost use Rattle.std.specs.Prelude.{◌≡◌, ◌∷◌, [], IsTrue, None};
-ghost use Rattle.cap_txn.specs.Transaction.{batch_of, begin_traced, seen_of};
+ghost use Rattle.cap_txn.specs.Transaction.{batch_of, begin_traced, reads_of};
 ghost use Rattle.cap_core.specs.Answer.{event_by, reply_of, snapshot_of, state};
 ghost use Rattle.cap_core.specs.Commit.{CommitsIfUnchanged};
 ghost use Rattle.cap_core.specs.declared.command.Command.{Command};
@@ -10,9 +10,6 @@ ghost use Rattle.cap_replies.specs.declared.run_line.RunLine.{RunLine};
 ghost use Rattle.cap_script.specs.declared.line.Show.{Show};
 ghost use Rattle.cap_script.specs.declared.step.Step.{Step};
 
-use cap_interpreter::{
-    lines_without_steps_are_commands, transactions_of_lines_commit_if_unchanged,
-};
 use cap_replies::RunLine;
 use cap_script::Show;
 use cap_value::AllocHandle;
@@ -27,7 +24,7 @@ pub fn is_one_event<A: AllocHandle>(line: &RunLine<A>) -> bool
     ensures text { IsTrue result
         → text_of begin_course line.now ≡ reply_text line.now (reply_of [] line.now.line.command) }
 {
-    lines_without_steps_are_commands::<A>();
+    cap_interpreter::laws::lines_without_steps_are_commands::<A>();
     match line.line.show {
         Show::Step(_) => false,
         _ => true,
@@ -41,7 +38,7 @@ pub fn a_begin<A: AllocHandle>()
         let txn = begin_traced (snapshot_of (state [])) in
         CommitsIfUnchanged (snapshot_of (state course.history))
         (reply_of course.history (Command.Commit (batch_of txn)))
-        txn.standing.base.version (seen_of txn) }
+        txn.workspace.base.version (reads_of txn) }
 {
-    transactions_of_lines_commit_if_unchanged::<A>();
+    cap_interpreter::laws::transactions_of_lines_commit_if_unchanged::<A>();
 }

@@ -5,8 +5,6 @@ ghost use Rattle.cap_script.specs.LineLimits.{LineWithin};
 ghost use Rattle.cap_script.specs.Script.{SpellsLine};
 ghost use Rattle.cap_script.specs.declared.line.Line.{Line};
 
-use cap_script::a_line_without_fault;
-use cap_script_laws::{syntax_fault_lasts, syntax_fault_place};
 use cap_value::AllocHandle;
 
 /// The line `frob`, whose word is no command: its fault is at the first byte.
@@ -15,9 +13,9 @@ pub fn an_unknown_command<A: AllocHandle>()
     ensures place { BeginsLine A (codes "frob") 4 }
     ensures none { (line : Line A) → LineWithin line (codes "frob") → ⊥ }
 {
-    syntax_fault_lasts::<A>();
-    syntax_fault_place::<A>();
-    a_line_without_fault::<A>();
+    cap_script_laws::laws::syntax_fault_lasts::<A>();
+    cap_script_laws::laws::syntax_fault_place::<A>();
+    cap_script::laws::a_line_without_fault::<A>();
 }
 
 /// The line `filter x`, whose session has no number: its fault is at the last byte.
@@ -25,13 +23,13 @@ pub fn a_filter_without_a_session<A: AllocHandle>()
     ensures lasts { KeepsSyntaxFault A (codes "filter x") 1 }
     ensures place { BeginsLine A (codes "filter x") 1 }
 {
-    syntax_fault_lasts::<A>();
-    syntax_fault_place::<A>();
+    cap_script_laws::laws::syntax_fault_lasts::<A>();
+    cap_script_laws::laws::syntax_fault_place::<A>();
 }
 
 /// The line `session`, which has no fault.
 pub fn a_new_session<A: AllocHandle>()
     ensures { (line : Line A) × SpellsLine line (codes "session") × LineWithin line (codes "session") }
 {
-    a_line_without_fault::<A>();
+    cap_script::laws::a_line_without_fault::<A>();
 }

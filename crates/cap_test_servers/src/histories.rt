@@ -5,7 +5,7 @@ ghost use Rattle.cap_core.specs.Answer.{reply_of};
 ghost use Rattle.cap_history.specs.Seat.{calls};
 ghost use Rattle.cap_core.specs.declared.command.Command.TheVariants.{Read};
 
-use cap_core::{Command, Core, NoHook, Reply, legal_histories_grow};
+use cap_core::{Command, Core, NoHook, Reply};
 use cap_history::{Opened, Overtaken};
 use cap_server::{Front, List, Naming, Seat, named};
 use std::alloc::Global;
@@ -16,7 +16,7 @@ use std::process::Abort;
 fn first_reply(alloc: Global) -> Option<Reply<Global>>
     ensures { IfSome result (λ reply. reply ≡ reply_of [] Read) }
 {
-    legal_histories_grow::<Global>();
+    cap_core::laws::legal_histories_grow::<Global>();
     let mut core = Core::new(alloc);
     match core.step(&Command::Read, &mut NoHook) {
         Ok(reply) => Some(reply),

@@ -3,7 +3,7 @@ use cap_database::Action;
 use cap_field::ValueRef;
 use cap_row::Row;
 use cap_table::{RowRef, Scan};
-use cap_txn::{Answer, Asked, Item, Look};
+use cap_txn::{Answer, AnsweredCall, Asked, Item};
 use cap_value::{Refusal, Value};
 use std::alloc::Global;
 
@@ -123,12 +123,12 @@ fn word(call: &Asked<Global>) -> &'static str {
 }
 
 // Whether these are the calls of a trace and their answers, in order.
-pub(crate) fn are_looks(trace: &[Look<Global>], expected: &[(&str, Told<'_>)]) -> bool {
+pub(crate) fn is_trace(trace: &[AnsweredCall<Global>], expected: &[(&str, Told<'_>)]) -> bool {
     if trace.len() != expected.len() {
         return false;
     }
-    for (look, (call, told)) in trace.iter().zip(expected) {
-        if word(&look.call) != *call || !is_answer(&look.answer, told) {
+    for (entry, (call, told)) in trace.iter().zip(expected) {
+        if word(&entry.call) != *call || !is_answer(&entry.answer, told) {
             return false;
         }
     }

@@ -1,7 +1,7 @@
 //! Transactions beside other commits.
 ghost use Rattle.std.specs.Prelude.{◌≡◌};
 
-use crate::looks::{Looked, Told, are_items, are_looks};
+use crate::looks::{Looked, Told, are_items, is_trace};
 use crate::seats::{is_answered, line_of, snapshot};
 use cap_core::{Command, Reply};
 use cap_database::{Op, Snapshot};
@@ -242,7 +242,7 @@ fn commit_beside<J: Naming, R: Wait + Abort>(
 ) -> Option<()> {
     let batch = begun(rt, alloc, server, zero, case)?;
     assert!(rt; are_items(batch.footprint(), case.footprint));
-    assert!(rt; are_looks(batch.trace(), case.trace));
+    assert!(rt; is_trace(batch.trace(), case.trace));
     assert!(rt; is_answered(rt, alloc, server, one, case.meanwhile));
     assert!(rt;
         is_committed(rt, alloc, server, zero, batch, case),

@@ -2,7 +2,7 @@
 ghost use Rattle.cap_value.specs.Memory.{AnswersUnlessMemory};
 ghost use Rattle.cap_apply.specs.Apply as whole;
 
-use cap_applier::{Applier, answers_of_a_policy_apply_the_blob};
+use cap_applier::Applier;
 use cap_apply::{Applied, Policy};
 use cap_codec::Contents;
 use cap_database::Database;
@@ -17,6 +17,6 @@ pub fn answered_by_a_policy<A: AllocHandle>(
 ) -> Result<Applied<A>, Fault<Refusal>>
     ensures { AnswersUnlessMemory result (whole.apply database.now blob policy) }
 {
-    answers_of_a_policy_apply_the_blob::<A>();
+    cap_applier::laws::answers_of_a_policy_apply_the_blob::<A>();
     Applier::new(alloc, database, blob, None)?.answer_all(policy)
 }

@@ -2,7 +2,7 @@
 use crate::rows::{At, has_rows, has_text, key, key_value, named, refusal, row, schema};
 use cap_field::ValueRef;
 use cap_row::{Key, Row};
-use cap_table::{NotMade, ROW_IDS_END, RowName, RowRef, Table};
+use cap_table::{ChangeFault, ROW_IDS_END, RowName, RowRef, Table};
 use cap_test_support::{CountingHook, Memory};
 use cap_value::{AllocHandle, Fault, Refusal, Value};
 use linked_list_allocator::LocalHeap;
@@ -349,13 +349,13 @@ fn insert_keyed(
     table: &mut Table<Global>,
     text: &str,
     hook: &mut CountingHook,
-) -> Result<(), NotMade<()>> {
+) -> Result<(), ChangeFault<()>> {
     let Ok(row) = row(alloc, Some(1), text) else {
-        return Err(NotMade::OutOfMemory);
+        return Err(ChangeFault::OutOfMemory);
     };
     match table.new_key(&row) {
         Ok(Some(key)) => table.insert_keyed_hooked(key, row, hook),
-        _ => Err(NotMade::OutOfMemory),
+        _ => Err(ChangeFault::OutOfMemory),
     }
 }
 
@@ -365,13 +365,13 @@ fn update_kept(
     table: &mut Table<Global>,
     key: &Key<Global>,
     hook: &mut CountingHook,
-) -> Result<(), NotMade<()>> {
+) -> Result<(), ChangeFault<()>> {
     let Ok(text) = Value::text(alloc, "b") else {
-        return Err(NotMade::OutOfMemory);
+        return Err(ChangeFault::OutOfMemory);
     };
     let fields = [(1, text)];
     if !table.keeps_key(&fields) {
-        return Err(NotMade::OutOfMemory);
+        return Err(ChangeFault::OutOfMemory);
     }
     table.update_kept_hooked(key, &fields, hook)
 }
@@ -385,7 +385,7 @@ const WITH_B: Rows = &[(At::Key(1), "b")];
 fn changes_wait_for_the_commit_hook(rt: HostRuntime) -> Result<(), Fail> {
     let (mut table, one) = (kv(rt.alloc())?, key(rt.alloc(), 1)?);
     let (mut no, mut yes) = (CountingHook::new(false), CountingHook::new(true));
-    let vetoed = Err(NotMade::Vetoed(()));
+    let vetoed = Err(ChangeFault::Vetoed(()));
     assert!(rt; insert_keyed(rt.alloc(), &mut table, "a", &mut no) == vetoed);
     assert!(rt; has_rows(&table, &[]));
     assert!(rt; insert_keyed(rt.alloc(), &mut table, "a", &mut yes) == Ok(()));
@@ -413,13 +413,13 @@ fn has_new_key(
 fn refused_changes_are_not_shown_to_the_hook(rt: HostRuntime) -> Result<(), Fail> {
     let (mut table, one) = (kv(rt.alloc())?, key(rt.alloc(), 1)?);
     let mut no = CountingHook::new(false);
-    let no_row = Err(NotMade::Refused(Refusal::NoRow));
+    let no_row = Err(ChangeFault::Refused(Refusal::NoRow));
     assert!(rt; has_new_key(rt.alloc(), &table, None) == Ok(false));
     assert!(rt; !table.keeps_key(&[(0, Value::Int(2))]));
     assert!(rt; update_kept(rt.alloc(), &mut table, &one, &mut no) == no_row);
     assert!(rt; table.delete_keyed_hooked(&one, &mut no) == no_row);
     assert!(rt; insert(rt.alloc(), &mut table, Some(1), "a") == Ok(true));
-    let duplicate = Err(NotMade::Refused(Refusal::Duplicate));
+    let duplicate = Err(ChangeFault::Refused(Refusal::Duplicate));
     assert!(rt; insert_keyed(rt.alloc(), &mut table, "c", &mut no) == duplicate);
     assert!(rt; no.asked == 0);
     Ok(())

@@ -4,7 +4,7 @@ use cap_database::{
     Action, Assignments, Cause, Database, Op, RefusedAt, Snapshot, TABLES_MAX, run_ops,
 };
 use cap_row::Schema;
-use cap_table::{NotMade, RowRef};
+use cap_table::{ChangeFault, RowRef};
 use cap_test_support::{CountingHook, Memory};
 use cap_txn::{Batch, Mark, OPS_MAX, SAVEPOINTS_MAX, Txn};
 use cap_value::{AllocHandle, Fault, Name, OutOfMemory, Refusal, Value};
@@ -370,13 +370,13 @@ fn step(
     database: &mut Database<Global>,
     does: Does,
     hook: &mut CountingHook,
-) -> Result<(), NotMade<()>> {
+) -> Result<(), ChangeFault<()>> {
     let Ok(op) = op_of(alloc, does) else {
-        return Err(NotMade::OutOfMemory);
+        return Err(ChangeFault::OutOfMemory);
     };
     match database.kept_key(&op) {
         Ok(Some(key)) => database.step_keyed(&op, &key, hook),
-        _ => Err(NotMade::OutOfMemory),
+        _ => Err(ChangeFault::OutOfMemory),
     }
 }
 
@@ -388,10 +388,12 @@ fn operations_wait_for_the_commit_hook(rt: HostRuntime) -> Result<(), Fail> {
     let mut database = with_table(rt.alloc())?;
     let (mut no, mut yes) = (CountingHook::new(false), CountingHook::new(true));
     for does in HOOKED {
-        assert!(rt; step(rt.alloc(), &mut database, *does, &mut no) == Err(NotMade::Vetoed(())));
+        assert!(rt;
+            step(rt.alloc(), &mut database, *does, &mut no) == Err(ChangeFault::Vetoed(()))
+        );
         assert!(rt; step(rt.alloc(), &mut database, *does, &mut yes) == Ok(()));
     }
-    let no_row = Err(NotMade::Refused(Refusal::NoRow));
+    let no_row = Err(ChangeFault::Refused(Refusal::NoRow));
     assert!(rt; step(rt.alloc(), &mut database, Does::Delete, &mut no) == no_row);
     assert!(rt; (no.asked, yes.asked) == (3, 3));
     Ok(())

@@ -210,8 +210,8 @@ module _ {K V : Type 0} where
         pub gap_of_two : (height : ℕ) (front : List (Branch K V)) (p e : Branch K V) (back : List (Branch K V)) (j : ℕ) → AreChildren cmp height (front ++ p ∷ e ∷ back) → (place cmp k (front ++ p ∷ e ∷ back) ≡ j + 1) ⊎ (place cmp k (front ++ p ∷ e ∷ back) ≡ j + 2) → j ≡ length front → IsGap k front p.0 back
         gap_of_two height front p e back j h (inl is) at =
             let parts = place_parts front p (e ∷ back) 0 (omega (arith, is, at)) in
-            let behind = children_right height front (p ∷ e ∷ back) h in
-            record { over = parts.0; here = parts.1; none = place_zero cmp o k back (below_children cmp o k height (e ∷ back) behind.3 parts.2).1 }
+            let right = children_right height front (p ∷ e ∷ back) h in
+            record { over = parts.0; here = parts.1; none = place_zero cmp o k back (below_children cmp o k height (e ∷ back) right.3 parts.2).1 }
         gap_of_two height front p e back j h (inr is) at =
             let parts = place_parts front p (e ∷ back) 1 (omega (arith, is, at)) in
             record { over = parts.0; here = parts.1; none = (place_step cmp o k e back 0 parts.2).0 }
@@ -234,7 +234,7 @@ module _ {K V : Type 0} where
         above_front height front p back h not = each_turn cmp (λ y. cmp p.0 y ≡ Greater) (λ y. cmp k y ≡ Greater) (λ y a. above_all_of cmp o k p.0 y not a) (entries_of front) (children_over height front (p ∷ back) h).0
 
         pub below_back : (height : ℕ) (front : List (Branch K V)) (p : Branch K V) (back : List (Branch K V)) → AreChildren cmp height (front ++ p ∷ back) → place cmp k back ≡ 0 → Each cmp Less k (entries_of back)
-        below_back height front p back h none = let behind = (children_right height front (p ∷ back) h).3 in below_entries cmp o k height back behind (below_children cmp o k height back behind none)
+        below_back height front p back h none = let right = (children_right height front (p ∷ back) h).3 in below_entries cmp o k height back right (below_children cmp o k height back right none)
 
   -- ---- the first branch gets another least key
 

@@ -83,8 +83,8 @@ module _ {K V Z : Type 0} (cmp : K → K → Ordering) (o : IsTotalOrder cmp) (h
       children_back = children_right cmp height (branches (take at children)) (branches (drop at children)) both
 
       -- behind of n entries are below the back ones
-      module _ (fit : AreFit (branches children)) (n behind : ℕ) (count : n ≡ length (entries_of (branches children))) (rest : behind ≡ length (entries_of (branches (drop at children)))) where
-        pub inner_front : (front : Vec (Child K V Z) Z) → front.items ≡ take at children → vec_len front ≡ at → 0 < at → at ≤ 16 → IsInner cmp height (n - behind) front
+      module _ (fit : AreFit (branches children)) (n back_count : ℕ) (count : n ≡ length (entries_of (branches children))) (rest : back_count ≡ length (entries_of (branches (drop at children)))) where
+        pub inner_front : (front : Vec (Child K V Z) Z) → front.items ≡ take at children → vec_len front ≡ at → 0 < at → at ≤ 16 → IsInner cmp height (n - back_count) front
         inner_front front f len some most = record {
           some = omega (arith, len, some);
           most = omega (arith, len, most);
@@ -93,7 +93,7 @@ module _ {K V Z : Type 0} (cmp : K → K → Ordering) (o : IsTotalOrder cmp) (h
           count = rw f (omega (arith, count, rest, inner_count));
         }
 
-        pub inner_back : (back : Vec (Child K V Z) Z) → back.items ≡ drop at children → 0 < vec_len back → vec_len back ≤ 16 → IsInner cmp height behind back
+        pub inner_back : (back : Vec (Child K V Z) Z) → back.items ≡ drop at children → 0 < vec_len back → vec_len back ≤ 16 → IsInner cmp height back_count back
         inner_back back b some most = record { some = some; most = most; children = rw b children_back; fit = rw b (fit_back fit); count = rw b rest }
 
       -- the first child of the back ones is d

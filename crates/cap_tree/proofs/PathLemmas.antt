@@ -14,7 +14,7 @@ use Rattle.cap_tree.proofs.ChildLemmas.{length_branches}
 use Rattle.cap_tree.specs.Subtree.{Subtree}
 use Rattle.cap_tree.specs.Path.{pending, FitInto, IsPath}
 use Rattle.cap_tree.specs.Shape.{branches, shape, entries_of, IsNode, AreChildren, place}
-use Rattle.cap_tree.proofs.WayLemmas.{child_and_behind, from_child}
+use Rattle.cap_tree.proofs.WayLemmas.{child_and_rest, from_child}
 
 -- the lesser power has the lesser exponent
 lower : (h n : ℕ) → 4 ^ h < 4 ^ n → h < n
@@ -63,14 +63,14 @@ module _ {K V Z : Type 0} where
   children_fit cmp height room [] h low = tt
   children_fit cmp height room (x ∷ xs) h low = ((h.0.1, omega (arith, h.0.0)), children_fit cmp height room xs h.3 low)
 
-  all_entries : (path : List (Bor (List (Child K V Z)))) (behind : Bor (List (Child K V Z))) (front : List (K × V)) → front ++ pending (path ++ behind ∷ []) ≡ (front ++ entries_of (branches behind.now)) ++ pending path
-  all_entries path behind front = ap (λ t. front ++ t) (pending-push path behind) ∙ sym (append_assoc front (entries_of (branches behind.now)) (pending path))
+  all_entries : (path : List (Bor (List (Child K V Z)))) (rest : Bor (List (Child K V Z))) (front : List (K × V)) → front ++ pending (path ++ rest ∷ []) ≡ (front ++ entries_of (branches rest.now)) ++ pending path
+  all_entries path rest front = ap (λ t. front ++ t) (pending-push path rest) ∙ sym (append_assoc front (entries_of (branches rest.now)) (pending path))
 
   -- ---- from a node that stands so far down into one of its children
 
-  module _ (cmp : K → K → Ordering) (height : ℕ) (children : List (Child K V Z)) (n : ℕ) (child : Child K V Z) (behind : Bor (List (Child K V Z))) (there : drop n children ≡ child ∷ behind.now) (h : AreChildren cmp height (branches children)) (path : List (Bor (List (Child K V Z)))) (fits : length path + height ≤ 32) where
-    those : AreChildren cmp height (branches (child ∷ behind.now))
-    those = child_and_behind cmp children n child behind.now there height h
+  module _ (cmp : K → K → Ordering) (height : ℕ) (children : List (Child K V Z)) (n : ℕ) (child : Child K V Z) (rest : Bor (List (Child K V Z))) (there : drop n children ≡ child ∷ rest.now) (h : AreChildren cmp height (branches children)) (path : List (Bor (List (Child K V Z)))) (fits : length path + height ≤ 32) where
+    those : AreChildren cmp height (branches (child ∷ rest.now))
+    those = child_and_rest cmp children n child rest.now there height h
 
     pub down_lower : child.node.value.height < height
     down_lower = let t = those in omega (arith, t.0.0)
@@ -78,24 +78,24 @@ module _ {K V Z : Type 0} where
     pub down_room : length path < 32
     down_room = let t = those in omega (arith, t.0.0)
 
-    pub down_path : IsPath 32 path → IsPath 32 (path ++ behind ∷ [])
-    down_path p = path_push 32 path behind p (children_fit cmp height (32 - length path) behind.now those.3 (omega arith))
+    pub down_path : IsPath 32 path → IsPath 32 (path ++ rest ∷ [])
+    down_path p = path_push 32 path rest p (children_fit cmp height (32 - length path) rest.now those.3 (omega arith))
 
-    pub down_fits : length (path ++ behind ∷ []) + child.node.value.height ≤ 32
-    down_fits = let t = those in omega (arith, t.0.0, length-append path (behind ∷ []))
+    pub down_fits : length (path ++ rest ∷ []) + child.node.value.height ≤ 32
+    down_fits = let t = those in omega (arith, t.0.0, length-append path (rest ∷ []))
 
     pub down_some : (leaf : List (K × V)) → (0 < length child.node.value.entries → 0 < length leaf) → 0 < length leaf
     down_some leaf some = some those.0.1
 
   -- to the first child
-  pub down_first : (children : List (Child K V Z)) (child : Child K V Z) (behind : Bor (List (Child K V Z))) → children ≡ child ∷ behind.now → (path : List (Bor (List (Child K V Z)))) → child.node.value.entries ++ pending (path ++ behind ∷ []) ≡ entries_of (branches children) ++ pending path
-  down_first children child behind is path = all_entries path behind child.node.value.entries ∙ ap (λ l. entries_of (branches l) ++ pending path) (sym is)
+  pub down_first : (children : List (Child K V Z)) (child : Child K V Z) (rest : Bor (List (Child K V Z))) → children ≡ child ∷ rest.now → (path : List (Bor (List (Child K V Z)))) → child.node.value.entries ++ pending (path ++ rest ∷ []) ≡ entries_of (branches children) ++ pending path
+  down_first children child rest is path = all_entries path rest child.node.value.entries ∙ ap (λ l. entries_of (branches l) ++ pending path) (sym is)
 
   -- to the child among whose entries the key belongs
-  pub down_key : (cmp : K → K → Ordering) → IsTotalOrder cmp → (k : K) (height : ℕ) (children : List (Child K V Z)) (child : Child K V Z) (behind : Bor (List (Child K V Z))) → drop (place cmp k (branches children) - 1) children ≡ child ∷ behind.now → AreChildren cmp height (branches children) → (path : List (Bor (List (Child K V Z)))) → entries_from (cmp k) child.node.value.entries ++ pending (path ++ behind ∷ []) ≡ entries_from (cmp k) (entries_of (branches children)) ++ pending path
-  down_key cmp o k height children child behind there h path =
-      all_entries path behind (entries_from (cmp k) child.node.value.entries)
-      ∙ ap (λ t. t ++ pending path) (sym (from_child cmp children (place cmp k (branches children) - 1) child behind.now there o k height h refl))
+  pub down_key : (cmp : K → K → Ordering) → IsTotalOrder cmp → (k : K) (height : ℕ) (children : List (Child K V Z)) (child : Child K V Z) (rest : Bor (List (Child K V Z))) → drop (place cmp k (branches children) - 1) children ≡ child ∷ rest.now → AreChildren cmp height (branches children) → (path : List (Bor (List (Child K V Z)))) → entries_from (cmp k) child.node.value.entries ++ pending (path ++ rest ∷ []) ≡ entries_from (cmp k) (entries_of (branches children)) ++ pending path
+  down_key cmp o k height children child rest there h path =
+      all_entries path rest (entries_from (cmp k) child.node.value.entries)
+      ∙ ap (λ t. t ++ pending path) (sym (from_child cmp children (place cmp k (branches children) - 1) child rest.now there o k height h refl))
 
   -- ---- to the first child of the node that comes last on the path
 
@@ -113,24 +113,24 @@ module _ {K V Z : Type 0} where
         none_left [] e = refl
         none_left (x ∷ xs) e = absurd (omega arith)
 
-    module _ (child : Child K V Z) (behind : Bor (List (Child K V Z))) (first : children.now ≡ child ∷ behind.now) where
-      fit : FitInto (32 - length path) (child ∷ behind.now)
+    module _ (child : Child K V Z) (rest : Bor (List (Child K V Z))) (first : children.now ≡ child ∷ rest.now) where
+      fit : FitInto (32 - length path) (child ∷ rest.now)
       fit = subst (FitInto (32 - length path)) first (path_last 32 path children here)
 
       pub next_room : length path < 32
       next_room = let f = fit in omega (arith, f.0.1)
 
-      pub next_down : IsPath 32 (path ++ behind ∷ [])
-      next_down = path_push 32 path behind next_path fit.1
+      pub next_down : IsPath 32 (path ++ rest ∷ [])
+      next_down = path_push 32 path rest next_path fit.1
 
-      pub next_fits : length (path ++ behind ∷ []) + child.node.value.height ≤ 32
-      next_fits = let f = fit in omega (arith, f.0.1, length-append path (behind ∷ []))
+      pub next_fits : length (path ++ rest ∷ []) + child.node.value.height ≤ 32
+      next_fits = let f = fit in omega (arith, f.0.1, length-append path (rest ∷ []))
 
       pub next_some : (leaf : List (K × V)) → (0 < length child.node.value.entries → 0 < length leaf) → 0 < length leaf
       next_some leaf some = some fit.0.0
 
-      pub next_pending : child.node.value.entries ++ pending (path ++ behind ∷ []) ≡ pending whole
-      next_pending = down_first children.now child behind first path ∙ sym (ap pending is ∙ pending-push path children)
+      pub next_pending : child.node.value.entries ++ pending (path ++ rest ∷ []) ≡ pending whole
+      next_pending = down_first children.now child rest first path ∙ sym (ap pending is ∙ pending-push path children)
 
   -- ---- how high a node is whose entries can be counted
 

@@ -40,30 +40,30 @@ last_entry front es e h =
     let some = slice_get_within es (length es - 1) e h in
     entry_at front es e (length es - 1) (length (front ++ es) - 1) (omega (arith, length-append front es)) h
 
-module _ {K V Z : Type 0} (cmp : K → K → Ordering) (children : List (Child K V Z)) (n : ℕ) (child : Child K V Z) (behind : List (Child K V Z)) (there : drop n children ≡ child ∷ behind) where
-  whole : branches children ≡ branches (take n children) ++ (child.least, child.node.value) ∷ branches behind
-  whole = cut children (take n children) (child ∷ behind) (sym (take-append-drop n children) ∙ ap (λ t. take n children ++ t) there)
+module _ {K V Z : Type 0} (cmp : K → K → Ordering) (children : List (Child K V Z)) (n : ℕ) (child : Child K V Z) (rest : List (Child K V Z)) (there : drop n children ≡ child ∷ rest) where
+  whole : branches children ≡ branches (take n children) ++ (child.least, child.node.value) ∷ branches rest
+  whole = cut children (take n children) (child ∷ rest) (sym (take-append-drop n children) ∙ ap (λ t. take n children ++ t) there)
 
   pub child_ordered : IsOrdered cmp (entries_of (branches children)) → IsOrdered cmp child.node.value.entries
-  child_ordered s = siblings.child_ordered cmp (branches children) (branches (take n children)) (branches behind) (child.least, child.node.value) whole s
+  child_ordered s = siblings.child_ordered cmp (branches children) (branches (take n children)) (branches rest) (child.least, child.node.value) whole s
 
-  pub child_and_behind : (height : ℕ) → AreChildren cmp height (branches children) → AreChildren cmp height (branches (child ∷ behind))
-  child_and_behind height h = children_right cmp height (branches (take n children)) (branches (child ∷ behind)) (subst (AreChildren cmp height) whole h)
+  pub child_and_rest : (height : ℕ) → AreChildren cmp height (branches children) → AreChildren cmp height (branches (child ∷ rest))
+  child_and_rest height h = children_right cmp height (branches (take n children)) (branches (child ∷ rest)) (subst (AreChildren cmp height) whole h)
 
   module _ (o : IsTotalOrder cmp) (k : K) (height : ℕ) (h : AreChildren cmp height (branches children)) (is : place cmp k (branches children) - 1 ≡ n) where
-    parted : AreChildren cmp height (branches (take n children) ++ branches (child ∷ behind))
+    parted : AreChildren cmp height (branches (take n children) ++ branches (child ∷ rest))
     parted = subst (AreChildren cmp height) whole h
 
-    sides : Each cmp Greater k (entries_of (branches (take n children))) × Each cmp Less k (entries_of (branches behind))
+    sides : Each cmp Greater k (entries_of (branches (take n children))) × Each cmp Less k (entries_of (branches rest))
     sides =
         let length_of : n ≡ length (branches (take n children)) = front_length children n (omega (arith, length-drop n children, ap length there)) in
-        around_place cmp o k height (branches (take n children)) (child.least, child.node.value) (branches behind) parted (ap (λ l. place cmp k l - 1) (sym whole) ∙ is ∙ length_of)
+        around_place cmp o k height (branches (take n children)) (child.least, child.node.value) (branches rest) parted (ap (λ l. place cmp k l - 1) (sym whole) ∙ is ∙ length_of)
 
     pub get_child : get cmp (entries_of (branches children)) k ≡ get cmp child.node.value.entries k
-    get_child = ap (λ l. get cmp (entries_of l) k) whole ∙ get_below cmp k o height (branches (take n children)) (child.least, child.node.value) (branches behind) parted sides.0 sides.1
+    get_child = ap (λ l. get cmp (entries_of l) k) whole ∙ get_below cmp k o height (branches (take n children)) (child.least, child.node.value) (branches rest) parted sides.0 sides.1
 
-    pub from_child : entries_from (cmp k) (entries_of (branches children)) ≡ entries_from (cmp k) child.node.value.entries ++ entries_of (branches behind)
-    from_child = ap (λ l. entries_from (cmp k) (entries_of l)) whole ∙ from_below cmp k o height (branches (take n children)) (child.least, child.node.value) (branches behind) parted sides.0 sides.1
+    pub from_child : entries_from (cmp k) (entries_of (branches children)) ≡ entries_from (cmp k) child.node.value.entries ++ entries_of (branches rest)
+    from_child = ap (λ l. entries_from (cmp k) (entries_of l)) whole ∙ from_below cmp k o height (branches (take n children)) (child.least, child.node.value) (branches rest) parted sides.0 sides.1
 
 module _ {K V Z : Type 0} where
   -- ---- the last child

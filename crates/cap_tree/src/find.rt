@@ -21,10 +21,10 @@ pub(crate) fn child_for<'a, K: Ord, V, A: AllocHandle>(
         → drop (place K.cmp key.now (branches children.now) - 1) children.now ≡ result.0.now ∷ result.1.now }
 {
     let (_, from) = children.split_at(count_up_to(children, key).saturating_sub(1));
-    let Some((child, behind)) = from.split_first() else {
+    let Some((child, rest)) = from.split_first() else {
         unreachable!()
     };
-    (child, behind)
+    (child, rest)
 }
 
 // The value at the key.

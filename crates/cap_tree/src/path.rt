@@ -51,10 +51,10 @@ pub(crate) fn descend<'a, K: Ord, V, A: AllocHandle>(
     match &node.link {
         Link::Leaf(entries) => return entries.as_slice(),
         Link::Inner(_, _, children) => {
-            let Some((child, behind)) = children.as_slice().split_first() else {
+            let Some((child, rest)) = children.as_slice().split_first() else {
                 unreachable!()
             };
-            path.push(behind);
+            path.push(rest);
             return descend(path, &child.node);
         }
     }
@@ -70,8 +70,8 @@ pub(crate) fn next_leaf<'a, K: Ord, V, A: AllocHandle>(
         (λ leaf. (pending path.old.items ≡ leaf.now ++ pending path.new.items) × (0 < length leaf.now)) }
 {
     while let Some(children) = path.pop() {
-        if let Some((child, behind)) = children.split_first() {
-            path.push(behind);
+        if let Some((child, rest)) = children.split_first() {
+            path.push(rest);
             return Some(descend(path, &child.node));
         }
     }
@@ -109,8 +109,8 @@ pub(crate) fn seek<'a, K: Ord, V, A: AllocHandle>(
     match &node.link {
         Link::Leaf(entries) => return entries_not_below(entries.as_slice(), key),
         Link::Inner(_, _, children) => {
-            let (child, behind) = child_for(children.as_slice(), key);
-            path.push(behind);
+            let (child, rest) = child_for(children.as_slice(), key);
+            path.push(rest);
             return seek(path, &child.node, key);
         }
     }

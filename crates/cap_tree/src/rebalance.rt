@@ -69,11 +69,11 @@ fn cut_children<K: Ord + Exact + Drop, V: Drop, A: AllocHandle>(
     ensures front_len { OnOk result (vec_len front.new ≡ at) }
     ensures back { OnOk result (back.new.items ≡ drop at (front.old.items ++ back.old.items)) }
     ensures back_len { OnOk result (vec_len back.new + at ≡ vec_len front.old + vec_len back.old) }
-    ensures behind { IfOk result (λ r. r.1 ≡ length (entries_of (branches back.new.items))) }
+    ensures back_count { IfOk result (λ r. r.1 ≡ length (entries_of (branches back.new.items))) }
 {
     let next = cut_items(front, back, at)?;
-    let behind = count_of(back.as_slice());
-    Ok((next, behind))
+    let back_count = count_of(back.as_slice());
+    Ok((next, back_count))
 }
 
 // Redistributes the items of two sibling nodes, so that the front one has `at` of them, and answers the least
@@ -102,9 +102,9 @@ fn redistribute<K: Ord + Exact + Drop, V: Drop, A: AllocHandle>(
             Link::Leaf(_) => unreachable!(),
             Link::Inner(_, more, others) => {
                 rename_first(others, *height, least)?;
-                let (next, behind) = cut_children(children, others, at)?;
-                *count = *count + *more - behind;
-                *more = behind;
+                let (next, back_count) = cut_children(children, others, at)?;
+                *count = *count + *more - back_count;
+                *more = back_count;
                 return Ok(next);
             }
         },
@@ -128,8 +128,8 @@ fn merge_pair<K: Ord + Exact + Drop, V: Exact + Drop, A: AllocHandle>(
     ensures filled { OnOk result (IsFilled (arc_value front.new.node)) }
 {
     let node = Arc::make_mut(&mut front.node)?;
-    let behind = Arc::make_mut(&mut back.node)?;
-    merge(node, behind, &back.least)?;
+    let next = Arc::make_mut(&mut back.node)?;
+    merge(node, next, &back.least)?;
     // The length shows how many entries there are.
     let _length = node.len();
     Ok(())
@@ -153,10 +153,10 @@ fn redistribute_pair<K: Ord + Exact + Drop, V: Exact + Drop, A: AllocHandle>(
     ensures back_filled { OnOk result (IsFilled (arc_value back.new.node)) }
 {
     let node = Arc::make_mut(&mut front.node)?;
-    let behind = Arc::make_mut(&mut back.node)?;
-    let least = redistribute(node, behind, &back.least, at)?;
+    let next = Arc::make_mut(&mut back.node)?;
+    let least = redistribute(node, next, &back.least, at)?;
     // The lengths show how many entries there are.
-    let _lengths = (node.len(), behind.len());
+    let _lengths = (node.len(), next.len());
     back.least = least;
     Ok(())
 }

@@ -64,10 +64,10 @@ impl<K: Ord + Exact + Drop, V: Drop, A: AllocHandle> Node<K, V, A> {
             Link::Inner(height, count, children) => {
                 let mut moved = Vec::with_capacity(*children.allocator(), MOST)?;
                 let least = cut_items(children, &mut moved, at)?;
-                let behind = count_of(moved.as_slice());
-                *count -= behind;
+                let back_count = count_of(moved.as_slice());
+                *count -= back_count;
                 let rest = Node {
-                    link: Link::Inner(*height, behind, moved),
+                    link: Link::Inner(*height, back_count, moved),
                 };
                 *back = rest;
                 return Ok(least);

@@ -9,15 +9,15 @@ use Rattle.cap_table.specs.Table.{TableState}
 use Rattle.cap_database.specs.Snapshot.{SnapshotState}
 use Rattle.cap_database.specs.Operation.{act, step}
 use Rattle.cap_database.specs.Read.{read, rows_of}
-use Rattle.cap_txn.specs.Standing.{IsStanding, Leaves}
+use Rattle.cap_txn.specs.Sound.{IsSound, Leaves}
 use Rattle.cap_database.specs.Tables.{EachRises, Tables}
 use Rattle.cap_txn.specs.Workspace.{WorkspaceState, after_back, after_op, after_savepoint, back_at, begin, numbered, op_made, refused_savepoint, savepoint_unless, up_to}
 use Rattle.cap_txn.specs.Footprint.{Unchanged, op_items, with_items}
 use Rattle.cap_txn.specs.Calls.{GoesThrough, after_call, after_calls, answer_to, answers_from, done, footprint, items_from, items_of, left, mark_answer, row_answer, rows_answer, unless_refused, whole}
-use Rattle.cap_txn.specs.declared.look.Answer.{Answer}
-use Rattle.cap_txn.specs.declared.look.Answer.TheVariants as answer
-use Rattle.cap_txn.specs.declared.look.Asked.{Asked}
-use Rattle.cap_txn.specs.declared.look.Asked.TheVariants as asked
+use Rattle.cap_txn.specs.declared.answered_call.Answer.{Answer}
+use Rattle.cap_txn.specs.declared.answered_call.Answer.TheVariants as answer
+use Rattle.cap_txn.specs.declared.answered_call.Asked.{Asked}
+use Rattle.cap_txn.specs.declared.answered_call.Asked.TheVariants as asked
 use Rattle.cap_txn.specs.declared.item.Item.{Item}
 use Rattle.cap_database.specs.declared.op.Action.{Action}
 use Rattle.cap_database.specs.declared.op.Op.{Op}
@@ -27,7 +27,7 @@ use Rattle.cap_table.specs.declared.row_ref.RowRef.{RowRef}
 use Rattle.cap_txn.specs.Transaction.{IsLower}
 use Rattle.cap_txn.proofs.AlikeLemmas.{Alike, AreNear, LooksSame, read-same, scan-same, step-same}
 use Rattle.cap_txn.proofs.ItemLemmas.{all-parts, all-with_items}
-use Rattle.cap_txn.proofs.StandingLemmas.{back-stands, begin-stands, op-stands, savepoint-stands}
+use Rattle.cap_txn.proofs.SoundLemmas.{back-IsSound, begin-IsSound, op-IsSound, savepoint-IsSound}
 
 module _ {A : Type 0} where
   -- ---- two transactions that stand alike, and look alike at these items
@@ -166,20 +166,20 @@ module _ {A : Type 0} where
 
   -- ---- what stands
 
-  kept-stands : (txn : WorkspaceState A) (r : Result (WorkspaceState A) Refusal) → IsStanding txn → IfOk r IsStanding → IsStanding (unless_refused txn r)
-  kept-stands txn (Ok next) stands more = more
-  kept-stands txn (Err why) stands more = stands
+  kept-IsSound : (txn : WorkspaceState A) (r : Result (WorkspaceState A) Refusal) → IsSound txn → IfOk r IsSound → IsSound (unless_refused txn r)
+  kept-IsSound txn (Ok next) stands more = more
+  kept-IsSound txn (Err why) stands more = stands
 
-  pub call-stands : (txn : WorkspaceState A) (call : Asked A) → IsStanding txn → IsStanding (after_call txn call)
-  call-stands txn (asked.Op op) h = kept-stands txn (after_op txn op) h (op-stands txn op h)
-  call-stands txn (asked.Get name row) h = h
-  call-stands txn (asked.Scan name) h = h
-  call-stands txn asked.Savepoint h = kept-stands txn (after_savepoint txn) h (savepoint-stands txn h)
-  call-stands txn (asked.BackTo mark) h = kept-stands txn (after_back txn mark.number) h (back-stands txn mark.number h)
+  pub call-IsSound : (txn : WorkspaceState A) (call : Asked A) → IsSound txn → IsSound (after_call txn call)
+  call-IsSound txn (asked.Op op) h = kept-IsSound txn (after_op txn op) h (op-IsSound txn op h)
+  call-IsSound txn (asked.Get name row) h = h
+  call-IsSound txn (asked.Scan name) h = h
+  call-IsSound txn asked.Savepoint h = kept-IsSound txn (after_savepoint txn) h (savepoint-IsSound txn h)
+  call-IsSound txn (asked.BackTo mark) h = kept-IsSound txn (after_back txn mark.number) h (back-IsSound txn mark.number h)
 
-  pub calls-stand : (calls : List (Asked A)) (txn : WorkspaceState A) → IsStanding txn → IsStanding (after_calls txn calls)
-  calls-stand [] txn h = h
-  calls-stand (call ∷ calls) txn h = calls-stand calls (after_call txn call) (call-stands txn call h)
+  pub calls-IsSound : (calls : List (Asked A)) (txn : WorkspaceState A) → IsSound txn → IsSound (after_calls txn calls)
+  calls-IsSound [] txn h = h
+  calls-IsSound (call ∷ calls) txn h = calls-IsSound calls (after_call txn call) (call-IsSound txn call h)
 
   -- the base stays
 
@@ -221,7 +221,7 @@ module _ {A : Type 0} where
     goes-through base now calls first second same =
         let looks = (all-with_items (LooksSame base.database now.database) [] (items_from (begin base) calls) same).1 in
         let made = calls-go calls (begin base) (begin now) (record { ops = refl; made = refl; near = record { first = first; second = second; looks = looks }; saved = tt }) in
-        let stands = (calls-stand calls (begin now) (begin-stands now)).left in
+        let stands = (calls-IsSound calls (begin now) (begin-IsSound now)).left in
         record {
           answers = made.0;
           accepted = subst (λ (d : SnapshotState A). Leaves d.database (left calls base).ops (left calls now).database) (calls-base calls (begin now))

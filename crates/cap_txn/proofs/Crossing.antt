@@ -16,12 +16,12 @@ use Rattle.cap_database.proofs.Crossing.{snapshot_send, snapshot_sync}
 use Rattle.cap_database.proofs.op.Op.TheSendSync as op
 use Rattle.cap_table.proofs.row_ref.RowRef.TheSendSync as ref
 use Rattle.cap_txn.proofs.item.Item.TheSendSync as item
-use Rattle.cap_txn.specs.contracts.look.Answer as Answer
-use Rattle.cap_txn.specs.contracts.look.Asked as Asked
-use Rattle.cap_txn.specs.contracts.look.Look as Look
+use Rattle.cap_txn.specs.contracts.answered_call.Answer as Answer
+use Rattle.cap_txn.specs.contracts.answered_call.Asked as Asked
+use Rattle.cap_txn.specs.contracts.answered_call.AnsweredCall as AnsweredCall
 use Rattle.cap_table.specs.contracts.rows.Rows as Rows
 use Rattle.cap_txn.specs.contracts.batch.Batch as Batch
-use Rattle.cap_txn.specs.contracts.seen.Seen as Seen
+use Rattle.cap_txn.specs.contracts.read_set.ReadSet as ReadSet
 
 ruleset sends = (name.the_send, ref.the_field_send, op.the_send, op.the_field_send, key.the_send, row.the_send, refusal.the_field_send, sendable)
 
@@ -59,20 +59,20 @@ module _ (A : RattleType) (h : handle.Ghosts A.Denot) (a : allocator.Ghosts A.De
   answer_field_sync : IsSync (Answer.the_field A h a c).row
   answer_field_sync = enum_sync (shape (Answer.the_type A h a c)) answer_sync
 
-  look_send : IsSend (Look.the_row A h a c)
-  look_send = search (asked_field_send, answer_field_send, sendable) depth 20
+  answered_call_send : IsSend (AnsweredCall.the_row A h a c)
+  answered_call_send = search (asked_field_send, answer_field_send, sendable) depth 20
 
-  look_sync : IsSync (Look.the_row A h a c)
-  look_sync = search (asked_field_sync, answer_field_sync, sendable) depth 20
+  answered_call_sync : IsSync (AnsweredCall.the_row A h a c)
+  answered_call_sync = search (asked_field_sync, answer_field_sync, sendable) depth 20
 
-  seen_send : IsSend (Seen.the_row A h a c)
-  seen_send = search (snapshot_send, item.the_field_send, item.the_send, look_send, sendable, crosses) depth 40 fits 100000
+  read_set_send : IsSend (ReadSet.the_row A h a c)
+  read_set_send = search (snapshot_send, item.the_field_send, item.the_send, answered_call_send, sendable, crosses) depth 40 fits 100000
 
-  seen_sync : IsSync (Seen.the_row A h a c)
-  seen_sync = search (snapshot_sync, item.the_field_sync, item.the_sync, look_sync, sendable, crosses) depth 40 fits 100000
+  read_set_sync : IsSync (ReadSet.the_row A h a c)
+  read_set_sync = search (snapshot_sync, item.the_field_sync, item.the_sync, answered_call_sync, sendable, crosses) depth 40 fits 100000
 
   pub batch_send : IsSend (Batch.the_row A h a c)
-  batch_send = search (seen_send, op.the_send, op.the_field_send, sendable, crosses) depth 40 fits 100000
+  batch_send = search (read_set_send, op.the_send, op.the_field_send, sendable, crosses) depth 40 fits 100000
 
   pub batch_sync : IsSync (Batch.the_row A h a c)
-  batch_sync = search (seen_sync, op.the_sync, op.the_field_sync, sendable, crosses) depth 40 fits 100000
+  batch_sync = search (read_set_sync, op.the_sync, op.the_field_sync, sendable, crosses) depth 40 fits 100000

@@ -12,13 +12,13 @@ use Rattle.cap_row.specs.Row.{row_with}
 use Rattle.cap_database.specs.Assigned.{Assigned}
 use Rattle.cap_table.specs.KeptKey.{keeps_key}
 use Rattle.cap_table.specs.Operation.{key_of_name, row_of}
-use Rattle.cap_table.specs.Sound.{IsTable, is_given, loose_stands}
+use Rattle.cap_table.specs.Sound.{IsTable, is_given, is_loose_row}
 use Rattle.cap_table.specs.Table.{TableState}
 use Rattle.cap_table.specs.declared.row_ref.RowRef.{RowRef}
 use Rattle.cap_table.proofs.BackLemmas.{own-row}
 use Rattle.cap_table.proofs.KeptKeyLemmas.{same_key}
 use Rattle.cap_txn.specs.Footprint.{id_in, item_cmp, item_eq, key_in, kind_of, table_named, with_items}
-use Rattle.cap_txn.specs.Once.{with_each, with_once}
+use Rattle.cap_txn.specs.OrderedSet.{with_each, with_item}
 use Rattle.cap_txn.specs.declared.item.Item.{Item}
 use Rattle.cap_txn.specs.declared.item.Item.TheVariants.{Table, Row, Scan, NextId}
 use Rattle.cap_table.specs.declared.row_ref.RowRef.TheVariants.{Key, Loose}
@@ -82,7 +82,7 @@ module _ {A : Type 0} where
     all-parts [] ys all = (tt, all)
     all-parts (x ∷ xs) ys all = let more = all-parts xs ys all.1 in ((all.0, more.0), more.1)
 
-    pub all-with_item : (items : List (Item A)) (item : Item A) → AllByRecursion P (with_once item_cmp items item) → AllByRecursion P items × P item
+    pub all-with_item : (items : List (Item A)) (item : Item A) → AllByRecursion P (with_item item_cmp items item) → AllByRecursion P items × P item
     all-with_item items item all =
         elim (list_any (item_eq item) items) as (λ b. list_any (item_eq item) items ≡ b → AllByRecursion P (cond b items (items ++ item ∷ [])) → AllByRecursion P items × P item) [
           | true ↦ λ there all. (all, found-all items item there all)
@@ -92,7 +92,7 @@ module _ {A : Type 0} where
     pub all-with_items : (items more : List (Item A)) → AllByRecursion P (with_items items more) → AllByRecursion P items × AllByRecursion P more
     all-with_items items [] all = (all, tt)
     all-with_items items (item ∷ more) all =
-        let rest = all-with_items (with_once item_cmp items item) more all in
+        let rest = all-with_items (with_item item_cmp items item) more all in
         let here = all-with_item items item rest.0 in
         (here.0, (here.1, rest.1))
 
@@ -104,9 +104,9 @@ module _ {A : Type 0} where
 
   pub kept_key : (table : TableState A) (row : RowRef A) (fields : Assigned A) (old : Fields A) → IsTable table → row_of table row ≡ Some old → keeps_key table.schema fields ≡ true
       → key_of_name row ≡ key_of table.schema (row_with fields old)
-  kept_key table (Key key) fields old stand found keeps = sym (same_key table.schema fields keeps old ∙ (own-row table key old stand found).1)
-  kept_key table (Loose id) fields old stand found keeps =
-      let stands = found-passes nat_cmp (λ row. loose_stands table.schema table.next_id row.0 row.1) nat_cmp-IsAntisymmetric table.loose id old stand.loose found in
+  kept_key table (Key key) fields old sound found keeps = sym (same_key table.schema fields keeps old ∙ (own-row table key old sound found).1)
+  kept_key table (Loose id) fields old sound found keeps =
+      let stands = found-passes nat_cmp (λ row. is_loose_row table.schema table.next_id row.0 row.1) nat_cmp-IsAntisymmetric table.loose id old sound.loose found in
       let front = (length old == length table.schema) && not (is_some (key_of table.schema old)) in
       no-key (key_of table.schema old) (second (length old == length table.schema) _ (first front (is_given table.next_id id) stands))
       ∙ sym (same_key table.schema fields keeps old)

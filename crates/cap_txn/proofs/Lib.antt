@@ -3,7 +3,7 @@ pub mod CallsLemmas
 pub mod ChangedLemmas
 pub mod Crossing
 pub mod ItemLemmas
-pub mod OnceLemmas
+pub mod OrderedSetLemmas
 pub mod SamePlanLemmas
-pub mod StandingLemmas
+pub mod SoundLemmas
 pub mod TransactionLemmas

@@ -5,13 +5,13 @@ use Rattle.cap_database.specs.Snapshot.{SnapshotState}
 use Rattle.cap_row.specs.Fields.{Fields}
 use Rattle.cap_txn.specs.Footprint.{op_items, read_items, with_items}
 use Rattle.cap_database.specs.Read.{read, rows_of}
-use Rattle.cap_txn.specs.Standing.{Leaves}
+use Rattle.cap_txn.specs.Sound.{Leaves}
 use Rattle.cap_database.specs.Tables.{Tables}
 use Rattle.cap_txn.specs.Workspace.{WorkspaceState, after_back, after_op, after_savepoint, begin}
-use Rattle.cap_txn.specs.declared.look.Answer.{Answer}
-use Rattle.cap_txn.specs.declared.look.Answer.TheVariants as answer
-use Rattle.cap_txn.specs.declared.look.Asked.{Asked}
-use Rattle.cap_txn.specs.declared.look.Asked.TheVariants.{Op, Get, Scan, Savepoint, BackTo}
+use Rattle.cap_txn.specs.declared.answered_call.Answer.{Answer}
+use Rattle.cap_txn.specs.declared.answered_call.Answer.TheVariants as answer
+use Rattle.cap_txn.specs.declared.answered_call.Asked.{Asked}
+use Rattle.cap_txn.specs.declared.answered_call.Asked.TheVariants.{Op, Get, Scan, Savepoint, BackTo}
 use Rattle.cap_txn.specs.declared.item.Item.{Item}
 use Rattle.cap_txn.specs.declared.item.Item.TheVariants as item
 use Rattle.cap_value.specs.declared.refusal.Refusal.{Refusal}

@@ -1,9 +1,9 @@
 pub mod Batch
 pub mod Calls
 pub mod Footprint
-pub mod Once
-pub mod Seen
+pub mod OrderedSet
+pub mod ReadSet
+pub mod Sound
 pub mod Stale
-pub mod Standing
 pub mod Transaction
 pub mod Workspace

@@ -2,12 +2,12 @@
 ghost use Rattle.std.specs.Prelude.{◌≡◌, ◌≤◌, Some, None, [], length, nat_eq, OnErr, if◌then◌else◌};
 ghost use Rattle.cap_value.specs.declared.refusal.Refusal.TheVariants.{Stale};
 ghost use Rattle.cap_value.specs.Memory.{LeavesUnlessMemory, RefusesFirst};
-ghost use Rattle.cap_txn.specs.Batch.{WhereSeen, footprint_of, push, refused_push, trace_of};
-ghost use Rattle.cap_txn.specs.Stale.{IsJudged, StandsFor, stale};
+ghost use Rattle.cap_txn.specs.Batch.{WhereRead, footprint_of, push, refused_push, trace_of};
+ghost use Rattle.cap_txn.specs.Stale.{AreOpsOf, IsJudged, stale};
 
 use crate::changed::first_changed;
-use crate::seen::Seen;
-use crate::{Item, Look, OPS_MAX, footprints_judge_batches};
+use crate::read_set::ReadSet;
+use crate::{AnsweredCall, Item, OPS_MAX, laws};
 use cap_database::{Database, Op};
 use cap_value::{AllocHandle, Fault, Refusal};
 use std::marker::Model;
@@ -18,54 +18,54 @@ use std::marker::Model;
 pub struct Batch<A: AllocHandle> {
     base: Option<u64>,
     ops: Vec<Op<A>, A>,
-    seen: Option<Seen<A>>,
+    reads: Option<ReadSet<A>>,
 }
 
 impl<A: AllocHandle> Model for Batch<A> {
     ghost use Rattle.std.specs.Prelude.{◌≡◌, ◌≤◌, None, length};
-    ghost use Rattle.cap_txn.specs.Batch.{BatchState, WhereSeen};
-    ghost use Rattle.cap_txn.specs.Stale.{StandsFor};
+    ghost use Rattle.cap_txn.specs.Batch.{BatchState, WhereRead};
+    ghost use Rattle.cap_txn.specs.Stale.{AreOpsOf};
 
     ghost Value = { BatchState A };
 
-    ghost view = { λ b. record { base = b.base; ops = b.ops.items; seen = b.seen } };
+    ghost view = { λ b. record { base = b.base; ops = b.ops.items; reads = b.reads } };
 
-    ghost invariant = { λ b. (b.seen ≡ None → length b.ops.items ≤ 10000)
-        × WhereSeen b.base b.seen (StandsFor b.ops.items) };
+    ghost invariant = { λ b. (b.reads ≡ None → length b.ops.items ≤ 10000)
+        × WhereRead b.base b.reads (AreOpsOf b.ops.items) };
 }
 
 impl<A: AllocHandle> Batch<A> {
     /// A batch without operations that may be made on any version.
     pub fn blind(alloc: A) -> Self
-        ensures { result ≡ record { base = None; ops = []; seen = None } }
+        ensures { result ≡ record { base = None; ops = []; reads = None } }
     {
         Batch {
             base: None,
             ops: Vec::new(alloc),
-            seen: None,
+            reads: None,
         }
     }
 
     /// A batch without operations that may be made on this version alone.
     pub fn based(alloc: A, version: u64) -> Self
-        ensures { result ≡ record { base = Some version; ops = []; seen = None } }
+        ensures { result ≡ record { base = Some version; ops = []; reads = None } }
     {
         Batch {
             base: Some(version),
             ops: Vec::new(alloc),
-            seen: None,
+            reads: None,
         }
     }
 
     // The batch of a transaction.
-    pub(crate) fn of_ops(version: u64, ops: Vec<Op<A>, A>, seen: Seen<A>) -> Self
-        requires stands { StandsFor ops.items version seen }
-        ensures { result ≡ record { base = Some version; ops = ops.items; seen = Some seen } }
+    pub(crate) fn of_ops(version: u64, ops: Vec<Op<A>, A>, reads: ReadSet<A>) -> Self
+        requires traced { AreOpsOf ops.items version reads }
+        ensures { result ≡ record { base = Some version; ops = ops.items; reads = Some reads } }
     {
         Batch {
             base: Some(version),
             ops,
-            seen: Some(seen),
+            reads: Some(reads),
         }
     }
 
@@ -82,7 +82,7 @@ impl<A: AllocHandle> Batch<A> {
         if self.ops.reserve(1).is_err() {
             return Err(Fault::OutOfMemory);
         }
-        self.seen = None;
+        self.reads = None;
         self.ops.push_reserved(op);
         Ok(())
     }
@@ -90,7 +90,7 @@ impl<A: AllocHandle> Batch<A> {
     /// The operations, in order: at most `OPS_MAX` unless a transaction made the batch.
     pub fn ops(&self) -> &[Op<A>]
         ensures ops { result.now ≡ self.now.ops }
-        ensures few { self.now.seen ≡ None → length self.now.ops ≤ OPS_MAX }
+        ensures few { self.now.reads ≡ None → length self.now.ops ≤ OPS_MAX }
     {
         self.ops.as_slice()
     }
@@ -105,28 +105,28 @@ impl<A: AllocHandle> Batch<A> {
     /// What the transaction looked at, each item once, in order of first look. It is empty where no
     /// transaction made the batch, or an operation was put last since.
     pub fn footprint(&self) -> &[Item<A>]
-        ensures { result.now ≡ footprint_of self.now.seen }
+        ensures { result.now ≡ footprint_of self.now.reads }
     {
-        match &self.seen {
-            Some(seen) => seen.footprint.as_slice(),
+        match &self.reads {
+            Some(reads) => reads.footprint.as_slice(),
             None => &[],
         }
     }
 
     /// The calls of the transaction, in order, with their answers. It is empty where `footprint` is.
-    pub fn trace(&self) -> &[Look<A>]
-        ensures { result.now ≡ trace_of self.now.seen }
+    pub fn trace(&self) -> &[AnsweredCall<A>]
+        ensures { result.now ≡ trace_of self.now.reads }
     {
-        match &self.seen {
-            Some(seen) => seen.trace.as_slice(),
+        match &self.reads {
+            Some(reads) => reads.trace.as_slice(),
             None => &[],
         }
     }
 
     /// A law of every batch that a transaction made, for who commits it: its operations are what stands after
     /// the calls of its trace on its base, with the answers there. The call does nothing.
-    pub fn seen_stands(&self)
-        ensures { WhereSeen self.now.base self.now.seen (StandsFor self.now.ops) }
+    pub fn sound_reads_law(&self)
+        ensures { WhereRead self.now.base self.now.reads (AreOpsOf self.now.ops) }
     {
         let _ops = &self.ops;
     }
@@ -136,31 +136,31 @@ impl<A: AllocHandle> Batch<A> {
     /// Another with a base is where the version is not its base. It takes no memory.
     pub fn stale(&self, version: u64, database: &Database<A>) -> Option<Refusal>
         ensures stale { result
-            ≡ stale self.now.base self.now.seen (record { version = version; database = database.now }) }
-        ensures judged { WhereSeen self.now.base self.now.seen
+            ≡ stale self.now.base self.now.reads (record { version = version; database = database.now }) }
+        ensures judged { WhereRead self.now.base self.now.reads
             (IsJudged self.now.ops (record { version = version; database = database.now })) }
     {
-        footprints_judge_batches::<A>();
-        self.seen_stands();
-        database.rows_stand();
+        laws::footprints_judge_batches::<A>();
+        self.sound_reads_law();
+        database.sound_rows_law();
         let base = self.base?;
-        match &self.seen {
-            Some(seen) => stale_seen(seen, base, version, database),
+        match &self.reads {
+            Some(reads) => stale_reads(reads, base, version, database),
             None => stale_version(base, version),
         }
     }
 }
 
 // Why the batch of a transaction is out of date, if it is.
-fn stale_seen<A: AllocHandle>(
-    seen: &Seen<A>,
+fn stale_reads<A: AllocHandle>(
+    reads: &ReadSet<A>,
     base: u64,
     now: u64,
     database: &Database<A>,
 ) -> Option<Refusal>
-    ensures { result ≡ stale (Some base) (Some seen.now) (record { version = now; database = database.now }) }
+    ensures { result ≡ stale (Some base) (Some reads.now) (record { version = now; database = database.now }) }
 {
-    let item = first_changed(seen.base.database(), database, seen.footprint.as_slice())?;
+    let item = first_changed(reads.base.database(), database, reads.footprint.as_slice())?;
     Some(Refusal::Stale {
         base,
         now,

@@ -4,17 +4,17 @@ ghost use Rattle.cap_database.specs.Read.{read, rows_of};
 ghost use Rattle.cap_txn.specs.Batch.{refused_push};
 ghost use Rattle.cap_txn.specs.Calls.{items_of, row_answer, rows_answer};
 ghost use Rattle.cap_txn.specs.Footprint.{with_items};
-ghost use Rattle.cap_txn.specs.Standing.{IsStanding};
-ghost use Rattle.cap_txn.specs.Transaction.{IsAnswered, IsAnsweredUnless, IsNewMark, IsTraced, ReadsStanding};
+ghost use Rattle.cap_txn.specs.Sound.{IsSound};
+ghost use Rattle.cap_txn.specs.Transaction.{IsAnswered, IsAnsweredUnless, IsNewMark, IsTraced, ReadsOwnWrites};
 ghost use Rattle.cap_txn.specs.Transaction.{batch_of, begin_traced, handed_on};
-ghost use Rattle.cap_txn.specs.declared.look.Answer.{Answer};
-ghost use Rattle.cap_txn.specs.declared.look.Asked.{Asked};
+ghost use Rattle.cap_txn.specs.declared.answered_call.Answer.{Answer};
+ghost use Rattle.cap_txn.specs.declared.answered_call.Asked.{Asked};
 
 use crate::footprint::items_at;
-use crate::once::{Once, add_each};
-use crate::seen::Seen;
+use crate::ordered_set::{OrderedSet, add_each};
+use crate::read_set::ReadSet;
 use crate::workspace::{Left, Workspace};
-use crate::{Answer, Asked, Batch, Item, Look, Mark, copy_of_op, transactions_are_traced};
+use crate::{Answer, AnsweredCall, Asked, Batch, Item, Mark, copy_of_op, laws};
 use cap_database::{Op, Snapshot};
 use cap_row::Row;
 use cap_table::{RowRef, Rows};
@@ -26,9 +26,9 @@ use std::marker::Model;
 #[derive(Drop)]
 pub struct Txn<A: AllocHandle> {
     alloc: A,
-    standing: Workspace<A>,
-    seen: Once<Item<A>, A>,
-    trace: Vec<Look<A>, A>,
+    workspace: Workspace<A>,
+    footprint: OrderedSet<Item<A>, A>,
+    trace: Vec<AnsweredCall<A>, A>,
 }
 
 impl<A: AllocHandle> Model for Txn<A> {
@@ -36,11 +36,11 @@ impl<A: AllocHandle> Model for Txn<A> {
 
     ghost Value = { TxnState A };
 
-    ghost view = { λ t. record { standing = t.standing; footprint = t.seen; trace = t.trace.items } };
+    ghost view = { λ t. record { workspace = t.workspace; footprint = t.footprint; trace = t.trace.items } };
 
     ghost invariant = { λ t. IsTraced (record {
-      standing = t.standing;
-      footprint = t.seen;
+      workspace = t.workspace;
+      footprint = t.footprint;
       trace = t.trace.items;
     }) };
 }
@@ -52,28 +52,28 @@ impl<A: AllocHandle> Txn<A> {
     {
         Ok(Txn {
             alloc,
-            standing: Workspace::begin(alloc, snapshot)?,
-            seen: Once::new(alloc),
+            workspace: Workspace::begin(alloc, snapshot)?,
+            footprint: OrderedSet::new(alloc),
             trace: Vec::new(alloc),
         })
     }
 
     /// A law of every transaction: its database is what its operations leave of the snapshot's, its
     /// savepoints' numbers rise, and its footprint and trace are those of its calls. The call does nothing.
-    pub fn stands(&self)
-        ensures standing { IsStanding self.now.standing }
+    pub fn sound_law(&self)
+        ensures sound { IsSound self.now.workspace }
         ensures traced { IsTraced self.now }
     {
-        let _standing = &self.standing;
+        let _workspace = &self.workspace;
     }
 
     /// Makes an operation on what stands. Refused with `TooMany` where `OPS_MAX` operations stand: then the
     /// transaction is as before, without the call. Else as `op_without_limit`.
     pub fn op(&mut self, op: Op<A>) -> Result<(), Fault<Refusal>>
-        ensures { IsAnsweredUnless (refused_push self.old.standing.ops) (λ _. Answer.Done) result
+        ensures { IsAnsweredUnless (refused_push self.old.workspace.ops) (λ _. Answer.Done) result
             (Asked.Op op) self.old self.new }
     {
-        if self.standing.is_full() {
+        if self.workspace.is_full() {
             return Err(Fault::Refused(Refusal::TooMany));
         }
         self.op_without_limit(op)
@@ -86,23 +86,23 @@ impl<A: AllocHandle> Txn<A> {
         ensures { IsAnswered (λ _. Answer.Done) result (Asked.Op op) self.old self.new }
     {
         let call = Asked::Op(copy_of_op(self.alloc, &op)?);
-        let items = items_of(self.alloc, &self.standing, &call)?;
-        let len = self.seen.len();
+        let items = items_of(self.alloc, &self.workspace, &call)?;
+        let len = self.footprint.len();
         self.trace.reserve(1)?;
-        add_each(&mut self.seen, items)?;
-        match self.standing.op(op) {
+        add_each(&mut self.footprint, items)?;
+        match self.workspace.op(op) {
             Ok(()) => {
                 let answer = Answer::Done;
-                self.trace.push_reserved(Look { call, answer });
+                self.trace.push_reserved(AnsweredCall { call, answer });
                 Ok(())
             }
             Err(Fault::Refused(why)) => {
                 let answer = Answer::Refused(why);
-                self.trace.push_reserved(Look { call, answer });
+                self.trace.push_reserved(AnsweredCall { call, answer });
                 Err(Fault::Refused(why))
             }
             Err(Fault::OutOfMemory) => {
-                self.seen.truncate(len);
+                self.footprint.truncate(len);
                 Err(Fault::OutOfMemory)
             }
         }
@@ -117,14 +117,14 @@ impl<A: AllocHandle> Txn<A> {
         row: &RowRef<A>,
     ) -> Result<Option<Row<A>>, Fault<Refusal>>
         ensures answered { IsAnswered Answer.Row result (Asked.Get table.now row.now) self.old self.new }
-        ensures standing { ReadsStanding self.old (λ tables. read tables table.now row.now) result }
+        ensures own_writes { ReadsOwnWrites self.old (λ tables. read tables table.now row.now) result }
     {
         let call = Asked::Get(table.copy()?, row.copy()?);
-        let items = items_of(self.alloc, &self.standing, &call)?;
-        let found = self.standing.get(table, row)?;
+        let items = items_of(self.alloc, &self.workspace, &call)?;
+        let found = self.workspace.get(table, row)?;
         let answer = answer_of_row(&found)?;
-        let look = Look { call, answer };
-        let Ok(()) = keep(&mut self.seen, &mut self.trace, items, look) else {
+        let last = AnsweredCall { call, answer };
+        let Ok(()) = keep(&mut self.footprint, &mut self.trace, items, last) else {
             return Err(Fault::OutOfMemory);
         };
         handed_on(found)
@@ -136,14 +136,14 @@ impl<A: AllocHandle> Txn<A> {
     /// transaction is as before.
     pub fn scan(&mut self, table: &Name<A>) -> Result<Rows<A>, Fault<Refusal>>
         ensures answered { IsAnswered Answer.Rows result (Asked.Scan table.now) self.old self.new }
-        ensures standing { ReadsStanding self.old (λ tables. rows_of tables table.now) result }
+        ensures own_writes { ReadsOwnWrites self.old (λ tables. rows_of tables table.now) result }
     {
         let call = Asked::Scan(table.copy()?);
-        let items = items_of(self.alloc, &self.standing, &call)?;
-        let found = self.standing.scan(table)?;
+        let items = items_of(self.alloc, &self.workspace, &call)?;
+        let found = self.workspace.scan(table)?;
         let answer = answer_of_rows(&found)?;
-        let look = Look { call, answer };
-        let Ok(()) = keep(&mut self.seen, &mut self.trace, items, look) else {
+        let last = AnsweredCall { call, answer };
+        let Ok(()) = keep(&mut self.footprint, &mut self.trace, items, last) else {
             return Err(Fault::OutOfMemory);
         };
         handed_on(found)
@@ -154,19 +154,19 @@ impl<A: AllocHandle> Txn<A> {
     /// refused. When out of memory, the transaction is as before.
     pub fn savepoint(&mut self) -> Result<Mark, Fault<Refusal>>
         ensures answered { IsAnswered Answer.Mark result Asked.Savepoint self.old self.new }
-        ensures once { IfOk result (IsNewMark self.old) }
+        ensures new_mark { IfOk result (IsNewMark self.old) }
     {
         self.trace.reserve(1)?;
         let call = Asked::Savepoint;
-        match self.standing.savepoint() {
+        match self.workspace.savepoint() {
             Ok(mark) => {
                 let answer = Answer::Mark(mark);
-                self.trace.push_reserved(Look { call, answer });
+                self.trace.push_reserved(AnsweredCall { call, answer });
                 Ok(mark)
             }
             Err(Fault::Refused(why)) => {
                 let answer = Answer::Refused(why);
-                self.trace.push_reserved(Look { call, answer });
+                self.trace.push_reserved(AnsweredCall { call, answer });
                 Err(Fault::Refused(why))
             }
             Err(Fault::OutOfMemory) => Err(Fault::OutOfMemory),
@@ -182,15 +182,15 @@ impl<A: AllocHandle> Txn<A> {
     {
         self.trace.reserve(1)?;
         let call = Asked::BackTo(mark);
-        match self.standing.back_to(mark) {
+        match self.workspace.back_to(mark) {
             Ok(()) => {
                 let answer = Answer::Done;
-                self.trace.push_reserved(Look { call, answer });
+                self.trace.push_reserved(AnsweredCall { call, answer });
                 Ok(())
             }
             Err(Fault::Refused(why)) => {
                 let answer = Answer::Refused(why);
-                self.trace.push_reserved(Look { call, answer });
+                self.trace.push_reserved(AnsweredCall { call, answer });
                 Err(Fault::Refused(why))
             }
             Err(Fault::OutOfMemory) => Err(Fault::OutOfMemory),
@@ -201,8 +201,8 @@ impl<A: AllocHandle> Txn<A> {
     pub fn rollback(self) {
         let Txn {
             alloc: _,
-            standing: _,
-            seen: _,
+            workspace: _,
+            footprint: _,
             trace: _,
         } = self;
     }
@@ -212,21 +212,21 @@ impl<A: AllocHandle> Txn<A> {
     pub fn into_batch(self) -> Batch<A>
         ensures { result ≡ batch_of self }
     {
-        transactions_are_traced::<A>();
+        laws::transactions_are_traced::<A>();
         let Txn {
             alloc: _,
-            standing,
-            seen,
+            workspace,
+            footprint,
             trace,
         } = self;
-        let Left { base, ops } = standing.into_left();
-        base.database().rows_stand();
+        let Left { base, ops } = workspace.into_left();
+        base.database().sound_rows_law();
         let version = base.version();
-        let footprint = seen.into_items();
+        let footprint = footprint.into_items();
         Batch::of_ops(
             version,
             ops,
-            Seen {
+            ReadSet {
                 base,
                 footprint,
                 trace,
@@ -238,11 +238,11 @@ impl<A: AllocHandle> Txn<A> {
     pub fn footprint(&self) -> &[Item<A>]
         ensures { result.now ≡ self.now.footprint }
     {
-        self.seen.items()
+        self.footprint.items()
     }
 
     /// The calls that were answered, in order, with their answers.
-    pub fn trace(&self) -> &[Look<A>]
+    pub fn trace(&self) -> &[AnsweredCall<A>]
         ensures { result.now ≡ self.now.trace }
     {
         self.trace.as_slice()
@@ -251,30 +251,30 @@ impl<A: AllocHandle> Txn<A> {
 
 // Puts what a call looked at, and the call, last. When out of memory, both are as before.
 fn keep<A: AllocHandle>(
-    seen: &mut Once<Item<A>, A>,
-    trace: &mut Vec<Look<A>, A>,
+    footprint: &mut OrderedSet<Item<A>, A>,
+    trace: &mut Vec<AnsweredCall<A>, A>,
     items: Vec<Item<A>, A>,
-    look: Look<A>,
+    last: AnsweredCall<A>,
 ) -> Result<(), OutOfMemory>
-    ensures seen { OnOk result (seen.new ≡ with_items seen.old items.items) }
-    ensures trace { OnOk result (trace.new.items ≡ trace.old.items ++ look ∷ []) }
-    ensures kept { OnErr result ((seen.new ≡ seen.old) × (trace.new.items ≡ trace.old.items)) }
+    ensures footprint { OnOk result (footprint.new ≡ with_items footprint.old items.items) }
+    ensures trace { OnOk result (trace.new.items ≡ trace.old.items ++ last ∷ []) }
+    ensures kept { OnErr result ((footprint.new ≡ footprint.old) × (trace.new.items ≡ trace.old.items)) }
 {
     trace.reserve(1)?;
-    add_each(seen, items)?;
-    trace.push_reserved(look);
+    add_each(footprint, items)?;
+    trace.push_reserved(last);
     Ok(())
 }
 
 // What a call looks at.
 fn items_of<A: AllocHandle>(
     alloc: A,
-    standing: &Workspace<A>,
+    workspace: &Workspace<A>,
     call: &Asked<A>,
 ) -> Result<Vec<Item<A>, A>, OutOfMemory>
-    ensures { IfOk result (λ items. items.items ≡ items_of standing.now call.now) }
+    ensures { IfOk result (λ items. items.items ≡ items_of workspace.now call.now) }
 {
-    items_at(alloc, standing.database(), call)
+    items_at(alloc, workspace.database(), call)
 }
 
 fn handed_on<T>(found: Result<T, Refusal>) -> Result<T, Fault<Refusal>>

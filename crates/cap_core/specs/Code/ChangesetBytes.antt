@@ -12,6 +12,6 @@ header_unless false header = header
 
 module _ {A : Type 0} where
   -- the bytes of the changes that follow, after the header unless it is written already
-  abbrev pub behind : Bool → List ℕ → List (RowChange A) → List ℕ
-  behind true header changes = flat_map change_bytes changes
-  behind false header changes = changes_under change_bytes header changes
+  abbrev pub remaining_bytes : Bool → List ℕ → List (RowChange A) → List ℕ
+  remaining_bytes true header changes = flat_map change_bytes changes
+  remaining_bytes false header changes = changes_under change_bytes header changes

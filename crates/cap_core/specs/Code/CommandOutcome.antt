@@ -3,8 +3,8 @@ use Rattle.std.specs.Prelude.{◌≡◌, ◌+◌, Option, Some, Result, Ok, Err,
 use Rattle.std.specs.Option.{option_map}
 use Rattle.cap_value.specs.Memory.{MatchFault}
 use Rattle.cap_value.specs.declared.memory.Fault.{Fault}
-use Rattle.cap_table.specs.NotMade.{MatchNotMade}
-use Rattle.cap_table.specs.declared.not_made.NotMade.{NotMade}
+use Rattle.cap_table.specs.ChangeFault.{MatchChangeFault}
+use Rattle.cap_table.specs.declared.change_fault.ChangeFault.{ChangeFault}
 use Rattle.cap_database.specs.Operation.{changes, step}
 use Rattle.cap_database.specs.Tables.{Tables}
 use Rattle.cap_database.specs.declared.op.Op.{Op}
@@ -26,13 +26,13 @@ module _ {A S E : Type 0} (gives : S → Reply A → Result Unit E → S → Typ
       (new ≡ old) × MatchFault fault (after ≡ before) (λ why. gives before reply (Err why) after)
 
   -- The same of one operation in place.
-  abbrev pub ReportsStep : Op A → State A → State A → S → S → Result (Reply A) (NotMade E) → Type 0
+  abbrev pub ReportsStep : Op A → State A → State A → S → S → Result (Reply A) (ChangeFault E) → Type 0
   ReportsStep op old new before after (Ok answered) =
       (answered ≡ Written (old.version + 1)) × gives before (Written (old.version + 1)) (Ok tt) after
       × ((left : Tables A) × (step old.main op ≡ Ok left)
       × (new ≡ written old left (changes old.main op) []))
   ReportsStep op old new before after (Err fault) =
-      (new ≡ old) × MatchNotMade fault (λ why. (step old.main op ≡ Err why) × (after ≡ before))
+      (new ≡ old) × MatchChangeFault fault (λ why. (step old.main op ≡ Err why) × (after ≡ before))
       (after ≡ before)
       (λ why. IsOk (step old.main op) × gives before (Written (old.version + 1)) (Err why) after)
 

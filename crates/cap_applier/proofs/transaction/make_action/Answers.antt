@@ -1,7 +1,7 @@
 use Rattle.std.proofs.Common.{Some, List, ℕ, subst}
 use Rattle.cap_value.specs.Memory.{LeavesUnlessMemory}
 use Rattle.cap_database.specs.declared.cause.Cause.TheVariants.{Direct}
-use Rattle.cap_txn.specs.declared.look.Asked.TheVariants.{Op}
+use Rattle.cap_txn.specs.declared.answered_call.Asked.TheVariants.{Op}
 use Rattle.cap_applier.specs.Transaction.{made_in}
 use Rattle.cap_applier.proofs.LedLemmas.{made-answered}
 use Rattle.cap_applier.proofs.transaction.make_action.Goals as goal

@@ -1,4 +1,4 @@
-use Rattle.cap_apply.proofs.DifferenceLemmas.{patches_give}
+use Rattle.cap_apply_laws.proofs.GivenLemmas.{patches_give}
 use Rattle.cap_apply_laws.proofs.laws.patches_give_the_rows_now.Goals as goal
 
 pub returns : goal.returns

@@ -3,7 +3,7 @@ use Rattle.cap_session.specs.Records.{Records}
 use Rattle.cap_session.specs.Session.{AttachedTables}
 use Rattle.cap_database.specs.Tables.{schema_of, table_of}
 use Rattle.cap_core.specs.Capture.{changes_of, table_changes}
-use Rattle.cap_core.specs.CanCapture.{records_stand, tables_stand}
+use Rattle.cap_core.specs.CanCapture.{are_own_records, are_own_tables}
 use Rattle.cap_core.proofs.GroupLemmas.{filter_map-more}
 use Rattle.cap_core.proofs.SmallLemmas.{second}
 use Rattle.cap_core.proofs.capture.changes_of.Goals as goal
@@ -20,5 +20,5 @@ loop-name-preserved g c =
       tt,
       filter_map-more (λ (table : List ℕ × Records g.row.A.Denot). table_changes table (table_of main table.0)) c.loop-name.list c.in_ok-list.list rest (name, records) c.in_ok-group.group c.in_ok-list.ensures made
           ∙ ap (λ (tables : AttachedTables g.row.A.Denot). c.loop-name.list ++ changes_of main tables) first ∙ c.loop-name.invariant.2,
-      second (records_stand (schema_of main name) records) (tables_stand main rest) (ap (tables_stand main) first ∙ c.loop-name.invariant.3),
+      second (are_own_records (schema_of main name) records) (are_own_tables main rest) (ap (are_own_tables main) first ∙ c.loop-name.invariant.3),
     )

@@ -14,6 +14,6 @@ returns g c =
       keeps = on;
       commit = λ lines app txn is made fits.
           let h = (after_lines begin_course lines).history in
-          commits h txn (committed_on traced.call traced.begin h app txn (on lines app is) made) fits c.rows_stand_under_own_keys.ensures.rising c.fitting_histories_grow.ensures.begins traced.batch
+          commits h txn (committed_on traced.call traced.begin h app txn (on lines app is) made) fits c.rows_are_under_own_keys.ensures.rising c.fitting_histories_grow.ensures.begins traced.batch
           c.transactions_commit_if_unchanged.ensures (c.legal_histories_grow.ensures.reply h (Commit (batch_of txn)));
     }

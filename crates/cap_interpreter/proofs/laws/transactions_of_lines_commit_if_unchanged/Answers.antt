@@ -13,6 +13,6 @@ returns g c =
       base = on;
       commit = λ lines txn is fits.
           let h = (after_lines begin_course lines).history in
-          commits h txn (on lines txn is) fits c.rows_stand_under_own_keys.ensures.rising c.fitting_histories_grow.ensures.begins traced.batch
+          commits h txn (on lines txn is) fits c.rows_are_under_own_keys.ensures.rising c.fitting_histories_grow.ensures.begins traced.batch
           c.transactions_commit_if_unchanged.ensures (c.legal_histories_grow.ensures.reply h (Commit (batch_of txn)));
     }

@@ -1,6 +1,6 @@
 use Rattle.std.proofs.Common.{ap}
 use Rattle.std.specs.Prelude.{string_bytes}
-use Rattle.cap_txn.specs.declared.look.Asked.TheVariants as asked
+use Rattle.cap_txn.specs.declared.answered_call.Asked.TheVariants as asked
 use Rattle.cap_script.specs.declared.line.Show.{Show}
 use Rattle.cap_interpreter.specs.Lines.{deed_within}
 use Rattle.cap_interpreter.proofs.LineLemmas.{ran_call, serves_within}

@@ -10,7 +10,7 @@ pub loop-alloc-init : goal.loop-alloc-init
 loop-alloc-init g c = (
   first_in_batch c.args.empty.base c.push.new.batch c.in_ok-operation.field-0 c.args.cursor.now.rest.now c.operation.new.cursor.rest.now c.in_ok-operation.ensures.reads
       (c.in_ok-push.ensures.ops ∙ ap (λ (ops : List (Op g.row.A.Denot)). ops ++ c.in_ok-operation.field-0 ∷ []) c.requires.0) c.in_ok-push.ensures.base,
-  c.in_ok-push.ensures.seen,
+  c.in_ok-push.ensures.reads,
   c.in_ok-push.ensures.base,
 )
 
@@ -24,7 +24,7 @@ loop-alloc-preserved g c = (
   c.loop-alloc.invariant.0
       ∙ next_in_batch c.loop-alloc.made c.push-in-loop-alloc.new.batch c.in_ok-operation-2.field-0 c.loop-alloc.cursor.rest.now c.takes_sign.new.self.rest.now c.operation-in-loop-alloc.new.cursor.rest.now (c.takes_sign.ensures.there c.loop-alloc-test.true)
       (by_room c.loop-alloc.made c.takes_sign.new.self.rest.now c.is_full-is_full.result (λ r. r ≡ Ok (c.in_ok-operation-2.field-0, c.operation-in-loop-alloc.new.cursor.rest.now)) c.is_full-is_full.ensures c.in_ok-operation-2.ensures.reads) c.in_ok-push-2.ensures.ops c.in_ok-push-2.ensures.base,
-  c.in_ok-push-2.ensures.seen,
+  c.in_ok-push-2.ensures.reads,
   c.in_ok-push-2.ensures.base ∙ c.loop-alloc.invariant.2,
 )
 

@@ -7,7 +7,7 @@ use Rattle.cap_script.proofs.operation.batch.Given as goal
 abbrev pub invariant-loop-alloc : goal.invariant-loop-alloc
 invariant-loop-alloc g l =
     (read (batch l.fn.empty.base) l.fn.cursor.rest.now ≡ batch_so_far l.made l.cursor.rest.now)
-    × (l.made.seen ≡ None) × (l.made.base ≡ l.fn.empty.base)
+    × (l.made.reads ≡ None) × (l.made.base ≡ l.fn.empty.base)
 
 abbrev pub decreases-loop-alloc : goal.decreases-loop-alloc
 decreases-loop-alloc g l = length l.cursor.rest.now

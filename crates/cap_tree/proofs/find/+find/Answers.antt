@@ -1,6 +1,6 @@
 use Rattle.std.proofs.Common.{◌<◌, arith, refl, ap, rules}
 use Rattle.cap_tree.specs.Tree.{IsOrdered}
-use Rattle.cap_tree.proofs.WayLemmas.{child_ordered, child_and_behind, get_child}
+use Rattle.cap_tree.proofs.WayLemmas.{child_ordered, child_and_rest, get_child}
 use Rattle.cap_tree.proofs.find.+find.Goals as goal
 
 pub child_for-requires : goal.child_for-requires
@@ -15,7 +15,7 @@ find-requires g t c =
     let there = rw c.as_slice-in-Inner.ensures.value at (c.child_for.ensures c.in-Inner.field-0 (rw c.as_slice-in-Inner.ensures.value n.children)) in
     let child = c.deref.result.now in
     let ordered : IsOrdered g.K.Ord.cmp child.entries = rw c.deref.ensures (child_ordered g.K.Ord.cmp c.in-Inner.children.items _ _ _ there (rw (ap (λ n. n.entries) view) c.requires)) in
-    let shape = child_and_behind g.K.Ord.cmp c.in-Inner.children.items _ _ _ there _ n.children in
+    let shape = child_and_rest g.K.Ord.cmp c.in-Inner.children.items _ _ _ there _ n.children in
     let level : child.height < c.args.node.now.height = rw c.deref.ensures (omega (arith, shape.0.0, ap (λ n. n.height) view)) in
     λ κs h. search rules
 

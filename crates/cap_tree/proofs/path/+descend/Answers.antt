@@ -14,7 +14,7 @@ push-requires g t c =
     let view = rw c.in-Inner.is at c.node.view_is in
     let is = rw c.as_slice-in-Inner.ensures.value at c.in-Some.ensures.cases.0 in
     let fits : length c.args.path.now.items + c.in-Inner.field-0 ≤ 32 = omega (arith, c.requires.fits, ap (λ n. n.height) view) in
-    (lit< tt, down_room g.K.Ord.cmp c.in-Inner.field-0 c.in-Inner.children.items 0 c.in-Some.child.now c.in-Some.behind is n.children c.args.path.now.items fits)
+    (lit< tt, down_room g.K.Ord.cmp c.in-Inner.field-0 c.in-Inner.children.items 0 c.in-Some.child.now c.in-Some.rest is n.children c.args.path.now.items fits)
 
 pub descend-requires : goal.descend-requires
 descend-requires g t c =
@@ -23,16 +23,16 @@ descend-requires g t c =
     let is = rw c.as_slice-in-Inner.ensures.value at c.in-Some.ensures.cases.0 in
     let fits : length c.args.path.now.items + c.in-Inner.field-0 ≤ 32 = omega (arith, c.requires.fits, ap (λ n. n.height) view) in
     let size : 520 < 9223372036854775808 = lit< tt in
-    let path : IsPath 32 c.push.new.self.items = rw c.push.ensures.items (down_path g.K.Ord.cmp c.in-Inner.field-0 c.in-Inner.children.items 0 c.in-Some.child.now c.in-Some.behind is n.children c.args.path.now.items fits c.requires.path) in
-    let room : length c.push.new.self.items + c.deref.result.now.height ≤ 32 = rw (c.push.ensures.items, c.deref.ensures) (down_fits g.K.Ord.cmp c.in-Inner.field-0 c.in-Inner.children.items 0 c.in-Some.child.now c.in-Some.behind is n.children c.args.path.now.items fits) in
-    let level : c.deref.result.now.height < c.args.node.now.height = rw (c.deref.ensures, ← ap (λ n. n.height) view) (down_lower g.K.Ord.cmp c.in-Inner.field-0 c.in-Inner.children.items 0 c.in-Some.child.now c.in-Some.behind is n.children c.args.path.now.items fits) in
+    let path : IsPath 32 c.push.new.self.items = rw c.push.ensures.items (down_path g.K.Ord.cmp c.in-Inner.field-0 c.in-Inner.children.items 0 c.in-Some.child.now c.in-Some.rest is n.children c.args.path.now.items fits c.requires.path) in
+    let room : length c.push.new.self.items + c.deref.result.now.height ≤ 32 = rw (c.push.ensures.items, c.deref.ensures) (down_fits g.K.Ord.cmp c.in-Inner.field-0 c.in-Inner.children.items 0 c.in-Some.child.now c.in-Some.rest is n.children c.args.path.now.items fits) in
+    let level : c.deref.result.now.height < c.args.node.now.height = rw (c.deref.ensures, ← ap (λ n. n.height) view) (down_lower g.K.Ord.cmp c.in-Inner.field-0 c.in-Inner.children.items 0 c.in-Some.child.now c.in-Some.rest is n.children c.args.path.now.items fits) in
     λ κs h. search rules
 
 pub returns-in-Inner-clause-pending : goal.returns-in-Inner-clause-pending
 returns-in-Inner-clause-pending g t c =
     let view = rw c.in-Inner.is at c.node.view_is in
     let is = rw c.as_slice-in-Inner.ensures.value at c.in-Some.ensures.cases.0 in
-    rw (← ap (λ n. n.entries) view) (c.descend.ensures.pending ∙ rw (c.push.ensures.items, c.deref.ensures) (down_first c.in-Inner.children.items c.in-Some.child.now c.in-Some.behind is c.args.path.now.items))
+    rw (← ap (λ n. n.entries) view) (c.descend.ensures.pending ∙ rw (c.push.ensures.items, c.deref.ensures) (down_first c.in-Inner.children.items c.in-Some.child.now c.in-Some.rest is c.args.path.now.items))
 
 pub returns-in-Inner-clause-some : goal.returns-in-Inner-clause-some
 returns-in-Inner-clause-some g t c =
@@ -40,4 +40,4 @@ returns-in-Inner-clause-some g t c =
     let view = rw c.in-Inner.is at c.node.view_is in
     let is = rw c.as_slice-in-Inner.ensures.value at c.in-Some.ensures.cases.0 in
     let fits : length c.args.path.now.items + c.in-Inner.field-0 ≤ 32 = omega (arith, c.requires.fits, ap (λ n. n.height) view) in
-    λ _. down_some g.K.Ord.cmp c.in-Inner.field-0 c.in-Inner.children.items 0 c.in-Some.child.now c.in-Some.behind is n.children c.args.path.now.items fits c.descend.result.now (rw c.deref.ensures at c.descend.ensures.some)
+    λ _. down_some g.K.Ord.cmp c.in-Inner.field-0 c.in-Inner.children.items 0 c.in-Some.child.now c.in-Some.rest is n.children c.args.path.now.items fits c.descend.result.now (rw c.deref.ensures at c.descend.ensures.some)

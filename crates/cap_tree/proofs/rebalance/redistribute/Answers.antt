@@ -80,7 +80,7 @@ overflow_sub-count g c =
     let ys = c.rename_first.new.children.items in
     let all = joined g.K.Ord.cmp g.met.K.Ord.total c.in-Inner.height _ _ c.args.least.now c.in-Inner.children c.in-Inner-link-2.others.items ys nf nb.count first.same first.leasts (rw (ap (λ n. n.entries) front) c.requires.pair.below) in
     let e = c.in_ok-next-in-Inner-link-2.ensures in
-    omega (arith, all.count, inner_count g.K.Ord.cmp g.met.K.Ord.total c.in-Inner.height (xs ++ ys) c.args.at, rw e.back at e.behind)
+    omega (arith, all.count, inner_count g.K.Ord.cmp g.met.K.Ord.total c.in-Inner.height (xs ++ ys) c.args.at, rw e.back at e.back_count)
 
 pub invariant_of-front-in-Inner-link-2 : goal.invariant_of-front-in-Inner-link-2
 invariant_of-front-in-Inner-link-2 g c =
@@ -92,7 +92,7 @@ invariant_of-front-in-Inner-link-2 g c =
     let ys = c.rename_first.new.children.items in
     let all = joined g.K.Ord.cmp g.met.K.Ord.total c.in-Inner.height _ _ c.args.least.now c.in-Inner.children c.in-Inner-link-2.others.items ys nf nb.count first.same first.leasts (rw (ap (λ n. n.entries) front) c.requires.pair.below) in
     let e = c.in_ok-next-in-Inner-link-2.ensures in
-    inner_front g.K.Ord.cmp g.met.K.Ord.total c.in-Inner.height (xs ++ ys) c.args.at all.children all.fit _ _ all.count (rw e.back at e.behind) c.cut_children.new.front e.front e.front_len c.requires.share.some c.requires.share.most
+    inner_front g.K.Ord.cmp g.met.K.Ord.total c.in-Inner.height (xs ++ ys) c.args.at all.children all.fit _ _ all.count (rw e.back at e.back_count) c.cut_children.new.front e.front e.front_len c.requires.share.some c.requires.share.most
 
 pub invariant_of-back-in-Inner-link-2 : goal.invariant_of-back-in-Inner-link-2
 invariant_of-back-in-Inner-link-2 g c =
@@ -109,7 +109,7 @@ invariant_of-back-in-Inner-link-2 g c =
     let left = c.cut_children.new.back in
     let some : 0 < vec_len left = omega (arith, e.back_len, first.len, ap (λ n. n.items) front, ap (λ n. n.items) back, c.requires.share.within) in
     let most : vec_len left ≤ 16 = omega (arith, e.back_len, first.len, ap (λ n. n.items) front, ap (λ n. n.items) back, c.requires.share.back_most) in
-    subst (λ h. IsInner g.K.Ord.cmp h c.in_ok-next-in-Inner-link-2.behind left) level (inner_back g.K.Ord.cmp g.met.K.Ord.total c.in-Inner.height (xs ++ ys) c.args.at all.children all.fit _ _ all.count (rw e.back at e.behind) left e.back some most)
+    subst (λ h. IsInner g.K.Ord.cmp h c.in_ok-next-in-Inner-link-2.back_count left) level (inner_back g.K.Ord.cmp g.met.K.Ord.total c.in-Inner.height (xs ++ ys) c.args.at all.children all.fit _ _ all.count (rw e.back at e.back_count) left e.back some most)
 
 pub returns-in-Inner-link-2-clause-cut : goal.returns-in-Inner-link-2-clause-cut
 returns-in-Inner-link-2-clause-cut g c =

@@ -5,15 +5,15 @@ use Rattle.cap_tree.proofs.rebalance.redistribute_pair.Goals as goal
 pub redistribute-requires : goal.redistribute-requires
 redistribute-requires g c =
     let front = either_way c.in_ok-node.ensures.value in
-    let back = either_way c.in_ok-behind.ensures.value in
+    let back = either_way c.in_ok-next.ensures.value in
     rw (front, back) (record { pair = c.requires.pair; share = c.requires.share })
 
 pub returns : goal.returns
 returns g c =
     let front = either_way c.in_ok-node.ensures.value in
-    let back = either_way c.in_ok-behind.ensures.value in
+    let back = either_way c.in_ok-next.ensures.value in
     let kept = c.make_mut.follows.holds c.redistribute.new.front (rw c.in_ok-node.was refl) in
-    let kept_back = c.make_mut-2.follows.holds c.redistribute.new.back (rw c.in_ok-behind.was refl) in
+    let kept_back = c.make_mut-2.follows.holds c.redistribute.new.back (rw c.in_ok-next.was refl) in
     record {
       least = refl;
       back_least = tt;

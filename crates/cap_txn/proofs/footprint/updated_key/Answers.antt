@@ -9,5 +9,5 @@ pub returns-then-keeps_key : goal.returns-then-keeps_key
 returns-then-keeps_key g c =
     let table = c.args.table.now in
     let keeps : keeps_key table.schema c.args.fields.now ≡ true = ap (keeps_key table.schema) (sym c.fields.ensures) ∙ sym c.keeps_key.ensures ∙ c.if-keeps_key.true in
-    subst (λ (k : Option (Fields g.row.A.Denot)). IfOk c.key_in_name.result (λ key. key ≡ k)) (kept_key table c.args.row.now c.args.fields.now c.args.old.now c.keyed-rows.ensures.stand c.requires.found keeps)
+    subst (λ (k : Option (Fields g.row.A.Denot)). IfOk c.key_in_name.result (λ key. key ≡ k)) (kept_key table c.args.row.now c.args.fields.now c.args.old.now c.keyed-rows.ensures.sound c.requires.found keeps)
     c.key_in_name.ensures

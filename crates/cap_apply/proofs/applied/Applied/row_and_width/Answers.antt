@@ -12,6 +12,6 @@ returns-in_ok-copy-in-Some-get-clause-width g c = λ t is.
     let found = c.in-Some.found.now in
     let there : Some found ≡ table_of c.args.self.now.database c.args.table.now = rw c.database.ensures at c.in-Some.ensures in
     let got = rw c.keyed.ensures.rows at c.in-Some-get.ensures in
-    let wide = (own-row found c.args.key.now c.in-Some-get.row.now c.keyed.ensures.stand (sym got)).0 in
+    let wide = (own-row found c.args.key.now c.in-Some-get.row.now c.keyed.ensures.sound (sym got)).0 in
     subst (λ (s : TableState g.row.A.Denot). (c.width-width.result ≡ length s.schema) × (length c.in_ok-copy-in-Some-get.field-0 ≡ length s.schema)) (one_table _ found t (sym there) is)
     (rw c.schema.ensures at c.width-width.ensures.columns, ap length c.in_ok-copy-in-Some-get.ensures ∙ wide)

@@ -1,6 +1,5 @@
 use Rattle.std.proofs.Common.{◌∙◌}
-use Rattle.cap_codec.proofs.Looking.{err_lasts}
-use Rattle.cap_codec.proofs.LookingSteps.{looked_fault, looked_place}
+use Rattle.cap_codec.proofs.Looking.{err_lasts, looked_fault, looked_place}
 use Rattle.cap_codec.proofs.decoder.Decoder.feed.Goals as goal
 
 pub returns-in-Some-clause-answers : goal.returns-in-Some-clause-answers

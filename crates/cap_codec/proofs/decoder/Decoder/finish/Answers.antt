@@ -1,4 +1,4 @@
-use Rattle.cap_codec.proofs.LookingSteps.{looked_fault}
+use Rattle.cap_codec.proofs.Looking.{looked_fault}
 use Rattle.cap_codec.proofs.SpelledBlob.{none_lasts}
 use Rattle.cap_codec.proofs.decoder.Decoder.finish.Goals as goal
 

@@ -22,12 +22,12 @@ returns-in-Leaf-clause-cut g c =
     let old = c.in-Leaf.entries.items in
     let whole : old ++ c.in_ok-moved-in-Leaf.moved.items ≡ old = rw c.in_ok-moved-in-Leaf.ensures.items (append-nil old) in
     let within : _ < length old = omega (arith, c.in-Leaf.entries.ok.0, ap (λ n. n.items) view, c.requires.back) in
-    let behind : vec_len c.cut_items.new.back + c.args.at ≡ vec_len c.in-Leaf.entries = omega (arith, e.back_len, c.in_ok-moved-in-Leaf.ensures.len) in
+    let back_count : vec_len c.cut_items.new.back + c.args.at ≡ vec_len c.in-Leaf.entries = omega (arith, e.back_len, c.in_ok-moved-in-Leaf.ensures.len) in
     let key = rw whole at e.key in
-    rw (← view) (leaf_cut g.K.Ord.cmp g.met.K.Ord.total c.args.at _ old c.cut_items.new.front c.cut_items.new.back key.0 c.in_ok-least-in-Leaf.least within key.1.0 key.1.1 (rw (ap (λ n. n.entries) view) c.requires.ordered) (rw whole at e.front) (rw whole at e.back) e.front_len behind)
+    rw (← view) (leaf_cut g.K.Ord.cmp g.met.K.Ord.total c.args.at _ old c.cut_items.new.front c.cut_items.new.back key.0 c.in_ok-least-in-Leaf.least within key.1.0 key.1.1 (rw (ap (λ n. n.entries) view) c.requires.ordered) (rw whole at e.front) (rw whole at e.back) e.front_len back_count)
 
-pub count_of-behind-requires : goal.count_of-behind-requires
-count_of-behind-requires g c =
+pub count_of-back_count-requires : goal.count_of-back_count-requires
+count_of-back_count-requires g c =
     let n = rw c.in-Inner.is at c.self.invariant in
     let range = rw c.in-Inner.is at c.self.ranges in
     let e = c.in_ok-least-in-Inner.ensures in
@@ -42,8 +42,8 @@ overflow_sub-count g c =
     let e = c.in_ok-least-in-Inner.ensures in
     let old = c.in-Inner.children.items in
     let whole : old ++ c.in_ok-moved-in-Inner.moved.items ≡ old = rw c.in_ok-moved-in-Inner.ensures.items (append-nil old) in
-    let behind = rw (c.as_slice.ensures.value, e.back, whole) at c.count_of-behind.ensures in
-    omega (arith, n.count, behind, inner_count g.K.Ord.cmp g.met.K.Ord.total c.in-Inner.height old c.args.at)
+    let back_count = rw (c.as_slice.ensures.value, e.back, whole) at c.count_of-back_count.ensures in
+    omega (arith, n.count, back_count, inner_count g.K.Ord.cmp g.met.K.Ord.total c.in-Inner.height old c.args.at)
 
 pub invariant_of-self-in-Inner : goal.invariant_of-self-in-Inner
 invariant_of-self-in-Inner g c =
@@ -52,8 +52,8 @@ invariant_of-self-in-Inner g c =
     let e = c.in_ok-least-in-Inner.ensures in
     let old = c.in-Inner.children.items in
     let whole : old ++ c.in_ok-moved-in-Inner.moved.items ≡ old = rw c.in_ok-moved-in-Inner.ensures.items (append-nil old) in
-    let behind = rw (c.as_slice.ensures.value, e.back, whole) at c.count_of-behind.ensures in
-    inner_front g.K.Ord.cmp g.met.K.Ord.total c.in-Inner.height old c.args.at n.children n.fit _ _ n.count behind c.cut_items-in-Inner.new.front (rw whole at e.front) e.front_len c.requires.front (omega (arith, c.requires.back, ap (λ n. n.items) view, n.most))
+    let back_count = rw (c.as_slice.ensures.value, e.back, whole) at c.count_of-back_count.ensures in
+    inner_front g.K.Ord.cmp g.met.K.Ord.total c.in-Inner.height old c.args.at n.children n.fit _ _ n.count back_count c.cut_items-in-Inner.new.front (rw whole at e.front) e.front_len c.requires.front (omega (arith, c.requires.back, ap (λ n. n.items) view, n.most))
 
 pub invariant_of-rest : goal.invariant_of-rest
 invariant_of-rest g c =
@@ -62,11 +62,11 @@ invariant_of-rest g c =
     let e = c.in_ok-least-in-Inner.ensures in
     let old = c.in-Inner.children.items in
     let whole : old ++ c.in_ok-moved-in-Inner.moved.items ≡ old = rw c.in_ok-moved-in-Inner.ensures.items (append-nil old) in
-    let behind = rw (c.as_slice.ensures.value, e.back, whole) at c.count_of-behind.ensures in
+    let back_count = rw (c.as_slice.ensures.value, e.back, whole) at c.count_of-back_count.ensures in
     let left = c.cut_items-in-Inner.new.back in
     let some : 0 < vec_len left = omega (arith, e.back_len, c.requires.back, ap (λ n. n.items) view, c.in_ok-moved-in-Inner.ensures.len) in
     let most : vec_len left ≤ 16 = omega (arith, e.back_len, n.most, c.in_ok-moved-in-Inner.ensures.len) in
-    inner_back g.K.Ord.cmp g.met.K.Ord.total c.in-Inner.height old c.args.at n.children n.fit _ _ n.count behind left (rw whole at e.back) some most
+    inner_back g.K.Ord.cmp g.met.K.Ord.total c.in-Inner.height old c.args.at n.children n.fit _ _ n.count back_count left (rw whole at e.back) some most
 
 pub returns-in-Inner-clause-cut : goal.returns-in-Inner-clause-cut
 returns-in-Inner-clause-cut g c =
@@ -76,6 +76,6 @@ returns-in-Inner-clause-cut g c =
     let old = c.in-Inner.children.items in
     let whole : old ++ c.in_ok-moved-in-Inner.moved.items ≡ old = rw c.in_ok-moved-in-Inner.ensures.items (append-nil old) in
     let within : c.args.at < length old = omega (arith, c.in-Inner.children.ok.0, ap (λ n. n.items) view, c.requires.back) in
-    let behind : vec_len c.cut_items-in-Inner.new.back + c.args.at ≡ vec_len c.in-Inner.children = omega (arith, e.back_len, c.in_ok-moved-in-Inner.ensures.len) in
+    let back_count : vec_len c.cut_items-in-Inner.new.back + c.args.at ≡ vec_len c.in-Inner.children = omega (arith, e.back_len, c.in_ok-moved-in-Inner.ensures.len) in
     let key = rw whole at e.key in
-    rw (← view) (inner_cut g.K.Ord.cmp g.met.K.Ord.total c.in-Inner.height old c.args.at n.children key.0 within key.1.0 _ _ c.cut_items-in-Inner.new.front c.cut_items-in-Inner.new.back c.in_ok-least-in-Inner.least refl key.1.1 (rw whole at e.front) (rw whole at e.back) e.front_len behind)
+    rw (← view) (inner_cut g.K.Ord.cmp g.met.K.Ord.total c.in-Inner.height old c.args.at n.children key.0 within key.1.0 _ _ c.cut_items-in-Inner.new.front c.cut_items-in-Inner.new.back c.in_ok-least-in-Inner.least refl key.1.1 (rw whole at e.front) (rw whole at e.back) e.front_len back_count)

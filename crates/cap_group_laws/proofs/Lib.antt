@@ -1,0 +1,2 @@
+pub mod AloneLemmas
+pub mod FlagLemmas

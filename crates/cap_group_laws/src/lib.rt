@@ -1,0 +1,4 @@
+//! Laws of changegroups, over the definitions alone.
+#![tactic(auto)]
+
+pub mod laws;
