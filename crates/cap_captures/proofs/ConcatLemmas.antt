@@ -30,7 +30,7 @@ use Rattle.cap_group.specs.Rows.{Follow, IsRowUnder, changes_of_row, together}
 use Rattle.cap_group.specs.declared.refusal.GroupRefusal.{GroupRefusal}
 use Rattle.cap_group.specs.declared.refusal.GroupRefusal.TheVariants.{OtherColumns, OtherKind}
 use Rattle.cap_group.proofs.GroupLemmas.{kept_table}
-use Rattle.cap_group.proofs.JoinLemmas.{followed}
+use Rattle.cap_group_laws.proofs.JoinLemmas.{followed}
 use Rattle.cap_captures.specs.Rows.{AreInARow, HasTogether, all_row_changes, row_changes}
 
 -- ---- names

@@ -23,7 +23,7 @@ use Rattle.cap_group.specs.Combined.{combined}
 use Rattle.cap_group.specs.KeyedChanges.{change_after}
 use Rattle.cap_group.specs.Record.{differ, new_field as new_of, old_field as old_of, update_between}
 use Rattle.cap_group.specs.Rows.{Follow, IsRowUnder, is_indirect, together}
-use Rattle.cap_group.proofs.JoinLemmas.{followed}
+use Rattle.cap_group_laws.proofs.JoinLemmas.{followed}
 use Rattle.cap_core.specs.declared.event.Event.{Event}
 use Rattle.cap_core.specs.Flags.{command_to}
 use Rattle.cap_core.specs.History.{main}

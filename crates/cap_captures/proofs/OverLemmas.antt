@@ -12,7 +12,7 @@ use Rattle.cap_changes.specs.Group.{TableChanges}
 use Rattle.cap_changes.specs.declared.row_change.RowChange.{RowChange}
 use Rattle.cap_codec.specs.declared.read.Contents.TheVariants.{Changes}
 use Rattle.cap_session.specs.declared.record.Record.{Record}
-use Rattle.cap_group.proofs.JoinLemmas.{followed}
+use Rattle.cap_group_laws.proofs.JoinLemmas.{followed}
 use Rattle.cap_group_laws.proofs.FlagLemmas.{followed_one_flag}
 use Rattle.cap_group.specs.ChangeGroup.{concat_of}
 use Rattle.cap_core.specs.declared.event.Event.{Event}

@@ -18,7 +18,7 @@ use Rattle.cap_session.specs.declared.record.Record.{Record}
 use Rattle.cap_session.specs.Records.{Records}
 use Rattle.cap_session.specs.Session.{AttachedTables, record_of, records_of as attached_records}
 use Rattle.cap_codec.specs.declared.read.Contents.TheVariants.{Changes}
-use Rattle.cap_group.proofs.JoinLemmas.{followed}
+use Rattle.cap_group_laws.proofs.JoinLemmas.{followed}
 use Rattle.cap_group.specs.ChangeGroup.{concat_of}
 use Rattle.cap_group.specs.Rows.{Follow, IsRowUnder, together}
 use Rattle.cap_core.specs.declared.event.Event.{Event}

@@ -12,7 +12,7 @@ use Rattle.cap_codec.specs.declared.read.Contents.{Contents}
 use Rattle.cap_codec.specs.declared.read.Contents.TheVariants.{Changes}
 use Rattle.cap_group.specs.ChangeGroup.{concat_of}
 use Rattle.cap_group.specs.Rows.{Follow, IsRowUnder}
-use Rattle.cap_group.proofs.JoinLemmas.{followed}
+use Rattle.cap_group_laws.proofs.JoinLemmas.{followed}
 use Rattle.cap_captures.specs.Captures.{as_direct}
 use Rattle.cap_captures.specs.Rows.{AreInARow, HasTogether, all_row_changes, row_changes}
 use Rattle.cap_captures.proofs.ConcatLemmas.{IsMade, concatenated, concatenated-whole, last_under, some_same}

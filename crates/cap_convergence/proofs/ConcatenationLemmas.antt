@@ -22,7 +22,7 @@ use Rattle.cap_group.specs.ChangeKey.{change_key}
 use Rattle.cap_group.specs.Combined.{combined}
 use Rattle.cap_group.specs.Rows.{Follow, changes_of_row, together}
 use Rattle.cap_group.specs.declared.refusal.GroupRefusal.{GroupRefusal}
-use Rattle.cap_group.proofs.JoinLemmas.{followed}
+use Rattle.cap_group_laws.proofs.JoinLemmas.{followed}
 use Rattle.cap_captures.specs.Rows.{AreInARow, all_row_changes, row_changes}
 use Rattle.cap_captures.proofs.ConcatLemmas.{IsMade, concatenated-whole, last_under}
 use Rattle.cap_captures.proofs.RecordLemmas.{follow-next}

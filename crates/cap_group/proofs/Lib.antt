@@ -1,7 +1,6 @@
 pub mod FitLemmas
 pub mod GroupLemmas
 pub mod TableLemmas
-pub mod JoinLemmas
 pub mod RowLemmas
 pub mod RisingLemmas
 pub mod AgainLemmas

@@ -9,7 +9,7 @@ use Rattle.std.specs.Option.{ForSome}
 use Rattle.cap_group.specs.Combined.{combined}
 use Rattle.cap_group.specs.Rows.{Follow, IsRowUnder, is_indirect, together}
 use Rattle.cap_group.specs.KeyedChanges.{change_after}
-use Rattle.cap_group.proofs.JoinLemmas.{flag_of_both, none_yet, step}
+use Rattle.cap_group_laws.proofs.JoinLemmas.{flag_of_both, none_yet, step}
 
 and_self : (b : Bool) → (b && b) ≡ b
 and_self true = refl

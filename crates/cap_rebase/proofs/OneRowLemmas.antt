@@ -16,7 +16,7 @@ use Rattle.cap_changes.specs.declared.row_change.RowChange.{RowChange}
 use Rattle.cap_changes.specs.declared.row_change.RowChange.TheVariants.{Insert, Update, Delete}
 use Rattle.cap_changes.proofs.ChangeLemmas.{change_of-other, change_of-same, update_modifies}
 use Rattle.cap_group.specs.Rows.{Follow, IsRowUnder, is_indirect}
-use Rattle.cap_group.proofs.JoinLemmas.{followed}
+use Rattle.cap_group_laws.proofs.JoinLemmas.{followed}
 use Rattle.cap_apply.specs.Difference.{IsUnder}
 use Rattle.cap_apply.specs.Policy.{made_anyway}
 use Rattle.cap_apply.specs.Row.{has_old_value, has_old_values, row_after, set_fields}

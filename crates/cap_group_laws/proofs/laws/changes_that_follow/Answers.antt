@@ -1,5 +1,5 @@
 use Rattle.std.proofs.lemmas.List.Elements.{recursion_from_All}
-use Rattle.cap_group.proofs.JoinLemmas.{followed}
+use Rattle.cap_group_laws.proofs.JoinLemmas.{followed}
 use Rattle.cap_group_laws.proofs.FlagLemmas.{followed_one_flag}
 use Rattle.cap_group_laws.proofs.laws.changes_that_follow.Goals as goal
 
