@@ -6,5 +6,6 @@ pub mod BlobAgain
 pub mod SpelledBlob
 pub mod Steady
 pub mod Looking
+pub mod Short
 pub mod StreamLemmas
 pub mod WriteLemmas

@@ -12,7 +12,7 @@ use Rattle.cap_codec.specs.declared.scan.Kind.{Kind}
 use Rattle.cap_codec.specs.declared.scan.Kind.TheVariants as kinds
 use Rattle.cap_codec.specs.declared.scan.ScanPosition.{ScanPosition}
 use Rattle.cap_codec.specs.HeaderReading.{Header, header_at}
-use Rattle.cap_codec.specs.Pieces.{is_cut, lasting, kind_byte, part_at, GoesOn, Leads, LeadsAs, IsPlace, IsLookedAt}
+use Rattle.cap_codec.specs.Pieces.{is_cut, lasting, kind_byte, part_at, part_as, GoesOn, Leads, LeadsAs, IsQuiet, IsScanned, IsLookedAt}
 use Rattle.cap_field.specs.Reading.{◌>>=◌, place}
 use Rattle.cap_changes.specs.Entries.{TableEntries}
 use Rattle.cap_changes.specs.KindByte.{changeset_kind, patchset_kind}
@@ -29,7 +29,7 @@ fault_of_lasting (Err g) f e = elim (chosen (is_cut g.kind) _ _ _ e) [
   | inr (whole, h) ↦ let same = err_is {A = Unit {0}} g f h in (ap (λ (d : BlobFault). Err d) same, rw (← same) whole)
 ]
 
-either : {X : Type 0} (read : Result X BlobFault) → ((x : X) × (read ≡ Ok x)) ⊎ ((f : BlobFault) × (read ≡ Err f))
+pub either : {X : Type 0} (read : Result X BlobFault) → ((x : X) × (read ≡ Ok x)) ⊎ ((f : BlobFault) × (read ≡ Err f))
 either (Ok x) = inl (x, refl)
 either (Err f) = inr (f, refl)
 
@@ -197,11 +197,7 @@ module _ (A : Type 0) {X : Type 0} (one_at : ℕ → List Bool → ℕ → List 
 module _ (A : Type 0) where
   -- ---- by the kind of the groups
 
-  abbrev pub part_as : Kind → ℕ → List Bool → List ℕ → Result (List Bool × List ℕ) BlobFault
-  part_as kinds.Changes total flags bytes = part_at (change_at {A = A}) changeset_kind total flags bytes
-  part_as kinds.Patches total flags bytes = part_at (patch_at {A = A}) patchset_kind total flags bytes
-
-  pub passes_as : (kind : Kind) (bytes : List ℕ) (flags columns : List Bool) (at : ℕ) (after : List ℕ) → part_as kind (length bytes) flags (drop at bytes) ≡ Ok (columns, after) → (at ≤ length bytes) × LeadsAs A kind bytes flags at
+  pub passes_as : (kind : Kind) (bytes : List ℕ) (flags columns : List Bool) (at : ℕ) (after : List ℕ) → part_as A kind (length bytes) flags (drop at bytes) ≡ Ok (columns, after) → (at ≤ length bytes) × LeadsAs A kind bytes flags at
       → ((place (length bytes) after ≤ length bytes) × LeadsAs A kind bytes columns (place (length bytes) after)) × (at < place (length bytes) after)
   passes_as kinds.Changes bytes flags columns at after read is =
       let on = part_passes A (change_at {A = A}) changeset_kind (change_stays A) bytes flags at (drop at bytes) columns after is.0 refl read is.1 in
@@ -210,15 +206,15 @@ module _ (A : Type 0) where
       let on = part_passes A (patch_at {A = A}) patchset_kind (patch_stays A) bytes flags at (drop at bytes) columns after is.0 refl read is.1 in
       ((on.within, on.leads), omega (arith, on.shorter, length-drop at bytes))
 
-  stops_as : (kind : Kind) (bytes : List ℕ) (flags : List Bool) (at : ℕ) (f : BlobFault) → part_as kind (length bytes) flags (drop at bytes) ≡ Err f → LeadsAs A kind bytes flags at → lasting (blob_at {A = A} bytes) ≡ lasting {X = Unit {0}} (Err f)
+  pub stops_as : (kind : Kind) (bytes : List ℕ) (flags : List Bool) (at : ℕ) (f : BlobFault) → part_as A kind (length bytes) flags (drop at bytes) ≡ Err f → LeadsAs A kind bytes flags at → lasting (blob_at {A = A} bytes) ≡ lasting {X = Unit {0}} (Err f)
   stops_as kinds.Changes bytes flags at f read leads = part_stops A (change_at {A = A}) changeset_kind (change_stays A) bytes flags at f read leads
   stops_as kinds.Patches bytes flags at f read leads = part_stops A (patch_at {A = A}) patchset_kind (patch_stays A) bytes flags at f read leads
 
-  pub refused_as : (kind : Kind) (bytes : List ℕ) (flags : List Bool) (at : ℕ) (e : Fault BlobFault) (result : Result (Unit {0}) (Fault BlobFault)) → result ≡ Err e → RefusesUnlessMemory e (part_as kind (length bytes) flags (drop at bytes))
-      → LeadsAs A kind bytes flags at → (f : BlobFault) → result ≡ Err (Refused f) → lasting (blob_at {A = A} bytes) ≡ lasting {X = Unit {0}} (Err f)
-  refused_as kind bytes flags at (Refused g) result is read leads f same =
-      let one : g ≡ f = cc in stops_as kind bytes flags at f (subst (λ (d : BlobFault). part_as kind (length bytes) flags (drop at bytes) ≡ Err d) one read) leads
-  refused_as kind bytes flags at OutOfMemory result is read leads f same = absurd cc
+  pub refused_as : (kind : Kind) (bytes : List ℕ) (flags : List Bool) (at : ℕ) (e : Fault BlobFault) (result : Result (Unit {0}) (Fault BlobFault)) → result ≡ Err e → RefusesUnlessMemory e (part_as A kind (length bytes) flags (drop at bytes))
+      → (f : BlobFault) → result ≡ Err (Refused f) → part_as A kind (length bytes) flags (drop at bytes) ≡ Err f
+  refused_as kind bytes flags at (Refused g) result is read f same =
+      let one : g ≡ f = cc in subst (λ (d : BlobFault). part_as A kind (length bytes) flags (drop at bytes) ≡ Err d) one read
+  refused_as kind bytes flags at OutOfMemory result is read f same = absurd cc
 
   changes_begin : (bytes : List ℕ) → Leads A (change_at {A = A}) changeset_kind (changeset_kind ∷ bytes) [] 0
   unfolding group_at blob_at
@@ -246,18 +242,23 @@ module _ (A : Type 0) where
 
   -- ---- what a decoder knows of its bytes
 
-  leads_longer_as : (kind : Kind) (bytes piece : List ℕ) (flags : List Bool) (at : ℕ) → LeadsAs A kind bytes flags at → LeadsAs A kind (bytes ++ piece) flags at
+  pub leads_longer_as : (kind : Kind) (bytes piece : List ℕ) (flags : List Bool) (at : ℕ) → LeadsAs A kind bytes flags at → LeadsAs A kind (bytes ++ piece) flags at
   leads_longer_as kinds.Changes bytes piece flags at leads = leads_longer A (change_at {A = A}) changeset_kind bytes piece flags at leads
   leads_longer_as kinds.Patches bytes piece flags at leads = leads_longer A (patch_at {A = A}) patchset_kind bytes piece flags at leads
 
-  places_longer : (bytes piece : List ℕ) (place : Option (ScanPosition A)) → IfSome place (IsPlace bytes) → IfSome place (IsPlace (bytes ++ piece))
+  quiet_longer : (bytes piece : List ℕ) (due : ℕ) → IsQuiet A bytes due → IsQuiet A (bytes ++ piece) due
+  unfolding IsQuiet
+  quiet_longer bytes piece due quiet = λ more lt. rw (append_assoc bytes piece more) (quiet (piece ++ more) (rw (append_assoc bytes piece more) at lt))
+
+  places_longer : (bytes piece : List ℕ) (place : Option (ScanPosition A)) → IfSome place (IsScanned bytes) → IfSome place (IsScanned (bytes ++ piece))
   places_longer bytes piece None is = tt
-  places_longer bytes piece (Some place) is = (omega (arith, is.0, length-append bytes piece), leads_longer_as place.kind bytes piece place.flags.items place.at is.1)
+  places_longer bytes piece (Some place) is =
+      ((omega (arith, is.0.0, length-append bytes piece), leads_longer_as place.kind bytes piece place.flags.items place.at is.0.1), quiet_longer bytes piece place.due is.1)
 
   pub looked_fault : (bytes all : List ℕ) (place : Option (ScanPosition A)) (fault : Option BlobFault) (f : BlobFault) → bytes ≡ all → fault ≡ Some f → IsLookedAt bytes place fault → lasting (blob_at {A = A} all) ≡ Err f
   looked_fault bytes all place None f same is looked = absurd cc
   looked_fault bytes all place (Some g) f same is looked = let one : g ≡ f = cc in subst (λ (b : List ℕ). lasting (blob_at {A = A} b) ≡ Err f) same (looked ∙ ap (λ (d : BlobFault). Err d) one)
 
-  pub looked_place : (bytes piece all : List ℕ) (place taken : Option (ScanPosition A)) (fault : Option BlobFault) → fault ≡ None → taken ≡ place → all ≡ bytes ++ piece → IsLookedAt bytes place fault → IfSome taken (IsPlace all)
+  pub looked_place : (bytes piece all : List ℕ) (place taken : Option (ScanPosition A)) (fault : Option BlobFault) → fault ≡ None → taken ≡ place → all ≡ bytes ++ piece → IsLookedAt bytes place fault → IfSome taken (IsScanned all)
   looked_place bytes piece all place taken None none same parts looked = rw (same, parts) (places_longer bytes piece place looked.1)
   looked_place bytes piece all place taken (Some f) none same parts looked = absurd cc

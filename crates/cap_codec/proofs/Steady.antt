@@ -70,7 +70,7 @@ varint_from_stays total later at read high (byte ∷ bytes) more = elim (cases_B
   ]
 ]
 
-varint_stays : (total : ℕ) (bytes more : List ℕ) → Stays bytes more (varint_at total bytes) (varint_at (total + length more) (bytes ++ more))
+pub varint_stays : (total : ℕ) (bytes more : List ℕ) → Stays bytes more (varint_at total bytes) (varint_at (total + length more) (bytes ++ more))
 unfolding varint_at
 varint_stays total bytes more = rw (same_place total bytes more) (varint_from_stays total (total + length more) (place total bytes) 0 0 bytes more)
 
@@ -122,7 +122,7 @@ module _ (A : Type 0) where
   present_stays total requirement bytes more =
       rw (same_place total bytes more) (stays_then bytes more (byte_at total bytes) (byte_at (total + length more) (bytes ++ more)) _ _ (byte_stays total bytes more) (λ kind. typed_stays total (place total bytes) requirement kind.0 kind.1 more))
 
-  field_stays : (total : ℕ) (requirement : FieldRequirement) (bytes more : List ℕ) → Stays bytes more (field_at {A = A} total requirement bytes) (field_at (total + length more) requirement (bytes ++ more))
+  pub field_stays : (total : ℕ) (requirement : FieldRequirement) (bytes more : List ℕ) → Stays bytes more (field_at {A = A} total requirement bytes) (field_at (total + length more) requirement (bytes ++ more))
   unfolding field_at
   field_stays total required.Omitted bytes more = (refl, ([], refl))
   field_stays total required.Key bytes more = present_stays total required.Key bytes more
@@ -130,7 +130,7 @@ module _ (A : Type 0) where
   field_stays total required.Any bytes more = present_stays total required.Any bytes more
   field_stays total required.Undefined bytes more = present_stays total required.Undefined bytes more
 
-  record_stays : (total : ℕ) (requirements : List FieldRequirement) (bytes more : List ℕ) → Stays bytes more (record_at {A = A} total requirements bytes) (record_at (total + length more) requirements (bytes ++ more))
+  pub record_stays : (total : ℕ) (requirements : List FieldRequirement) (bytes more : List ℕ) → Stays bytes more (record_at {A = A} total requirements bytes) (record_at (total + length more) requirements (bytes ++ more))
   unfolding record_at
   record_stays total [] bytes more = (refl, ([], refl))
   record_stays total (requirement ∷ requirements) bytes more =

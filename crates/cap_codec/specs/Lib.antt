@@ -6,4 +6,5 @@ pub mod FirstByte
 pub mod Writable
 pub mod Spelling
 pub mod Pieces
+pub mod Missing
 pub mod Stream

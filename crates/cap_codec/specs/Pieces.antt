@@ -1,6 +1,6 @@
 -- Blobs in pieces: what is known of a blob by its prefix.
-use Rattle.std.specs.Prelude.{◌≡◌, ℕ, ◌≤◌, Bool, true, false, List, ◌++◌, length, drop, Option, Some}
-use Rattle.std.specs.Prelude.{None, Result, Ok, Err, IfSome, ◌==◌, if◌then◌else◌}
+use Rattle.std.specs.Prelude.{◌≡◌, ℕ, ◌+◌, ◌<◌, ◌≤◌, Bool, true, false, List, ◌++◌, length, drop, Option}
+use Rattle.std.specs.Prelude.{Some, None, Result, Ok, Err, IfSome, ◌==◌, if◌then◌else◌}
 use Rattle.cap_value.specs.declared.memory.Fault.{Fault}
 use Rattle.cap_value.specs.declared.memory.Fault.TheVariants.{Refused, OutOfMemory}
 use Rattle.cap_field.specs.declared.fault.BlobFault.{BlobFault}
@@ -25,6 +25,11 @@ is_cut kind = false
 abbrev pub lasting : {X : Type 0} → Result X BlobFault → Result (Unit {0}) BlobFault
 lasting (Ok x) = Ok tt
 lasting (Err fault) = if is_cut fault.kind then Ok tt else Err fault
+
+-- whether the bytes end before what is read does
+abbrev pub ends_early : {X : Type 0} → Result X BlobFault → Bool
+ends_early (Ok x) = false
+ends_early (Err fault) = is_cut fault.kind
 
 -- the first byte of a group of this kind
 abbrev pub kind_byte : Kind → ℕ
@@ -59,6 +64,22 @@ module _ (A : Type 0) where
   LeadsAs kinds.Changes bytes flags at = Leads (change_at {A = A}) changeset_kind bytes flags at
   LeadsAs kinds.Patches bytes flags at = Leads (patch_at {A = A}) patchset_kind bytes flags at
 
+  -- the next change or header in a group of this kind
+  abbrev pub part_as : Kind → ℕ → List Bool → List ℕ → Result (List Bool × List ℕ) BlobFault
+  part_as kinds.Changes total flags bytes = part_at (change_at {A = A}) changeset_kind total flags bytes
+  part_as kinds.Patches total flags bytes = part_at (patch_at {A = A}) patchset_kind total flags bytes
+
+  -- Where the bytes end before the next change or header does, so do they with fewer than this many more.
+  unfoldable pub Lacks : ℕ → List ℕ → ℕ → Type 0
+  Lacks total bytes missing = (kind : Kind) (flags : List Bool) (more : List ℕ) → length more < missing →
+      ends_early (part_as kind total flags bytes) ≡ true →
+      ends_early (part_as kind (total + length more) flags (bytes ++ more)) ≡ true
+
+  -- Whatever follows, no fault lasts before the blob has this many bytes.
+  unfoldable pub IsQuiet : List ℕ → ℕ → Type 0
+  IsQuiet bytes due = (more : List ℕ) → length (bytes ++ more) < due →
+      lasting (blob_at {A = A} (bytes ++ more)) ≡ Ok tt
+
   -- A decoder that answered a fault has it. One that is out of memory is unchanged.
   abbrev pub KeepsFault : Result (Unit {0}) (Fault BlobFault) → List ℕ → List ℕ → Type 0
   KeepsFault (Ok x) old new = Unit {0}
@@ -70,9 +91,13 @@ module _ {A : Type 0} where
   abbrev pub IsPlace : List ℕ → ScanPosition A → Type 0
   IsPlace bytes place = (place.at ≤ length bytes) × LeadsAs A place.kind bytes place.flags.items place.at
 
+  -- the same, and none of them need be scanned before they are due
+  abbrev pub IsScanned : List ℕ → ScanPosition A → Type 0
+  IsScanned bytes place = IsPlace bytes place × IsQuiet A bytes place.due
+
   -- the bytes of a decoder, how far they are scanned, and the fault that it answered
   abbrev pub IsLookedAt : List ℕ → Option (ScanPosition A) → Option BlobFault → Type 0
-  IsLookedAt bytes place None = (lasting (blob_at {A = A} bytes) ≡ Ok tt) × IfSome place (IsPlace bytes)
+  IsLookedAt bytes place None = (lasting (blob_at {A = A} bytes) ≡ Ok tt) × IfSome place (IsScanned bytes)
   IsLookedAt bytes place (Some fault) = lasting (blob_at {A = A} bytes) ≡ Err fault
 
   -- the scan reached this position, or the lasting fault

@@ -17,10 +17,10 @@ use std::marker::Model;
 
 /// An incremental decoder of a blob in pieces of any lengths.
 ///
-/// It keeps the bytes. `feed` scans each complete change once and copies none; `finish` reads all bytes again.
-/// A change or a header that is not complete is scanned again with the next piece, from its start. A value is
-/// passed by its length, but a text is looked at again, so a piece costs at most the fields of one change, the
-/// bytes of its texts, and what the piece completes.
+/// It keeps the bytes. `feed` scans each complete change once and copies none; `finish` reads all of them
+/// again. A change that is not complete is scanned again from its start, once the field that its bytes end in
+/// may be complete: a few times for each of its fields, however small the pieces are. Any other piece inside
+/// a change costs its own bytes alone. A header that is not complete is scanned again with each piece.
 #[derive(Drop)]
 pub struct Decoder<A: AllocHandle> {
     alloc: A,

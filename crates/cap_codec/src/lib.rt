@@ -6,6 +6,7 @@ mod group;
 mod header;
 mod key_flags;
 pub mod laws;
+mod missing;
 mod read;
 mod scan;
 mod stream;

@@ -1,15 +1,15 @@
 //! Scanning a prefix of a blob, change by change: how far it is complete, and whether it has a fault that no
 //! further bytes can mend.
 
-ghost use Rattle.std.specs.Prelude.{◌≡◌, ◌<◌, ◌≤◌, length, get_or, Err, IfOk, IfSome, OnErr};
+ghost use Rattle.std.specs.Prelude.{◌≡◌, ◌<◌, ◌≤◌, length, drop, get_or, Err, IfOk, IfSome, OnErr};
 ghost use Rattle.cap_value.specs.Memory.{ShowsUnlessMemory};
 ghost use Rattle.cap_value.specs.declared.memory.Fault.TheVariants.{Refused};
 ghost use Rattle.cap_field.specs.declared.fault.BlobFault.{BlobFault as Wrong};
-ghost use Rattle.cap_codec.specs.BlobReading.{blob_at};
-ghost use Rattle.cap_codec.specs.Pieces.{is_cut, lasting, kind_byte, part_at, IsPlace, Scans};
+ghost use Rattle.cap_codec.specs.Pieces.{is_cut, kind_byte, part_at, part_as, IsPlace, IsScanned, Scans};
 
 use crate::group::set_flags;
 use crate::header::take_header;
+use crate::missing::missing;
 use crate::read::wrong_kind;
 use cap_changes::{CHANGESET_KIND, Entry, Operation, PATCHSET_KIND, Patch, RowChange};
 use cap_field::{BlobFault, FaultKind, place_of, take_byte};
@@ -31,6 +31,8 @@ pub struct ScanPosition<A: AllocHandle> {
     flags: Vec<bool, A>,
     // How many bytes were scanned.
     at: usize,
+    // Whatever follows, no fault but `Truncated` is there before the blob has this many bytes.
+    due: usize,
 }
 
 // Whether further bytes may mend the fault: the blob ends too early.
@@ -63,7 +65,7 @@ fn pass_part<'a, C: Entry, A: AllocHandle>(
     Ok(rest)
 }
 
-// Moves the position behind the next change or header. Refused with the fault that it has.
+// Moves the position behind the next change or header. Refused with the fault that it has there.
 fn advance<A: AllocHandle>(
     alloc: A,
     bytes: &[u8],
@@ -73,7 +75,8 @@ fn advance<A: AllocHandle>(
     ensures place { IsPlace bytes.now place.new }
     ensures on { IfOk result (λ _. place.old.at < place.new.at) }
     ensures fault { (fault : Wrong) → result ≡ Err (Refused fault) →
-        lasting (blob_at {A = A} bytes.now) ≡ lasting {X = Unit {0}} (Err fault) }
+        part_as A place.new.kind (length bytes.now) place.new.flags.items (drop place.new.at bytes.now)
+        ≡ Err fault }
 {
     let total = bytes.len();
     let rest = &bytes[place.at..];
@@ -100,6 +103,8 @@ fn scan_from<A: AllocHandle>(
             Ok(()) => {}
             Err(Fault::Refused(fault)) => {
                 if is_cut(fault) {
+                    let missing = missing::<A>(bytes.len(), &bytes[place.at..]);
+                    place.due = bytes.len().saturating_add(missing);
                     return Ok(Some(place));
                 }
                 return Err(Fault::Refused(fault));
@@ -126,22 +131,26 @@ fn scan_all<A: AllocHandle>(
             kind,
             flags: Vec::new(alloc),
             at: 0,
+            due: 0,
         },
     )
 }
 
-/// Scans what is complete of these bytes, from a position on. Refused with the fault that no further bytes
-/// can mend.
+/// Scans what is complete of these bytes, from a position on, once more is due. Refused with the fault that
+/// no further bytes can mend.
 #[tactic(auto, unfolding(crate::specs::BlobReading::blob_at))]
 pub fn scan<A: AllocHandle>(
     alloc: A,
     bytes: &[u8],
     place: Option<ScanPosition<A>>,
 ) -> Result<Option<ScanPosition<A>>, Fault<BlobFault>>
-    requires { IfSome place (IsPlace bytes.now) }
+    requires { IfSome place (IsScanned bytes.now) }
     ensures { Scans result bytes.now }
 {
     if let Some(place) = place {
+        if bytes.len() < place.due {
+            return Ok(Some(place));
+        }
         return scan_from(alloc, bytes, place);
     }
     match bytes {

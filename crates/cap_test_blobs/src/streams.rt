@@ -69,20 +69,20 @@ fn pieces_of_every_length(rt: HostRuntime) {
     }
 }
 
-// Two blobs of 1,000,000 bytes in one change.
+// 2,000 blobs of 1,000 bytes in one change.
 fn long_change(alloc: Global) -> Result<Vec<u8>, OutOfMemory> {
     let mut bytes = Vec::new(alloc);
-    bytes.extend_from_slice(&[0x54, 2, 1, 0, 0x74, 0, 0x12, 0])?;
-    for _column in 0..2_usize {
-        bytes.extend_from_slice(&[4, 0xbd, 0x84, 0x40])?;
-        for _part in 0..1000_usize {
-            bytes.extend_from_slice(&[7; 1000])?;
-        }
+    bytes.extend_from_slice(&[0x54, 0x8f, 0x50, 1])?;
+    bytes.extend_from_slice(&[0; 1999])?;
+    bytes.extend_from_slice(&[0x74, 0, 0x12, 0])?;
+    for _column in 0..2000_usize {
+        bytes.extend_from_slice(&[4, 0x87, 0x68])?;
+        bytes.extend_from_slice(&[7; 1000])?;
     }
     Ok(bytes)
 }
 
-// It would not end in time if the bytes of the values were looked at with each piece.
+// It would not end in time if the change were looked at with each piece.
 #[test]
 fn a_long_change_in_short_pieces(rt: HostRuntime) -> Result<(), Fail> {
     let bytes = long_change(rt.alloc())?;

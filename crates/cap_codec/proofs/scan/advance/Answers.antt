@@ -9,14 +9,14 @@ use Rattle.cap_codec.proofs.scan.advance.Goals.{in-Changes+in_ok-rest-in-Changes
 pub returns-in_err-rest-in-Changes-clause-fault : goal.returns-in_err-rest-in-Changes-clause-fault
 returns-in_err-rest-in-Changes-clause-fault g c =
     let p = err_from_is_err_and c.from_residual.result c.from_residual.ensures.1 in
-    rw (p.1, p.2) (refused_as g.row.A.Denot kinds.Changes c.args.bytes.now c.args.place.now.flags.items c.args.place.now.at c.in_err-rest-in-Changes.field-0.0 _ refl
-    (rw (take_rest c.args.bytes.now c.args.place.now.at) at c.in_err-rest-in-Changes.ensures.gives) (rw c.in-Changes.is at c.requires.1))
+    rw (p.1, p.2, c.in_err-rest-in-Changes.ensures.kept, c.in-Changes.is) (refused_as g.row.A.Denot kinds.Changes c.args.bytes.now c.args.place.now.flags.items c.args.place.now.at c.in_err-rest-in-Changes.field-0.0 _ refl
+    (rw (take_rest c.args.bytes.now c.args.place.now.at) at c.in_err-rest-in-Changes.ensures.gives))
 
 pub returns-in_err-rest-in-Patches-clause-fault : goal.returns-in_err-rest-in-Patches-clause-fault
 returns-in_err-rest-in-Patches-clause-fault g c =
     let p = err_from_is_err_and c.from_residual-in_err-rest-in-Patches.result c.from_residual-in_err-rest-in-Patches.ensures.1 in
-    rw (p.1, p.2) (refused_as g.row.A.Denot kinds.Patches c.args.bytes.now c.args.place.now.flags.items c.args.place.now.at c.in_err-rest-in-Patches.field-0.0 _ refl
-    (rw (take_rest c.args.bytes.now c.args.place.now.at) at c.in_err-rest-in-Patches.ensures.gives) (rw c.in-Patches.is at c.requires.1))
+    rw (p.1, p.2, c.in_err-rest-in-Patches.ensures.kept, c.in-Patches.is) (refused_as g.row.A.Denot kinds.Patches c.args.bytes.now c.args.place.now.flags.items c.args.place.now.at c.in_err-rest-in-Patches.field-0.0 _ refl
+    (rw (take_rest c.args.bytes.now c.args.place.now.at) at c.in_err-rest-in-Patches.ensures.gives))
 
 pub returns-clause-place : goal.returns-clause-place
 returns-clause-place g c = rw c.place_of-place.ensures (elim c.match-place.branch [

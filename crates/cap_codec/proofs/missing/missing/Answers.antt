@@ -1,0 +1,13 @@
+use Rattle.std.proofs.Common.{zero, suc, arith, rules}
+use Rattle.std.proofs.lemmas.List.{take_rest}
+use Rattle.cap_codec.proofs.Short.{change_lacks}
+use Rattle.cap_codec.proofs.missing.missing.Goals as goal
+
+pub loop-behind-init : goal.loop-behind-init
+loop-behind-init g c = λ n lack. change_lacks g.row.A.Denot c.args.total n c.args.bytes.now (omega arith) (search rules) (rw (take_rest c.args.bytes.now 2) at lack)
+
+pub loop-behind-preserved : goal.loop-behind-preserved
+loop-behind-preserved g c = λ n lack. c.loop-behind.invariant n (suc lack.0, (c.in-Ok.behind.now, c.in-Ok.ensures.ok, lack.1))
+
+pub returns-in-Err : goal.returns-in-Err
+returns-in-Err g c = c.loop-behind.invariant c.in-Err.missing (zero, c.in-Err.ensures.err)
