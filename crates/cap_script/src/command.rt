@@ -1,12 +1,15 @@
-//! Reads commands. Each function but the first reads a command behind its first word.
-ghost use Rattle.std.specs.Prelude.{◌≡◌, None, Some, List, ℕ, Bool, true, codes, IfOk, IfSome, MatchOption};
+//! Reads commands: the word that one begins with, and then, each in a function of its own, what is behind it.
+ghost use Rattle.std.specs.Prelude.{◌≡◌, [], None, Some, List, ℕ, Bool, true, codes, IfOk, IfSome};
+ghost use Rattle.std.specs.Prelude.{MatchOption};
 ghost use Rattle.cap_value.specs.Bytes.{bytes_eq};
-ghost use Rattle.cap_language.specs.Forms.{a_word, natural, separated};
-ghost use Rattle.cap_language.specs.Grammar.{Reads, next_at, read, seen_items};
-ghost use Rattle.cap_script.specs.Language.{answer, application, apply_each, apply_quiet, applying, command};
-ghost use Rattle.cap_script.specs.Language.{commit, commit_at, contents, create, drop_database, each_conflict};
-ghost use Rattle.cap_script.specs.Language.{filter_behind, flags_in, get, key_letter, numbers, policy, report};
-ghost use Rattle.cap_script.specs.Language.{save, scan, schema, show_of};
+ghost use Rattle.cap_language.specs.Forms.{a_word, natural, one_of, separated};
+ghost use Rattle.cap_language.specs.Grammar.{Reads, done, misfit, next_at, read, read_at, seen_items};
+ghost use Rattle.cap_script.specs.Language.{alone, answer, application, apply_each, apply_quiet, applying};
+ghost use Rattle.cap_script.specs.Language.{command, commands, commit, commit_at, contents, create};
+ghost use Rattle.cap_script.specs.Language.{drop_database, each_conflict, filter_behind, flagged, flags_in};
+ghost use Rattle.cap_script.specs.Language.{from_diff, from_dump, get, key_letter, numbered, numbering};
+ghost use Rattle.cap_script.specs.Language.{numbers, policy, report, save, scan, schema, setting, show_of};
+ghost use Rattle.cap_script.specs.Language.{with_words};
 ghost use Rattle.cap_script.specs.declared.command.Spelled.TheVariants.{Whole};
 ghost use Rattle.cap_script.specs.declared.line.Show.TheVariants.{Plain};
 
@@ -17,7 +20,7 @@ use crate::{Detail, Show};
 use cap_apply::{Answer, Policy};
 use cap_codec::{Contents, read_blob};
 use cap_core::{Command, QuietSessions};
-use cap_language::{Cursor, LineFault, name};
+use cap_language::{Cursor, LineFault, Word, name};
 use cap_row::Schema;
 use cap_txn::{Asked, Batch};
 use cap_value::{AllocHandle, OutOfMemory, Refusal, VALUE_BYTES_MAX};
@@ -128,13 +131,26 @@ fn behind_commit<'a>(cursor: &Cursor<'a>) -> Option<&'a str>
     }
 }
 
-// Reads any command.
+// Reads any command. The words stand in parts, a function each, which hands a word that it does not have to
+// the next: what is proved of a word has the words of its part alone in sight.
 #[inline(never)]
 #[tactic(auto, unfolding(crate::specs::Language::command))]
 fn any_command<A: AllocHandle>(alloc: A, cursor: &mut Cursor<'_>) -> Result<Spelled<A>, LineFault>
     ensures reads { Reads result cursor.new.rest.now (read command cursor.old.rest.now) }
 {
     let word = cursor.word()?;
+    from_create(alloc, cursor, &word)
+}
+
+// Reads behind a word from `create` on. Here are the words before `enable`.
+fn from_create<A: AllocHandle>(
+    alloc: A,
+    cursor: &mut Cursor<'_>,
+    word: &Word<'_>,
+) -> Result<Spelled<A>, LineFault>
+    ensures reads { (before : List ℕ) → word.now.misfit ≡ misfit before → Reads result cursor.new.rest.now
+        (read_at true (one_of commands word.now.text.now) before cursor.old.rest.now) }
+{
     if word.is("create") {
         create(alloc, cursor)
     } else if word.is("commit") {
@@ -157,7 +173,22 @@ fn any_command<A: AllocHandle>(alloc: A, cursor: &mut Cursor<'_>) -> Result<Spel
         drop_database(alloc, cursor)
     } else if word.is("attach") {
         attach(alloc, cursor)
-    } else if word.is("enable") {
+    } else {
+        from_enable(alloc, cursor, word)
+    }
+}
+
+// Reads behind a word from `enable` on. Here are the flags of a session, its diff and its captures.
+fn from_enable<A: AllocHandle>(
+    alloc: A,
+    cursor: &mut Cursor<'_>,
+    word: &Word<'_>,
+) -> Result<Spelled<A>, LineFault>
+    ensures reads { (before : List ℕ) → word.now.misfit ≡ misfit before → Reads result cursor.new.rest.now
+        (read_at true (one_of (with_words setting flagged from_diff) word.now.text.now) before
+        cursor.old.rest.now) }
+{
+    if word.is("enable") {
         let (session, asked) = session_flag(cursor)?;
         Ok(plain(Command::enable(session, asked)))
     } else if word.is("indirect") {
@@ -174,7 +205,21 @@ fn any_command<A: AllocHandle>(alloc: A, cursor: &mut Cursor<'_>) -> Result<Spel
     } else if word.is("restart") {
         let (session, flags) = session_key_flags(cursor)?;
         Ok(Spelled::Whole(Command::restart(session), Show::Changeset(flags)))
-    } else if word.is("dump") {
+    } else {
+        from_dump(alloc, cursor, word)
+    }
+}
+
+// Reads behind a word from `dump` on. Here are the dump, and the steps with something behind their word.
+fn from_dump<A: AllocHandle>(
+    alloc: A,
+    cursor: &mut Cursor<'_>,
+    word: &Word<'_>,
+) -> Result<Spelled<A>, LineFault>
+    ensures reads { (before : List ℕ) → word.now.misfit ≡ misfit before → Reads result cursor.new.rest.now
+        (read_at true (one_of from_dump word.now.text.now) before cursor.old.rest.now) }
+{
+    if word.is("dump") {
         dump(cursor)
     } else if word.is("insert") {
         inserted(alloc, cursor)
@@ -188,7 +233,21 @@ fn any_command<A: AllocHandle>(alloc: A, cursor: &mut Cursor<'_>) -> Result<Spel
         rollback(cursor)
     } else if word.is("put") {
         put(alloc, cursor)
-    } else if word.is("drop") {
+    } else {
+        from_drop(cursor, word)
+    }
+}
+
+// Reads behind a word from `drop` on. Here are the words with a session's number alone behind them.
+fn from_drop<A: AllocHandle>(
+    cursor: &mut Cursor<'_>,
+    word: &Word<'_>,
+) -> Result<Spelled<A>, LineFault>
+    ensures reads { (before : List ℕ) → word.now.misfit ≡ misfit before → Reads result cursor.new.rest.now
+        (read_at true (one_of (with_words numbering numbered (with_words done alone [])) word.now.text.now)
+        before cursor.old.rest.now) }
+{
+    if word.is("drop") {
         let session = cursor.natural()?;
         Ok(plain(Command::drop_session(session)))
     } else if word.is("attachall") {
@@ -200,7 +259,17 @@ fn any_command<A: AllocHandle>(alloc: A, cursor: &mut Cursor<'_>) -> Result<Spel
     } else if word.is("isempty") {
         let session = cursor.natural()?;
         Ok(plain(Command::is_empty(session)))
-    } else if word.is("session") {
+    } else {
+        alone(word)
+    }
+}
+
+// The command of a word from `session` on, with nothing behind it.
+fn alone<A: AllocHandle>(word: &Word<'_>) -> Result<Spelled<A>, LineFault>
+    ensures reads { (before rest : List ℕ) → word.now.misfit ≡ misfit before → Reads result rest
+        (read_at true (one_of (with_words done alone []) word.now.text.now) before rest) }
+{
+    if word.is("session") {
         Ok(plain(Command::NewSession))
     } else if word.is("sessions") {
         Ok(plain(Command::Sessions))
