@@ -10,9 +10,8 @@ use Rattle.cap_group.specs.ChangeGroup.{GroupContent, added, all_added, and_then
 
 pub zip_push : {A B : Type 0} (R : A → B → Type 0) (xs : List A) (ys : List B) (x : A) (y : B) → AllZip R xs ys → R x y → AllZip R (xs ++ x ∷ []) (ys ++ y ∷ [])
 zip_push R [] [] x y all one = (one, tt)
-zip_push R [] (y' ∷ ys) x y all one = absurd all
-zip_push R (x' ∷ xs) [] x y all one = absurd all
 zip_push R (x' ∷ xs) (y' ∷ ys) x y all one = (all.0, zip_push R xs ys x y all.1 one)
+zip_push R xs ys x y all one = absurd all
 
 module _ {A : Type 0} where
   pub added_push : (first more last : GroupContent A) (lists : List (Contents A)) (list : Contents A) → all_added first lists ≡ Ok more → added more list ≡ Ok last → all_added first (lists ++ list ∷ []) ≡ Ok last

@@ -1,9 +1,10 @@
 -- Two records of one row, field by field, by the bytes of their fields.
-use Rattle.std.proofs.Common.{◌≡◌, ℕ, ◌+◌, ◌<◌, List, [], ◌∷◌, ◌++◌, Bool, true, false, not, ◌&&◌, ◌||◌, cond, length, drop, get_or, Option, Some, None, IfSome, refl, sym, ap, ◌∙◌}
+use Rattle.std.proofs.Common.{◌≡◌, ℕ, ◌+◌, ◌<◌, List, [], ◌∷◌, ◌++◌, Bool, true, false, not, ◌&&◌, ◌||◌, cond, length, drop, get_or, Option, Some, None, IfSome, ◌⊎◌, inl, inr, refl, sym, ap, ◌∙◌, append_assoc, append-nil}
 use Rattle.cap_value.specs.Bytes.{bytes_eq}
 use Rattle.cap_value.specs.declared.value.Value.{Value}
 use Rattle.cap_value.specs.declared.value.Value.TheVariants.{Null, Int, Text, Blob}
 use Rattle.cap_value.specs.Value.{IsValue}
+use Rattle.cap_changes.specs.ChangeBytes.{flag_byte}
 use Rattle.cap_changes.specs.Column.{by_column}
 use Rattle.cap_changes.specs.Field.{record_bytes, field_bytes}
 use Rattle.cap_changes.specs.FieldRecord.{RecordFields}
@@ -11,12 +12,16 @@ use Rattle.cap_changes.specs.Record.{BeginsWithField}
 use Rattle.cap_changes.proofs.PassLemmas.{flags-cons}
 use Rattle.cap_changes.proofs.PutLemmas.{goes_on}
 use Rattle.cap_changes.proofs.TouchedLemmas.{choose, eq_by_bytes}
+use Rattle.cap_group.specs.Put.{IsPut}
 use Rattle.cap_group.specs.Record as together
 
--- a key field, or one that is not the same
-either : (key same : Bool) → (key || not same) ≡ (key || (not key && not same))
-either true same = refl
-either false same = refl
+or_assoc : (a b c : Bool) → ((a || b) || c) ≡ (a || (b || c))
+or_assoc true b c = refl
+or_assoc false b c = refl
+
+or_none : (a b : Bool) → b ≡ false → a ≡ (a || b)
+or_none true b none = refl
+or_none false b none = sym none
 
 module _ {A : Type 0} where
   -- fields that are the same have the same bytes, and no others
@@ -41,78 +46,58 @@ module _ {A : Type 0} where
   over_self (None ∷ fields) = ap (λ (l : RecordFields A). None ∷ l) (over_self fields)
   over_self (Some v ∷ fields) = ap (λ (l : RecordFields A). Some v ∷ l) (over_self fields)
 
-  -- ---- loops over columns
-
-  module _ (f : Bool → (Option (Value A)) → (Option (Value A)) → (Option (Value A))) where
-    -- the field of one column is put
-    pub column_put : (flags : List Bool) (i : ℕ) (before befores after afters : RecordFields A) (was is piece out out' all : List ℕ) → i < length flags → BeginsWithField before was befores → BeginsWithField after is afters
-        → ((b a : (Option (Value A))) → IfSome b IsValue → IfSome a IsValue → was ≡ field_bytes b → is ≡ field_bytes a → piece ≡ field_bytes (f (get_or flags i false) b a))
-        → out' ≡ out ++ piece → out ++ record_bytes (by_column f (drop i flags) before after) ≡ all → out' ++ record_bytes (by_column f (drop (i + 1) flags) befores afters) ≡ all
-    column_put flags i before befores after afters was is piece out out' all lt (b, parts, spelled, fits) (a, parts', spelled', fits') made put so_far =
-        goes_on f flags i before after befores afters b a out out' all lt so_far parts parts' (put ∙ ap (λ (l : List ℕ). out ++ l) (made b a fits fits' spelled spelled'))
-
-  -- the old and the new field of a column
-  modified_is : (key : Bool) (b a : (Option (Value A))) → IfSome b IsValue → IfSome a IsValue → (not key && not (bytes_eq (field_bytes b) (field_bytes a))) ≡ together.is_modified key b a
+  modified_is : (key : Bool) (b a : Option (Value A)) → IfSome b IsValue → IfSome a IsValue → (not key && not (bytes_eq (field_bytes b) (field_bytes a))) ≡ together.is_modified key b a
   modified_is key b a p q = ap (λ (t : Bool). not key && not t) (field_eq_bytes b a p q)
 
-  pub old_is : (key kept : Bool) (b a : (Option (Value A))) (was is piece : List ℕ) → IfSome b IsValue → IfSome a IsValue → was ≡ field_bytes b → is ≡ field_bytes a → kept ≡ (key || not (bytes_eq was is)) →
-      piece ≡ cond kept was (0 ∷ []) → piece ≡ field_bytes (together.old_field key b a)
-  old_is key kept b a was is piece p q spelled spelled' test put =
-      let t : kept ≡ (key || together.is_modified key b a) =
-      test ∙ (λ i. key || not (bytes_eq (spelled i) (spelled' i))) ∙ either key (bytes_eq (field_bytes b) (field_bytes a)) ∙ ap (λ (m : Bool). key || m) (modified_is key b a p q) in
-      put ∙ (λ i. cond (t i) (spelled i) (0 ∷ [])) ∙ choose (key || together.is_modified key b a) b
+  -- the field of a column, in the old record or in the new one
+  piece_is : (old key : Bool) (b a : Option (Value A)) → field_bytes (together.field_of old key b a)
+      ≡ cond old (cond (key || together.is_modified key b a) (field_bytes b) (0 ∷ [])) (cond (together.is_modified key b a) (field_bytes a) (0 ∷ []))
+  piece_is true key b a = sym (choose (key || together.is_modified key b a) b)
+  piece_is false key b a = sym (choose (together.is_modified key b a) a)
 
-  pub new_is : (key kept : Bool) (b a : (Option (Value A))) (was is piece : List ℕ) → IfSome b IsValue → IfSome a IsValue → was ≡ field_bytes b → is ≡ field_bytes a → kept ≡ (not key && not (bytes_eq was is)) →
-      piece ≡ cond kept is (0 ∷ []) → piece ≡ field_bytes (together.new_field key b a)
-  new_is key kept b a was is piece p q spelled spelled' test put =
-      let t : kept ≡ together.is_modified key b a =
-      test ∙ (λ i. not key && not (bytes_eq (spelled i) (spelled' i))) ∙ modified_is key b a p q in
-      put ∙ (λ i. cond (t i) (spelled' i) (0 ∷ [])) ∙ choose (together.is_modified key b a) a
+  module _ (old : Bool) (flags : List Bool) (i : ℕ) (before befores after afters : RecordFields A) (was is : List ℕ) (modified : Bool) (within : i < length flags)
+      (begins : BeginsWithField before was befores) (begins' : BeginsWithField after is afters) (test : modified ≡ (not (get_or flags i false) && not (bytes_eq was is))) where
+    modified_here : modified ≡ together.is_modified (get_or flags i false) begins.0 begins'.0
+    modified_here =
+        test ∙ (λ k. not (get_or flags i false) && not (bytes_eq (begins.2 k) (begins'.2 k)))
+        ∙ modified_is (get_or flags i false) begins.0 begins'.0 begins.3 begins'.3
 
-  pub old_put : (flags : List Bool) (i : ℕ) (before befores after afters : RecordFields A) (was is out out' all : List ℕ) (kept : Bool) → i < length flags → BeginsWithField before was befores → BeginsWithField after is afters
-      → kept ≡ (get_or flags i false || not (bytes_eq was is)) → out' ≡ out ++ cond kept was (0 ∷ []) → out ++ record_bytes (by_column together.old_field (drop i flags) before after) ≡ all
-      → out' ++ record_bytes (by_column together.old_field (drop (i + 1) flags) befores afters) ≡ all
-  old_put flags i before befores after afters was is out out' all kept lt begins begins' test put so_far =
-      column_put together.old_field flags i before befores after afters was is (cond kept was (0 ∷ [])) out out' all lt begins begins'
-      (λ b a p q spelled spelled'. old_is (get_or flags i false) kept b a was is (cond kept was (0 ∷ [])) p q spelled spelled' test refl) put so_far
+    -- the field of a column is put
+    pub field_put : (out out' all : List ℕ) → out' ≡ out ++ cond old (cond (get_or flags i false || modified) was (0 ∷ [])) (cond modified is (0 ∷ [])) →
+        out ++ record_bytes (by_column (together.field_of old) (drop i flags) before after) ≡ all → out' ++ record_bytes (by_column (together.field_of old) (drop (i + 1) flags) befores afters) ≡ all
+    field_put out out' all put so_far =
+        goes_on (together.field_of old) flags i before after befores afters begins.0 begins'.0 out out' all within so_far begins.1 begins'.1
+        (put ∙ (λ k. out ++ cond old (cond (get_or flags i false || modified_here k) (begins.2 k) (0 ∷ [])) (cond (modified_here k) (begins'.2 k) (0 ∷ [])))
+        ∙ ap (λ (l : List ℕ). out ++ l) (sym (piece_is old (get_or flags i false) begins.0 begins'.0)))
 
-  pub new_put : (flags : List Bool) (i : ℕ) (before befores after afters : RecordFields A) (was is out out' all : List ℕ) (kept : Bool) → i < length flags → BeginsWithField before was befores → BeginsWithField after is afters
-      → kept ≡ (not (get_or flags i false) && not (bytes_eq was is)) → out' ≡ out ++ cond kept is (0 ∷ []) → out ++ record_bytes (by_column together.new_field (drop i flags) before after) ≡ all
-      → out' ++ record_bytes (by_column together.new_field (drop (i + 1) flags) befores afters) ≡ all
-  new_put flags i before befores after afters was is out out' all kept lt begins begins' test put so_far =
-      column_put together.new_field flags i before befores after afters was is (cond kept is (0 ∷ [])) out out' all lt begins begins'
-      (λ b a p q spelled spelled'. new_is (get_or flags i false) kept b a was is (cond kept is (0 ∷ [])) p q spelled spelled' test refl) put so_far
+    -- whether a column has differed so far
+    pub differ_more : (some some' all : Bool) → some' ≡ (some || modified) → (some || together.differ (drop i flags) before after) ≡ all → (some' || together.differ (drop (i + 1) flags) befores afters) ≡ all
+    differ_more some some' all more so_far =
+        let others = together.differ (drop (i + 1) flags) befores afters in
+        let here : together.differ (drop i flags) before after ≡ (modified || others) =
+        (λ k. together.differ (flags-cons flags i within k) (begins.1 k) (begins'.1 k)) ∙ ap (λ (t : Bool). t || others) (sym modified_here) in
+        ap (λ (t : Bool). t || others) more ∙ or_assoc some modified others ∙ ap (λ (t : Bool). some || t) (sym here) ∙ so_far
 
-  -- ---- whether a column differs
+  none_before : (flags : List Bool) (after : RecordFields A) → together.differ flags [] after ≡ false
+  none_before [] after = refl
+  none_before (key ∷ flags) after = refl
 
-  pub differ_more : (flags : List Bool) (i : ℕ) (before befores after afters : RecordFields A) (was is : List ℕ) → i < length flags → BeginsWithField before was befores → BeginsWithField after is afters →
-      together.differ (drop i flags) before after ≡ ((not (get_or flags i false) && not (bytes_eq was is)) || together.differ (drop (i + 1) flags) befores afters)
-  differ_more flags i before befores after afters was is lt (b, parts, spelled, fits) (a, parts', spelled', fits') =
-      (λ k. together.differ (flags-cons flags i lt k) (parts k) (parts' k))
-      ∙ ap (λ (t : Bool). t || together.differ (drop (i + 1) flags) befores afters)
-      (sym (modified_is (get_or flags i false) b a fits fits') ∙ (λ k. not (get_or flags i false) && not (bytes_eq (sym spelled k) (sym spelled' k))))
+  none_after : (flags : List Bool) (before : RecordFields A) → together.differ flags before [] ≡ false
+  none_after [] before = refl
+  none_after (key ∷ flags) [] = refl
+  none_after (key ∷ flags) (b ∷ before) = refl
 
-  -- the columns that are left, where this one does not differ
-  pub differ_left : (flags : List Bool) (i : ℕ) (before befores after afters : RecordFields A) (was is : List ℕ) (all modified : Bool) → i < length flags → BeginsWithField before was befores → BeginsWithField after is afters
-      → modified ≡ (not (get_or flags i false) && not (bytes_eq was is)) → modified ≡ false → together.differ (drop i flags) before after ≡ all → together.differ (drop (i + 1) flags) befores afters ≡ all
-  differ_left flags i before befores after afters was is all modified lt begins begins' test same so_far =
-      ap (λ (t : Bool). t || together.differ (drop (i + 1) flags) befores afters) (sym same ∙ test)
-      ∙ sym (differ_more flags i before befores after afters was is lt begins begins') ∙ so_far
+  -- one of the records ends
+  pub differ_ends : (flags : List Bool) (before after : RecordFields A) (some all : Bool) → (before ≡ []) ⊎ (after ≡ []) → (some || together.differ flags before after) ≡ all → some ≡ all
+  differ_ends flags before after some all (inl none) so_far = or_none some _ (ap (λ (b : RecordFields A). together.differ flags b after) none ∙ none_before flags after) ∙ so_far
+  differ_ends flags before after some all (inr none) so_far = or_none some _ (ap (λ (a : RecordFields A). together.differ flags before a) none ∙ none_after flags before) ∙ so_far
 
-  pub differ_here : (flags : List Bool) (i : ℕ) (before befores after afters : RecordFields A) (was is : List ℕ) (all modified : Bool) → i < length flags → BeginsWithField before was befores → BeginsWithField after is afters
-      → modified ≡ (not (get_or flags i false) && not (bytes_eq was is)) → modified ≡ true → together.differ (drop i flags) before after ≡ all → true ≡ all
-  differ_here flags i before befores after afters was is all modified lt begins begins' test other so_far =
-      ap (λ (t : Bool). t || together.differ (drop (i + 1) flags) befores afters) (sym other ∙ test)
-      ∙ sym (differ_more flags i before befores after afters was is lt begins begins') ∙ so_far
-
-  pub differ_before : (flags : List Bool) (before after : RecordFields A) → before ≡ [] → together.differ flags before after ≡ false
-  differ_before [] before after none = refl
-  differ_before (key ∷ flags) before after none = ap (λ (b : RecordFields A). together.differ (key ∷ flags) b after) none
-
-  pub differ_after : (flags : List Bool) (before after : RecordFields A) → after ≡ [] → together.differ flags before after ≡ false
-  differ_after flags before after none = ap (λ (a : RecordFields A). together.differ flags before a) none ∙ no_after_differ flags before
-    where
-      no_after_differ : (flags : List Bool) (before : RecordFields A) → together.differ flags before [] ≡ false
-      no_after_differ [] before = refl
-      no_after_differ (key ∷ flags) [] = refl
-      no_after_differ (key ∷ flags) (b ∷ before) = refl
+  -- the update is put, where a column differs
+  pub update_put : (flags : List Bool) (indirect : Bool) (before after : RecordFields A) (out mid next new : List ℕ) → together.differ flags before after ≡ true → mid ≡ out ++ 0x17 ∷ flag_byte indirect ∷ [] →
+      next ≡ mid ++ record_bytes (by_column together.old_field flags before after) → new ≡ next ++ record_bytes (by_column together.new_field flags before after) → IsPut true out new (together.update_between flags indirect before after)
+  update_put flags indirect before after out mid next new differs head old_put new_put =
+      rw differs (
+        new_put ∙ ap (λ (b : List ℕ). b ++ record_bytes (by_column together.new_field flags before after)) (old_put ∙ ap (λ (b : List ℕ). b ++ record_bytes (by_column together.old_field flags before after)) head)
+            ∙ simp (append_assoc, append-nil),
+        refl,
+      )

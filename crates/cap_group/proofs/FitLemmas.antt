@@ -1,233 +1,192 @@
--- What two changes of one row are together fits their table.
-use Rattle.std.proofs.Common.{◌≡◌, List, [], ◌∷◌, Bool, true, false, not, ◌&&◌, Option, Some, None, is_some, is_none, cond, refl}
+-- What two changes of one row are together fits their table, and is of that row.
+use Rattle.std.proofs.Common.{◌≡◌, List, [], ◌∷◌, Bool, true, false, not, ◌&&◌, Option, Some, None, cond, refl, subst, ◌∙◌}
 use Rattle.std.specs.Prelude.{IfSome, IsTrue}
+use Rattle.std.specs.List.{cons_option}
 use Rattle.std.proofs.lemmas.Bool.{and_parts, and_from}
+use Rattle.std.proofs.lemmas.Option.{IfSome_then}
 use Rattle.cap_value.specs.declared.value.Value.{Value}
 use Rattle.cap_value.specs.Value.{value_eq}
 use Rattle.cap_changes.specs.Column.{by_column}
 use Rattle.cap_changes.specs.FieldRecord.{RecordFields}
-use Rattle.cap_changes.specs.Requirements.{requirements, new_requirements, new_requirement, satisfies, satisfy}
+use Rattle.cap_changes.specs.Requirements.{requirements, requirement_of, new_requirements, new_requirement, satisfies, satisfy}
 use Rattle.cap_changes.specs.Fits.{change_fits, patch_fits}
 use Rattle.cap_changes.specs.declared.row_change.RowChange.{RowChange}
 use Rattle.cap_changes.specs.declared.row_change.RowChange.TheVariants as changed
 use Rattle.cap_changes.specs.declared.patch.Patch.{Patch}
 use Rattle.cap_changes.specs.declared.patch.Patch.TheVariants as patched
-use Rattle.cap_changes.specs.declared.field_requirement.FieldRequirement.TheVariants as required
-use Rattle.cap_changes.specs.declared.record_kind.RecordKind.TheVariants as record_kinds
+use Rattle.cap_changes.specs.declared.record_kind.RecordKind.{RecordKind}
+use Rattle.cap_changes.specs.declared.record_kind.RecordKind.TheVariants.{Full, Keyed}
 use Rattle.cap_changes.proofs.FitLemmas.{full_keyed}
+use Rattle.cap_row.specs.Fields.{Fields}
+use Rattle.cap_changes.specs.declared.field_requirement.FieldRequirement.TheVariants as required
+use Rattle.cap_group.specs.ChangeKey.{change_key, key_values, patch_key}
 use Rattle.cap_group.specs.Record.{field_over, record_over, old_field, new_field, differ, update_between}
-use Rattle.cap_group.specs.Combined.{combined, patches_combined}
+use Rattle.cap_group.specs.Combined.{KeepsKey, combined, patches_combined}
 
 pub if_some : {X : Type 0} (P : X → Type 0) (b : Bool) (x : X) → P x → IfSome (cond b (Some x) None) P
 if_some P true x p = p
 if_some P false x p = tt
 
 module _ {A : Type 0} where
-  -- a key field over a key field
-  key_over : (below above : Option (Value A)) → satisfies required.Key below ≡ true → satisfies required.Key above ≡ true → satisfies required.Key (field_over below above) ≡ true
-  key_over below None met met' = cc
-  key_over below (Some value) met met' = met'
+  -- a column fits, and has the field of another in the key
+  abbrev Fits : RecordKind → Bool → Option (Value A) → Type 0
+  Fits kind key field = satisfies (requirement_of kind key) field ≡ true
 
-  defined_over : (below above : Option (Value A)) → is_some below ≡ true → is_some (field_over below above) ≡ true
-  defined_over below None met = met
-  defined_over below (Some value) met = refl
+  abbrev FitsNew : Bool → Option (Value A) → Option (Value A) → Type 0
+  FitsNew key old new = satisfies (new_requirement (key, old)) new ≡ true
 
-  -- the key fields of a record over one with every field
-  pub full_over : (flags : List Bool) (below above : RecordFields A) → satisfy (requirements record_kinds.Full flags) below ≡ true → satisfy (requirements record_kinds.Keyed flags) above ≡ true →
-      satisfy (requirements record_kinds.Full flags) (record_over below above) ≡ true
-  full_over [] [] [] met met' = refl
-  full_over [] [] (above ∷ aboves) met met' = cc
-  full_over [] (below ∷ belows) aboves met met' = cc
-  full_over (key ∷ flags) [] aboves met met' = cc
-  full_over (key ∷ flags) (below ∷ belows) [] met met' = cc
-  full_over (true ∷ flags) (below ∷ belows) (above ∷ aboves) met met' =
-      let parts = and_parts (satisfies required.Key below) (satisfy (requirements record_kinds.Full flags) belows) met in
-      let others = and_parts (satisfies required.Key above) (satisfy (requirements record_kinds.Keyed flags) aboves) met' in
-      and_from (satisfies required.Key (field_over below above)) _ (key_over below above parts.0 others.0) (full_over flags belows aboves parts.1 others.1)
-  full_over (false ∷ flags) (below ∷ belows) (above ∷ aboves) met met' =
-      let parts = and_parts (is_some below) (satisfy (requirements record_kinds.Full flags) belows) met in
-      and_from (is_some (field_over below above)) _ (defined_over below above parts.0) (full_over flags belows aboves parts.1 met')
+  abbrev SameKey : Bool → Option (Value A) → Option (Value A) → Type 0
+  SameKey key one other = cond key one None ≡ cond key other None
 
-  -- the same over one with the key fields
-  keyed_over : (flags : List Bool) (below above : RecordFields A) → satisfy (requirements record_kinds.Keyed flags) below ≡ true → satisfy (requirements record_kinds.Keyed flags) above ≡ true →
-      satisfy (requirements record_kinds.Keyed flags) (record_over below above) ≡ true
-  keyed_over [] [] [] met met' = refl
-  keyed_over [] [] (above ∷ aboves) met met' = cc
-  keyed_over [] (below ∷ belows) aboves met met' = cc
-  keyed_over (key ∷ flags) [] aboves met met' = cc
-  keyed_over (key ∷ flags) (below ∷ belows) [] met met' = cc
-  keyed_over (true ∷ flags) (below ∷ belows) (above ∷ aboves) met met' =
-      let parts = and_parts (satisfies required.Key below) (satisfy (requirements record_kinds.Keyed flags) belows) met in
-      let others = and_parts (satisfies required.Key above) (satisfy (requirements record_kinds.Keyed flags) aboves) met' in
-      and_from (satisfies required.Key (field_over below above)) _ (key_over below above parts.0 others.0) (keyed_over flags belows aboves parts.1 others.1)
-  keyed_over (false ∷ flags) (below ∷ belows) (above ∷ aboves) met met' = keyed_over flags belows aboves met met'
+  -- the same of all columns
+  abbrev FitsRecord : RecordKind → List Bool → RecordFields A → Type 0
+  FitsRecord kind flags fields = satisfy (requirements kind flags) fields ≡ true
+
+  abbrev FitsNewRecord : List Bool → RecordFields A → RecordFields A → Type 0
+  FitsNewRecord flags old new = satisfy (new_requirements flags old) new ≡ true
+
+  abbrev HaveSameKey : List Bool → RecordFields A → RecordFields A → Type 0
+  HaveSameKey flags one other = key_values flags one ≡ key_values flags other
+
+  -- A record over one with the fields of this kind
+  over_one : (kind : RecordKind) → ((value : Value A) → Fits kind false (Some value)) → (key : Bool) (below above : Option (Value A)) → Fits kind key below → Fits Keyed key above →
+      Fits kind key (field_over below above) × SameKey key (field_over below above) above
+  over_one kind takes true below (Some value) fit fit' = (fit', refl)
+  over_one kind takes true below None fit fit' = cc
+  over_one kind takes false below None fit fit' = (fit, refl)
+  over_one kind takes false below (Some value) fit fit' = (takes value, refl)
+
+  over : (kind : RecordKind) → ((value : Value A) → Fits kind false (Some value)) → (flags : List Bool) (below above : RecordFields A) → FitsRecord kind flags below → FitsRecord Keyed flags above →
+      FitsRecord kind flags (record_over below above) × HaveSameKey flags (record_over below above) above
+  over kind takes [] [] [] fit fit' = (refl, refl)
+  over kind takes (key ∷ flags) (b ∷ below) (a ∷ above) fit fit' =
+      let parts = and_parts _ _ fit in
+      let parts' = and_parts _ _ fit' in
+      let one = over_one kind takes key b a parts.0 parts'.0 in
+      let others = over kind takes flags below above parts.1 parts'.1 in
+      (and_from _ _ one.0 others.0, λ i. cons_option (one.1 i) (others.1 i))
+  over kind takes flags below above fit fit' = cc
 
   -- the new record of an UPDATE over a row
-  none_over : (below above : Option (Value A)) → is_none above ≡ true → satisfies required.Key below ≡ true → satisfies required.Key (field_over below above) ≡ true
-  none_over below None none met = met
-  none_over below (Some value) none met = cc
+  new_over_one : (key : Bool) (below old above : Option (Value A)) → Fits Full key below → FitsNew key old above → Fits Full key (field_over below above) × SameKey key (field_over below above) below
+  new_over_one true below old None fit new = (fit, refl)
+  new_over_one true below old (Some value) fit new = cc
+  new_over_one false below old None fit new = (fit, refl)
+  new_over_one false below old (Some value) fit new = (refl, refl)
 
-  new_over : (flags : List Bool) (below old above : RecordFields A) → satisfy (requirements record_kinds.Full flags) below ≡ true → satisfy (requirements record_kinds.Keyed flags) old ≡ true →
-      satisfy (new_requirements flags old) above ≡ true → satisfy (requirements record_kinds.Full flags) (record_over below above) ≡ true
-  new_over [] [] [] [] met met' met'' = refl
-  new_over [] [] [] (above ∷ aboves) met met' met'' = cc
-  new_over [] [] (before ∷ old) aboves met met' met'' = cc
-  new_over [] (below ∷ belows) old aboves met met' met'' = cc
-  new_over (key ∷ flags) [] old aboves met met' met'' = cc
-  new_over (key ∷ flags) (below ∷ belows) [] aboves met met' met'' = cc
-  new_over (key ∷ flags) (below ∷ belows) (before ∷ old) [] met met' met'' = cc
-  new_over (true ∷ flags) (below ∷ belows) (before ∷ old) (above ∷ aboves) met met' met'' =
-      let parts = and_parts (satisfies required.Key below) (satisfy (requirements record_kinds.Full flags) belows) met in
-      let olds = and_parts (satisfies required.Key before) (satisfy (requirements record_kinds.Keyed flags) old) met' in
-      let news = and_parts (is_none above) (satisfy (new_requirements flags old) aboves) met'' in
-      and_from (satisfies required.Key (field_over below above)) _ (none_over below above news.0 parts.0) (new_over flags belows old aboves parts.1 olds.1 news.1)
-  new_over (false ∷ flags) (below ∷ belows) (before ∷ old) (above ∷ aboves) met met' met'' =
-      let parts = and_parts (is_some below) (satisfy (requirements record_kinds.Full flags) belows) met in
-      let news = and_parts (satisfies (new_requirement (false, before)) above) (satisfy (new_requirements flags old) aboves) met'' in
-      and_from (is_some (field_over below above)) _ (defined_over below above parts.0) (new_over flags belows old aboves parts.1 met' news.1)
+  new_over : (flags : List Bool) (below old above : RecordFields A) → FitsRecord Full flags below → FitsRecord Keyed flags old → FitsNewRecord flags old above →
+      FitsRecord Full flags (record_over below above) × HaveSameKey flags (record_over below above) below
+  new_over [] [] [] [] fit old_fit new = (refl, refl)
+  new_over (key ∷ flags) (b ∷ below) (o ∷ old) (a ∷ above) fit old_fit new =
+      let parts = and_parts _ _ fit in
+      let parts' = and_parts _ _ new in
+      let one = new_over_one key b o a parts.0 parts'.0 in
+      let others = new_over flags below old above parts.1 (and_parts _ _ old_fit).1 parts'.1 in
+      (and_from _ _ one.0 others.0, λ i. cons_option (one.1 i) (others.1 i))
+  new_over flags below old above fit old_fit new = cc
 
-  -- defined in both or in neither
-  abbrev pub alike : Option (Value A) → Option (Value A) → Bool
-  alike None None = true
-  alike None (Some after) = false
-  alike (Some before) None = false
-  alike (Some before) (Some after) = true
+  -- the fields of two states of a row: a key field, or one that is defined in both or in neither
+  abbrev pub alike : Bool → Option (Value A) → Option (Value A) → Bool
+  alike true before after = satisfies required.Key before
+  alike false None None = true
+  alike false (Some before) (Some after) = true
+  alike false before after = false
 
-  -- the records of two states of a row: the first has the key fields, and outside the key both have the same fields
   abbrev pub are_alike : List Bool → RecordFields A → RecordFields A → Bool
   are_alike [] [] [] = true
-  are_alike [] [] (after ∷ afters) = false
-  are_alike [] (before ∷ befores) afters = false
-  are_alike (key ∷ flags) [] afters = false
-  are_alike (key ∷ flags) (before ∷ befores) [] = false
-  are_alike (true ∷ flags) (before ∷ befores) (after ∷ afters) = satisfies required.Key before && are_alike flags befores afters
-  are_alike (false ∷ flags) (before ∷ befores) (after ∷ afters) = alike before after && are_alike flags befores afters
+  are_alike (key ∷ flags) (before ∷ befores) (after ∷ afters) = alike key before after && are_alike flags befores afters
+  are_alike flags befores afters = false
 
-  alike_defined : (before after : Option (Value A)) → is_some before ≡ true → is_some after ≡ true → alike before after ≡ true
-  alike_defined None after met met' = cc
-  alike_defined (Some before) None met met' = cc
-  alike_defined (Some before) (Some after) met met' = refl
+  rows_alike_one : (key : Bool) (before after : Option (Value A)) → Fits Full key before → Fits Full key after → alike key before after ≡ true
+  rows_alike_one true before after fit fit' = fit
+  rows_alike_one false (Some before) (Some after) fit fit' = refl
+  rows_alike_one false before after fit fit' = cc
 
-  pub rows_alike : (flags : List Bool) (befores afters : RecordFields A) → satisfy (requirements record_kinds.Full flags) befores ≡ true → satisfy (requirements record_kinds.Full flags) afters ≡ true →
-      are_alike flags befores afters ≡ true
-  rows_alike [] [] [] met met' = refl
-  rows_alike [] [] (after ∷ afters) met met' = cc
-  rows_alike [] (before ∷ befores) afters met met' = cc
-  rows_alike (key ∷ flags) [] afters met met' = cc
-  rows_alike (key ∷ flags) (before ∷ befores) [] met met' = cc
-  rows_alike (true ∷ flags) (before ∷ befores) (after ∷ afters) met met' =
-      let parts = and_parts (satisfies required.Key before) (satisfy (requirements record_kinds.Full flags) befores) met in
-      let others = and_parts (satisfies required.Key after) (satisfy (requirements record_kinds.Full flags) afters) met' in
-      and_from (satisfies required.Key before) _ parts.0 (rows_alike flags befores afters parts.1 others.1)
-  rows_alike (false ∷ flags) (before ∷ befores) (after ∷ afters) met met' =
-      let parts = and_parts (is_some before) (satisfy (requirements record_kinds.Full flags) befores) met in
-      let others = and_parts (is_some after) (satisfy (requirements record_kinds.Full flags) afters) met' in
-      and_from (alike before after) _ (alike_defined before after parts.0 others.0) (rows_alike flags befores afters parts.1 others.1)
+  rows_alike : (flags : List Bool) (befores afters : RecordFields A) → FitsRecord Full flags befores → FitsRecord Full flags afters → are_alike flags befores afters ≡ true
+  rows_alike [] [] [] fit fit' = refl
+  rows_alike (key ∷ flags) (before ∷ befores) (after ∷ afters) fit fit' =
+      let parts = and_parts _ _ fit in
+      let parts' = and_parts _ _ fit' in
+      and_from _ _ (rows_alike_one key before after parts.0 parts'.0) (rows_alike flags befores afters parts.1 parts'.1)
+  rows_alike flags befores afters fit fit' = cc
 
-  over_alike : (old new old' new' : Option (Value A)) → satisfies (new_requirement (false, old)) new ≡ true → satisfies (new_requirement (false, old')) new' ≡ true →
-      alike (field_over old' old) (field_over new new') ≡ true
-  over_alike None None None None met met' = refl
-  over_alike None None None (Some d) met met' = cc
-  over_alike None None (Some c) None met met' = cc
-  over_alike None None (Some c) (Some d) met met' = refl
-  over_alike None (Some b) old' new' met met' = cc
-  over_alike (Some a) None old' new' met met' = cc
-  over_alike (Some a) (Some b) None None met met' = refl
-  over_alike (Some a) (Some b) None (Some d) met met' = cc
-  over_alike (Some a) (Some b) (Some c) None met met' = cc
-  over_alike (Some a) (Some b) (Some c) (Some d) met met' = refl
+  updates_alike_one : (key : Bool) (old new old' new' : Option (Value A)) → Fits Keyed key old → FitsNew key old new → Fits Keyed key old' → FitsNew key old' new' →
+      (alike key (field_over old' old) (field_over new new') ≡ true) × SameKey key (field_over old' old) old
+  updates_alike_one true (Some old) new old' new' fit fits fit' fits' = (fit, refl)
+  updates_alike_one false None None None None fit fits fit' fits' = (refl, refl)
+  updates_alike_one false None None (Some c) (Some d) fit fits fit' fits' = (refl, refl)
+  updates_alike_one false (Some a) (Some b) None None fit fits fit' fits' = (refl, refl)
+  updates_alike_one false (Some a) (Some b) (Some c) (Some d) fit fits fit' fits' = (refl, refl)
+  updates_alike_one key old new old' new' fit fits fit' fits' = cc
 
-  pub updates_alike : (flags : List Bool) (old new old' new' : RecordFields A) → satisfy (requirements record_kinds.Keyed flags) old ≡ true → satisfy (new_requirements flags old) new ≡ true →
-      satisfy (requirements record_kinds.Keyed flags) old' ≡ true → satisfy (new_requirements flags old') new' ≡ true →
-      are_alike flags (record_over old' old) (record_over new new') ≡ true
-  updates_alike [] [] [] [] [] met new_met met' new_met' = refl
-  updates_alike [] [] [] [] (n' ∷ new') met new_met met' new_met' = cc
-  updates_alike [] [] [] (o' ∷ old') new' met new_met met' new_met' = cc
-  updates_alike [] [] (n ∷ new) old' new' met new_met met' new_met' = cc
-  updates_alike [] (o ∷ old) new old' new' met new_met met' new_met' = cc
-  updates_alike (key ∷ flags) [] new old' new' met new_met met' new_met' = cc
-  updates_alike (key ∷ flags) (o ∷ old) [] old' new' met new_met met' new_met' = cc
-  updates_alike (key ∷ flags) (o ∷ old) (n ∷ new) [] new' met new_met met' new_met' = cc
-  updates_alike (key ∷ flags) (o ∷ old) (n ∷ new) (o' ∷ old') [] met new_met met' new_met' = cc
-  updates_alike (true ∷ flags) (o ∷ old) (n ∷ new) (o' ∷ old') (n' ∷ new') met new_met met' new_met' =
-      let first = and_parts (satisfies required.Key o) (satisfy (requirements record_kinds.Keyed flags) old) met in
-      let first_new = and_parts (is_none n) (satisfy (new_requirements flags old) new) new_met in
-      let then = and_parts (satisfies required.Key o') (satisfy (requirements record_kinds.Keyed flags) old') met' in
-      let then_new = and_parts (is_none n') (satisfy (new_requirements flags old') new') new_met' in
-      and_from (satisfies required.Key (field_over o' o)) _ (key_over o' o then.0 first.0) (updates_alike flags old new old' new' first.1 first_new.1 then.1 then_new.1)
-  updates_alike (false ∷ flags) (o ∷ old) (n ∷ new) (o' ∷ old') (n' ∷ new') met new_met met' new_met' =
-      let first_new = and_parts (satisfies (new_requirement (false, o)) n) (satisfy (new_requirements flags old) new) new_met in
-      let then_new = and_parts (satisfies (new_requirement (false, o')) n') (satisfy (new_requirements flags old') new') new_met' in
-      and_from (alike (field_over o' o) (field_over n n')) _ (over_alike o n o' n' first_new.0 then_new.0) (updates_alike flags old new old' new' met first_new.1 met' then_new.1)
+  updates_alike : (flags : List Bool) (old new old' new' : RecordFields A) → FitsRecord Keyed flags old → FitsNewRecord flags old new → FitsRecord Keyed flags old' → FitsNewRecord flags old' new' →
+      (are_alike flags (record_over old' old) (record_over new new') ≡ true) × HaveSameKey flags (record_over old' old) old
+  updates_alike [] [] [] [] [] fit fits fit' fits' = (refl, refl)
+  updates_alike (key ∷ flags) (o ∷ old) (n ∷ new) (o' ∷ old') (n' ∷ new') fit fits fit' fits' =
+      let one = updates_alike_one key o n o' n' (and_parts _ _ fit).0 (and_parts _ _ fits).0 (and_parts _ _ fit').0 (and_parts _ _ fits').0 in
+      let others = updates_alike flags old new old' new' (and_parts _ _ fit).1 (and_parts _ _ fits).1 (and_parts _ _ fit').1 (and_parts _ _ fits').1 in
+      (and_from _ _ one.0 others.0, λ i. cons_option (one.1 i) (others.1 i))
+  updates_alike flags old new old' new' fit fits fit' fits' = cc
 
-  old_fits : (flags : List Bool) (befores afters : RecordFields A) → are_alike flags befores afters ≡ true → satisfy (requirements record_kinds.Keyed flags) (by_column old_field flags befores afters) ≡ true
-  old_fits [] [] [] h = refl
-  old_fits [] [] (after ∷ afters) h = cc
-  old_fits [] (before ∷ befores) afters h = cc
-  old_fits (key ∷ flags) [] afters h = cc
-  old_fits (key ∷ flags) (before ∷ befores) [] h = cc
-  old_fits (true ∷ flags) (before ∷ befores) (after ∷ afters) h =
-      let parts = and_parts (satisfies required.Key before) (are_alike flags befores afters) h in
-      and_from (satisfies required.Key before) _ parts.0 (old_fits flags befores afters parts.1)
-  old_fits (false ∷ flags) (before ∷ befores) (after ∷ afters) h =
-      old_fits flags befores afters (and_parts (alike before after) (are_alike flags befores afters) h).1
+  between_one : (key : Bool) (before after : Option (Value A)) → alike key before after ≡ true →
+      Fits Keyed key (old_field key before after) × FitsNew key (old_field key before after) (new_field key before after) × SameKey key (old_field key before after) before
+  between_one true before after fit = (fit, refl, refl)
+  between_one false None None fit = (refl, refl, refl)
+  between_one false (Some before) (Some after) fit =
+      elim (value_eq before after) as (λ same. let old : Option (Value A) = cond (not same) (Some before) None in Fits Keyed false old × FitsNew false old (cond (not same) (Some after) None) × SameKey false old (Some before)) [
+        | true ↦ (refl, refl, refl)
+        | false ↦ (refl, refl, refl)
+      ]
+  between_one key before after fit = cc
 
-  value_fits : (same : Bool) (before after : Value A) → satisfies (new_requirement (false, cond (not same) (Some before) None)) (cond (not same) (Some after) None) ≡ true
-  value_fits true before after = refl
-  value_fits false before after = refl
+  -- the UPDATE from one state of a row to another
+  between : (flags : List Bool) (befores afters : RecordFields A) → are_alike flags befores afters ≡ true →
+      let old = by_column old_field flags befores afters in FitsRecord Keyed flags old × FitsNewRecord flags old (by_column new_field flags befores afters) × HaveSameKey flags old befores
+  between [] [] [] fit = (refl, refl, refl)
+  between (key ∷ flags) (before ∷ befores) (after ∷ afters) fit =
+      let one = between_one key before after (and_parts _ _ fit).0 in
+      let others = between flags befores afters (and_parts _ _ fit).1 in
+      (and_from _ _ one.0 others.0, and_from _ _ one.1 others.1, λ i. cons_option (one.2 i) (others.2 i))
+  between flags befores afters fit = cc
 
-  field_fits : (before after : Option (Value A)) → alike before after ≡ true → satisfies (new_requirement (false, old_field false before after)) (new_field false before after) ≡ true
-  field_fits None None h = refl
-  field_fits None (Some after) h = cc
-  field_fits (Some before) None h = cc
-  field_fits (Some before) (Some after) h = value_fits (value_eq before after) before after
+  -- a change fits, and is of the row with this key
+  abbrev pub IsOf : List Bool → Fields A → RowChange A → Type 0
+  IsOf flags key change = IsTrue (change_fits flags change) × (change_key flags change ≡ key)
 
-  new_fits : (flags : List Bool) (befores afters : RecordFields A) → are_alike flags befores afters ≡ true →
-      satisfy (new_requirements flags (by_column old_field flags befores afters)) (by_column new_field flags befores afters) ≡ true
-  new_fits [] [] [] h = refl
-  new_fits [] [] (after ∷ afters) h = cc
-  new_fits [] (before ∷ befores) afters h = cc
-  new_fits (key ∷ flags) [] afters h = cc
-  new_fits (key ∷ flags) (before ∷ befores) [] h = cc
-  new_fits (true ∷ flags) (before ∷ befores) (after ∷ afters) h =
-      new_fits flags befores afters (and_parts (satisfies required.Key before) (are_alike flags befores afters) h).1
-  new_fits (false ∷ flags) (before ∷ befores) (after ∷ afters) h =
-      let parts = and_parts (alike before after) (are_alike flags befores afters) h in
-      and_from (satisfies (new_requirement (false, old_field false before after)) (new_field false before after)) _ (field_fits before after parts.0) (new_fits flags befores afters parts.1)
+  update_is_of : (flags : List Bool) (indirect : Bool) (befores afters : RecordFields A) → are_alike flags befores afters ≡ true → IfSome (update_between flags indirect befores afters) (IsOf flags (key_values flags befores))
+  update_is_of flags indirect befores afters fit =
+      let all = between flags befores afters fit in
+      if_some (IsOf flags (key_values flags befores)) (differ flags befores afters) _ (and_from _ _ all.0 all.1, all.2)
 
-  update_between-fits : (flags : List Bool) (indirect : Bool) (befores afters : RecordFields A) → are_alike flags befores afters ≡ true →
-      IfSome (update_between flags indirect befores afters) (λ one. IsTrue (change_fits flags one))
-  update_between-fits flags indirect befores afters h =
-      if_some (λ one. IsTrue (change_fits flags one)) (differ flags befores afters) _
-      (and_from (satisfy (requirements record_kinds.Keyed flags) (by_column old_field flags befores afters)) _ (old_fits flags befores afters h) (new_fits flags befores afters h))
+  pub combined_is_of : (flags : List Bool) (present added : RowChange A) → change_fits flags present ≡ true → change_fits flags added ≡ true → IfSome (combined flags present added) (IsOf flags (change_key flags present))
+  combined_is_of flags (changed.Insert indirect new) (changed.Update indirect' old' new') fit fit' = let parts = and_parts _ _ fit' in new_over flags new old' new' fit parts.0 parts.1
+  combined_is_of flags (changed.Insert indirect new) (changed.Delete indirect' old') fit fit' = tt
+  combined_is_of flags (changed.Update indirect old new) (changed.Update indirect' old' new') fit fit' =
+      let parts = and_parts _ _ fit in
+      let parts' = and_parts _ _ fit' in
+      let all = updates_alike flags old new old' new' parts.0 parts.1 parts'.0 parts'.1 in
+      subst (λ key. IfSome (update_between flags (indirect && indirect') (record_over old' old) (record_over new new')) (IsOf flags key)) all.1
+      (update_is_of flags (indirect && indirect') (record_over old' old) (record_over new new') all.0)
+  combined_is_of flags (changed.Update indirect old new) (changed.Delete indirect' old') fit fit' = over Full (λ value. refl) flags old' old fit' (and_parts _ _ fit).0
+  combined_is_of flags (changed.Delete indirect old) (changed.Insert indirect' new') fit fit' = update_is_of flags (indirect && indirect') old new' (rows_alike flags old new' fit fit')
+  combined_is_of flags present added fit fit' = (fit, refl)
 
-  pub combined-fits : (flags : List Bool) (present added : RowChange A) → change_fits flags present ≡ true → change_fits flags added ≡ true →
-      IfSome (combined flags present added) (λ one. IsTrue (change_fits flags one))
-  combined-fits flags (changed.Insert indirect new) (changed.Insert indirect' new') fit fit' = fit
-  combined-fits flags (changed.Insert indirect new) (changed.Update indirect' old' new') fit fit' =
-      let parts = and_parts (satisfy (requirements record_kinds.Keyed flags) old') (satisfy (new_requirements flags old') new') fit' in
-      new_over flags new old' new' fit parts.0 parts.1
-  combined-fits flags (changed.Insert indirect new) (changed.Delete indirect' old') fit fit' = tt
-  combined-fits flags (changed.Update indirect old new) (changed.Insert indirect' new') fit fit' = fit
-  combined-fits flags (changed.Update indirect old new) (changed.Update indirect' old' new') fit fit' =
-      let first = and_parts (satisfy (requirements record_kinds.Keyed flags) old) (satisfy (new_requirements flags old) new) fit in
-      let then = and_parts (satisfy (requirements record_kinds.Keyed flags) old') (satisfy (new_requirements flags old') new') fit' in
-      update_between-fits flags (indirect && indirect') (record_over old' old) (record_over new new') (updates_alike flags old new old' new' first.0 first.1 then.0 then.1)
-  combined-fits flags (changed.Update indirect old new) (changed.Delete indirect' old') fit fit' =
-      full_over flags old' old fit' (and_parts (satisfy (requirements record_kinds.Keyed flags) old) (satisfy (new_requirements flags old) new) fit).0
-  combined-fits flags (changed.Delete indirect old) (changed.Insert indirect' new') fit fit' =
-      update_between-fits flags (indirect && indirect') old new' (rows_alike flags old new' fit fit')
-  combined-fits flags (changed.Delete indirect old) (changed.Update indirect' old' new') fit fit' = fit
-  combined-fits flags (changed.Delete indirect old) (changed.Delete indirect' old') fit fit' = fit
+  pub patches_combined_is_of : (flags : List Bool) (present added : Patch A) → patch_fits flags present ≡ true → patch_fits flags added ≡ true →
+      IfSome (patches_combined present added) (λ one. IsTrue (patch_fits flags one) × (patch_key flags added ≡ patch_key flags present → patch_key flags one ≡ patch_key flags present))
+  patches_combined_is_of flags (patched.Insert indirect new) (patched.Update indirect' new') fit fit' = let all = over Full (λ value. refl) flags new new' fit fit' in (all.0, λ same. all.1 ∙ same)
+  patches_combined_is_of flags (patched.Insert indirect new) (patched.Delete indirect' key') fit fit' = tt
+  patches_combined_is_of flags (patched.Update indirect new) (patched.Update indirect' new') fit fit' = let all = over Keyed (λ value. refl) flags new new' fit fit' in (all.0, λ same. all.1 ∙ same)
+  patches_combined_is_of flags (patched.Update indirect new) (patched.Delete indirect' key') fit fit' = (fit', λ same. same)
+  patches_combined_is_of flags (patched.Delete indirect key) (patched.Insert indirect' new') fit fit' = (full_keyed flags new' fit', λ same. same)
+  patches_combined_is_of flags present added fit fit' = (fit, λ same. refl)
 
-  pub patches_combined-fits : (flags : List Bool) (present added : Patch A) → patch_fits flags present ≡ true → patch_fits flags added ≡ true →
-      IfSome (patches_combined present added) (λ one. IsTrue (patch_fits flags one))
-  patches_combined-fits flags (patched.Insert indirect new) (patched.Insert indirect' new') fit fit' = fit
-  patches_combined-fits flags (patched.Insert indirect new) (patched.Update indirect' new') fit fit' = full_over flags new new' fit fit'
-  patches_combined-fits flags (patched.Insert indirect new) (patched.Delete indirect' key') fit fit' = tt
-  patches_combined-fits flags (patched.Update indirect new) (patched.Insert indirect' new') fit fit' = fit
-  patches_combined-fits flags (patched.Update indirect new) (patched.Update indirect' new') fit fit' = keyed_over flags new new' fit fit'
-  patches_combined-fits flags (patched.Update indirect new) (patched.Delete indirect' key') fit fit' = fit'
-  patches_combined-fits flags (patched.Delete indirect key) (patched.Insert indirect' new') fit fit' = full_keyed flags new' fit'
-  patches_combined-fits flags (patched.Delete indirect key) (patched.Update indirect' new') fit fit' = fit
-  patches_combined-fits flags (patched.Delete indirect key) (patched.Delete indirect' key') fit fit' = fit
+  pub changes_keep : KeepsKey change_fits change_key (combined {A = A})
+  changes_keep flags present added change fit fit' same made = subst (λ one. IfSome one (IsOf flags (change_key flags present))) made (combined_is_of flags present added fit fit')
+
+  pub patches_keep : KeepsKey patch_fits patch_key (λ flags. patches_combined {A = A})
+  patches_keep flags present added patch fit fit' same made =
+      let all = subst (λ one. IfSome one (λ patch. IsTrue (patch_fits flags patch) × (patch_key flags added ≡ patch_key flags present → patch_key flags patch ≡ patch_key flags present))) made (patches_combined_is_of flags present added fit fit') in
+      (all.0, all.1 same)
+
+  pub combined-fits : (flags : List Bool) (present added : RowChange A) → change_fits flags present ≡ true → change_fits flags added ≡ true → IfSome (combined flags present added) (λ one. IsTrue (change_fits flags one))
+  combined-fits flags present added fit fit' = IfSome_then (combined flags present added) (combined_is_of flags present added fit fit') (λ one is. is.0)

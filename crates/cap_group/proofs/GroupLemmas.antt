@@ -1,10 +1,15 @@
--- Changes and groups that are added, one more at a time.
-use Rattle.std.proofs.Common.{◌≡◌, ℕ, ◌+◌, arith, ◌<◌, List, [], ◌∷◌, ◌++◌, length, take, drop, get_or, set, cond, Bool, true, false, Ok, Err, Result, refl, ap, sym, ◌∙◌}
-use Rattle.std.specs.Prelude.{Option, Some, None, map, not, ◌==◌}
-use Rattle.std.proofs.lemmas.List.{map-append}
+-- The tables of a changegroup, found by their names, and the groups that are added to them.
+use Rattle.std.proofs.Common.{◌≡◌, ℕ, zero, suc, ◌+◌, ◌<◌, List, [], ◌∷◌, ◌++◌, length, take, drop, get_or, set, cond, Bool, true, false, Option, Some, None, Ok, Err, Result, refl, ap, sym, ◌∙◌, arith}
+use Rattle.std.specs.Prelude.{map, not, position, ◌==◌}
 use Rattle.std.proofs.lemmas.Bool.Decides.{nat_tests}
-use Rattle.std.specs.Option.{unwrap_or}
-use Rattle.std.proofs.lemmas.List.{take_more}
+use Rattle.std.specs.Cmp.{booleans_Decides}
+use Rattle.std.proofs.lemmas.Slice.Eq.{bytes_eq-Decides, slice_eq-Decides}
+use Rattle.std.proofs.lemmas.Bool.{ltb-false}
+use Rattle.std.proofs.lemmas.List.{map-append, map-set, take_more}
+use Rattle.std.proofs.lemmas.List.Elements.{filter-append}
+use Rattle.std.proofs.lemmas.List.Quantifiers.{position-Some}
+use Rattle.std.proofs.lemmas.List.Sums.{fails_before_first, fold-append}
+use Rattle.cap_value.specs.Bytes.{bytes_eq}
 use Rattle.cap_value.specs.declared.memory.Fault.{Fault}
 use Rattle.cap_value.specs.declared.memory.Fault.TheVariants.{Refused, OutOfMemory}
 use Rattle.cap_value.specs.Memory.{LeavesUnlessMemory}
@@ -13,48 +18,20 @@ use Rattle.cap_row.specs.Schema.{flags_eq}
 use Rattle.cap_changes.specs.Entries.{TableEntries}
 use Rattle.cap_changes.proofs.LeftLemmas.{drop_here}
 use Rattle.cap_codec.specs.Writable.{has_some}
-use Rattle.cap_group.specs.KeyedChanges.{KeyedChanges, entries_of, no_changes, table_at, with_change, with_changes, with_table}
+use Rattle.cap_group.specs.KeyedChanges.{KeyedChanges, entries_of, keyed_of, no_changes, table_at, with_change, with_changes, with_table}
 use Rattle.cap_group.specs.ChangeGroup.{and_then, groups_of, with_group, with_groups}
 use Rattle.cap_group.specs.declared.refusal.GroupRefusal.{GroupRefusal}
 use Rattle.cap_group.specs.declared.refusal.GroupRefusal.TheVariants.{OtherColumns}
 
-module _ {A X : Type 0} (key : List Bool → X → Fields A) (combine : List Bool → X → X → Option X) where
-  module _ (i : ℕ) (tables : List (KeyedChanges A X)) (groups : List (TableEntries X)) (group : TableEntries X) (within : i < length groups) (is : group ≡ get_or groups i group) where
-    at_group : with_groups key combine i tables (drop i groups) ≡ with_groups key combine i tables (group ∷ drop (i + 1) groups)
-    at_group = ap (with_groups key combine i tables) (drop_here groups i group within is)
-
-    pub group_more : (next : List (KeyedChanges A X)) → has_some group.changes ≡ true → with_group key combine i tables group ≡ Ok next →
-        with_groups key combine i tables (drop i groups) ≡ with_groups key combine (i + 1) next (drop (i + 1) groups)
-    group_more next some made =
-        at_group
-        ∙ ap (λ b. cond b (and_then (with_group key combine i tables group) (λ more. with_groups key combine (i + 1) more (drop (i + 1) groups))) (with_groups key combine (i + 1) tables (drop (i + 1) groups))) some
-        ∙ ap (λ (r : Result (List (KeyedChanges A X)) GroupRefusal). and_then r (λ more. with_groups key combine (i + 1) more (drop (i + 1) groups))) made
-
-    pub group_refused : (why : GroupRefusal) → has_some group.changes ≡ true → with_group key combine i tables group ≡ Err why →
-        with_groups key combine i tables (drop i groups) ≡ Err why
-    group_refused why some made =
-        at_group
-        ∙ ap (λ b. cond b (and_then (with_group key combine i tables group) (λ more. with_groups key combine (i + 1) more (drop (i + 1) groups))) (with_groups key combine (i + 1) tables (drop (i + 1) groups))) some
-        ∙ ap (λ (r : Result (List (KeyedChanges A X)) GroupRefusal). and_then r (λ more. with_groups key combine (i + 1) more (drop (i + 1) groups))) made
-
-    pub group_empty : has_some group.changes ≡ false → with_groups key combine i tables (drop i groups) ≡ with_groups key combine (i + 1) tables (drop (i + 1) groups)
-    group_empty none =
-        at_group
-        ∙ ap (λ b. cond b (and_then (with_group key combine i tables group) (λ more. with_groups key combine (i + 1) more (drop (i + 1) groups))) (with_groups key combine (i + 1) tables (drop (i + 1) groups))) none
-
 pub flags_same : (a b : List Bool) → flags_eq a b ≡ true → a ≡ b
-flags_same [] [] e = refl
-flags_same [] (y ∷ b) e = cc
-flags_same (x ∷ a) [] e = cc
-flags_same (true ∷ a) (true ∷ b) e = ap (λ (l : List Bool). true ∷ l) (flags_same a b e)
-flags_same (true ∷ a) (false ∷ b) e = cc
-flags_same (false ∷ a) (true ∷ b) e = cc
-flags_same (false ∷ a) (false ∷ b) e = ap (λ (l : List Bool). false ∷ l) (flags_same a b e)
+flags_same a b e = (slice_eq-Decides booleans_Decides a b (flags_eq a b) refl).0 e
 
 flags_self : (a : List Bool) → flags_eq a a ≡ true
-flags_self [] = refl
-flags_self (true ∷ a) = flags_self a
-flags_self (false ∷ a) = flags_self a
+flags_self a = (slice_eq-Decides booleans_Decides a a (flags_eq a a) refl).1 refl
+
+only_none : {X : Type 0} (b : Bool) (x : X) → cond b (Some x) None ≡ None → b ≡ false
+only_none true x e = cc
+only_none false x e = refl
 
 module _ {A X : Type 0} (key : List Bool → X → Fields A) (combine : List Bool → X → X → Option X) where
   pub kept_table : (keyed : KeyedChanges A X) (changes : List X) → (with_changes key combine keyed changes).table ≡ keyed.table
@@ -65,32 +42,92 @@ module _ {A X : Type 0} (key : List Bool → X → Fields A) (combine : List Boo
   kept_schema keyed [] = refl
   kept_schema keyed (change ∷ changes) = kept_schema (with_change key combine keyed change) changes
 
-  module _ (place : ℕ) (tables : List (KeyedChanges A X)) (group : TableEntries X) where
-    -- the group of a table that is there
-    pub group_at : (u after : KeyedChanges A X) (index : ℕ) → table_at tables group.table ≡ Some u → flags_eq u.schema group.schema ≡ true → after ≡ with_changes key combine u group.changes →
-        ((t : KeyedChanges A X) → t.table ≡ group.table → with_table tables t ≡ set tables index t) → u.table ≡ group.table →
-        with_group key combine place tables group ≡ Ok (set tables index after)
-    group_at u after index at same made put named =
-        ap (λ (o : Option (KeyedChanges A X)). let t = unwrap_or o (no_changes group.table group.schema) in
-        cond (flags_eq t.schema group.schema) (Ok (with_table tables (with_changes key combine t group.changes))) (Err (OtherColumns place))) at
-        ∙ ap (λ b. cond b (Ok (with_table tables (with_changes key combine u group.changes))) (Err (OtherColumns place))) same
-        ∙ ap (λ (ts : List (KeyedChanges A X)). Ok ts) (put (with_changes key combine u group.changes) (kept_table u group.changes ∙ named) ∙ ap (set tables index) (sym made))
+  abbrev keyed : TableEntries X → KeyedChanges A X
+  keyed group = keyed_of key combine group
 
-    -- one that is refused
-    pub group_other : (u : KeyedChanges A X) → table_at tables group.table ≡ Some u → flags_eq u.schema group.schema ≡ false → with_group key combine place tables group ≡ Err (OtherColumns place)
-    group_other u at other =
-        ap (λ (o : Option (KeyedChanges A X)). let t = unwrap_or o (no_changes group.table group.schema) in
-        cond (flags_eq t.schema group.schema) (Ok (with_table tables (with_changes key combine t group.changes))) (Err (OtherColumns place))) at
-        ∙ ap (λ b. cond b (Ok (with_table tables (with_changes key combine u group.changes))) (Err (OtherColumns place))) other
+  module _ (name : List ℕ) where
+    abbrev pub named : TableEntries X → Bool
+    named group = bytes_eq group.table name
 
-    -- the group of a table that is not there yet
-    pub group_new : (after : KeyedChanges A X) → table_at tables group.table ≡ None → after ≡ with_changes key combine (no_changes group.table group.schema) group.changes →
-        ((t : KeyedChanges A X) → t.table ≡ group.table → with_table tables t ≡ tables ++ t ∷ []) → with_group key combine place tables group ≡ Ok (tables ++ after ∷ [])
-    group_new after at made push =
-        ap (λ (o : Option (KeyedChanges A X)). let t = unwrap_or o (no_changes group.table group.schema) in
-        cond (flags_eq t.schema group.schema) (Ok (with_table tables (with_changes key combine t group.changes))) (Err (OtherColumns place))) at
-        ∙ ap (λ b. cond b (Ok (with_table tables (with_changes key combine (no_changes group.table group.schema) group.changes))) (Err (OtherColumns place))) (flags_self group.schema)
-        ∙ ap (λ (ts : List (KeyedChanges A X)). Ok ts) (push (with_changes key combine (no_changes group.table group.schema) group.changes) (kept_table (no_changes group.table group.schema) group.changes) ∙ ap (λ (t : KeyedChanges A X). tables ++ t ∷ []) (sym made))
+    named_is : (group : TableEntries X) → bytes_eq (keyed group).table name ≡ named group
+    named_is group = ap (λ n. bytes_eq n name) (kept_table (no_changes group.table group.schema) group.changes)
+
+    -- the first table of the name is at the place
+    at_place : (tables : List (TableEntries X)) (i : ℕ) (d : TableEntries X) → i < length tables → named (get_or tables i d) ≡ true → ((k : ℕ) → k < i → named (get_or tables k d) ≡ false) →
+        (table_at (map keyed tables) name ≡ Some (keyed (get_or tables i d))) × ((t : KeyedChanges A X) → t.table ≡ name → with_table (map keyed tables) t ≡ set (map keyed tables) i t)
+    at_place [] i d within here before = absurd (omega arith)
+    at_place (u ∷ us) zero d within here before = (rw (named_is u, here) refl, λ t same. rw (ap (bytes_eq (keyed u).table) same ∙ named_is u ∙ here) refl)
+    at_place (u ∷ us) (suc i) d within here before =
+        let other : named u ≡ false = before 0 (omega arith) in
+        let rest = at_place us i d (omega arith) here (λ k below. before (suc k) (omega arith)) in
+        (rw (named_is u, other) rest.0, λ t same. rw (ap (bytes_eq (keyed u).table) same ∙ named_is u ∙ other) (ap (λ l. keyed u ∷ l) (rest.1 t same)))
+
+    -- there is none
+    nowhere : (tables : List (TableEntries X)) (d : TableEntries X) → ((k : ℕ) → k < length tables → named (get_or tables k d) ≡ false) →
+        (table_at (map keyed tables) name ≡ None) × ((t : KeyedChanges A X) → t.table ≡ name → with_table (map keyed tables) t ≡ map keyed tables ++ t ∷ [])
+    nowhere [] d before = (refl, λ t same. refl)
+    nowhere (u ∷ us) d before =
+        let other : named u ≡ false = before 0 (omega arith) in
+        let rest = nowhere us d (λ k below. before (suc k) (omega arith)) in
+        (rw (named_is u, other) rest.0, λ t same. rw (ap (bytes_eq (keyed u).table) same ∙ named_is u ∙ other) (ap (λ l. keyed u ∷ l) (rest.1 t same)))
+
+  -- changes that are appended are added
+  keyed_more : (group : TableEntries X) (more : List X) → keyed (record { table = group.table; schema = group.schema; changes = group.changes ++ more }) ≡ with_changes key combine (keyed group) more
+  keyed_more group more = fold-append (with_change key combine) (no_changes group.table group.schema) group.changes more
+
+  -- a group is appended to the table at the place, or refused
+  pub group_put : (place : ℕ) (tables : List (TableEntries X)) (i : ℕ) (d made group : TableEntries X) → position (named group.table) tables ≡ Some i → flags_eq (get_or tables i d).schema group.schema ≡ true →
+      made ≡ record { table = (get_or tables i d).table; schema = (get_or tables i d).schema; changes = (get_or tables i d).changes ++ group.changes } →
+      with_group key combine place (map keyed tables) group ≡ Ok (map keyed (set tables i made))
+  group_put place tables i d made group at same is =
+      let first = get_or tables i d in
+      let found = position-Some (named group.table) tables i d at in
+      let here = at_place group.table tables i d found.0 found.1 found.2 in
+      let table : (with_changes key combine (keyed first) group.changes).table ≡ group.table =
+      kept_table (keyed first) group.changes ∙ kept_table (no_changes first.table first.schema) first.changes ∙ (bytes_eq-Decides first.table group.table).0 found.1 in
+      rw (here.0, kept_schema, same, here.1 (with_changes key combine (keyed first) group.changes) table, map-set) (ap (λ t. Ok (set (map keyed tables) i t)) (sym (ap keyed is ∙ keyed_more first group.changes)))
+
+  pub group_refused_at : (place : ℕ) (tables : List (TableEntries X)) (i : ℕ) (d group : TableEntries X) → position (named group.table) tables ≡ Some i → flags_eq (get_or tables i d).schema group.schema ≡ false →
+      with_group key combine place (map keyed tables) group ≡ Err (OtherColumns place)
+  group_refused_at place tables i d group at other =
+      let found = position-Some (named group.table) tables i d at in
+      rw ((at_place group.table tables i d found.0 found.1 found.2).0, kept_schema, other) refl
+
+  -- the group of a table that is not there yet
+  pub group_new : (place : ℕ) (tables : List (KeyedChanges A X)) (group : TableEntries X) (after : KeyedChanges A X) → table_at tables group.table ≡ None → after ≡ with_changes key combine (no_changes group.table group.schema) group.changes →
+      ((t : KeyedChanges A X) → t.table ≡ group.table → with_table tables t ≡ tables ++ t ∷ []) → with_group key combine place tables group ≡ Ok (tables ++ after ∷ [])
+  group_new place tables group after at made push =
+      let none = no_changes group.table group.schema in
+      rw (at, flags_self, push (with_changes key combine none group.changes) (kept_table none group.changes), made) refl
+
+  pub group_copied : (place : ℕ) (tables : List (TableEntries X)) (group : TableEntries X) → position (named group.table) tables ≡ None → with_group key combine place (map keyed tables) group ≡ Ok (map keyed (tables ++ group ∷ []))
+  group_copied place tables group at =
+      let all = ltb-false _ _ (only_none _ _ at) in
+      let none = nowhere group.table tables group (λ k within. fails_before_first (named group.table) tables k group (omega (arith, all))) in
+      rw map-append (group_new place (map keyed tables) group (keyed group) none.0 refl none.1)
+
+  -- ---- groups that are added, one more at a time
+
+  module _ (i : ℕ) (tables : List (KeyedChanges A X)) (groups : List (TableEntries X)) (group : TableEntries X) (within : i < length groups) (is : group ≡ get_or groups i group) where
+    at_group : with_groups key combine i tables (drop i groups) ≡ with_groups key combine i tables (group ∷ drop (i + 1) groups)
+    at_group = ap (with_groups key combine i tables) (drop_here groups i group within is)
+
+    pub group_more : (next : List (KeyedChanges A X)) → has_some group.changes ≡ true → with_group key combine i tables group ≡ Ok next →
+        with_groups key combine i tables (drop i groups) ≡ with_groups key combine (i + 1) next (drop (i + 1) groups)
+    group_more next some made = at_group ∙ rw (some, made) refl
+
+    pub group_refused : (why : GroupRefusal) → has_some group.changes ≡ true → with_group key combine i tables group ≡ Err why → with_groups key combine i tables (drop i groups) ≡ Err why
+    group_refused why some made = at_group ∙ rw (some, made) refl
+
+    pub group_empty : has_some group.changes ≡ false → with_groups key combine i tables (drop i groups) ≡ with_groups key combine (i + 1) tables (drop (i + 1) groups)
+    group_empty none = at_group ∙ rw none refl
+
+-- the tables that have changes, with one more
+pub groups_more : {A X : Type 0} (f : TableEntries X → KeyedChanges A X) (tables : List (TableEntries X)) (i : ℕ) (t made : TableEntries X) → i < length tables → t ≡ get_or tables i t → made ≡ entries_of (f t) →
+    groups_of (map f (take (i + 1) tables)) ≡ groups_of (map f (take i tables)) ++ cond (has_some made.changes) (made ∷ []) []
+groups_more f tables i t made within is made_is =
+    ap (λ l. groups_of (map f l)) (take_more tables i t within ∙ ap (λ u. take i tables ++ u ∷ []) (sym is))
+    ∙ rw (map-append, map-append, filter-append, made_is) refl
 
 -- what follows from a call that left this
 pub leaves_then : {X Y E : Type 0} (result : Result (Unit {0}) (Fault E)) (answer : Result X E) (x : X) (f : X → Y) → LeavesUnlessMemory result answer x →
@@ -105,25 +142,13 @@ pub leaves_whole : {X E : Type 0} (fault : Fault E) (one whole : Result X E) (x 
 leaves_whole (Refused why) one whole x y is then = then why is
 leaves_whole OutOfMemory one whole x y is then = tt
 
+-- whether a group has changes, by how many there are
 pub some_is : {X : Type 0} (xs : List X) → has_some xs ≡ not (length xs == 0)
 some_is [] = refl
 some_is (x ∷ xs) = grind (arith, nat_tests)
 
--- the tables that have changes, with one more
-module _ {A X : Type 0} where
-  pub groups_push : (ts : List (KeyedChanges A X)) (t : KeyedChanges A X) → groups_of (ts ++ t ∷ []) ≡ groups_of ts ++ cond (has_some (entries_of t).changes) (entries_of t ∷ []) []
-  groups_push [] t = refl
-  groups_push (u ∷ us) t =
-      elim (has_some (entries_of u).changes) as (λ b. cond b (entries_of u ∷ groups_of (us ++ t ∷ [])) (groups_of (us ++ t ∷ []))
-      ≡ cond b (entries_of u ∷ groups_of us) (groups_of us) ++ cond (has_some (entries_of t).changes) (entries_of t ∷ []) []) [
-        | true ↦ ap (λ l. entries_of u ∷ l) (groups_push us t)
-        | false ↦ groups_push us t
-      ]
-
-  pub groups_more : (f : TableEntries X → KeyedChanges A X) (tables : List (TableEntries X)) (i : ℕ) (t : TableEntries X) (made : TableEntries X) → i < length tables → t ≡ get_or tables i t → made ≡ entries_of (f t) →
-      groups_of (map f (take (i + 1) tables)) ≡ groups_of (map f (take i tables)) ++ cond (has_some made.changes) (made ∷ []) []
-  groups_more f tables i t made within is made_is =
-      ap (λ l. groups_of (map f l)) (take_more tables i t within ∙ ap (λ (u : TableEntries X). take i tables ++ u ∷ []) (sym is))
-      ∙ ap groups_of (map-append f (take i tables) (t ∷ []))
-      ∙ groups_push (map f (take i tables)) (f t)
-      ∙ ap (λ (e : TableEntries X). groups_of (map f (take i tables)) ++ cond (has_some e.changes) (e ∷ []) []) (sym made_is)
+-- one element in place of another that shows the same
+pub set_same : {X Y : Type 0} (f : X → Y) (xs : List X) (i : ℕ) (x d : X) → f x ≡ f (get_or xs i d) → map f (set xs i x) ≡ map f xs
+set_same f [] i x d same = refl
+set_same f (y ∷ ys) zero x d same = ap (λ v. v ∷ map f ys) same
+set_same f (y ∷ ys) (suc i) x d same = ap (λ l. f y ∷ l) (set_same f ys i x d same)

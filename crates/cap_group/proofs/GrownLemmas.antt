@@ -82,12 +82,10 @@ module _ {X : Type 0} where
   cut_more : (i : ℕ) (ns : List ℕ) (gs : List (TableEntries X)) (d : TableEntries X) (e : ℕ) → length ns ≡ length gs → i < length gs →
       set (cut_below i ns gs) i (record { table = (get_or (cut_below i ns gs) i d).table; schema = (get_or (cut_below i ns gs) i d).schema; changes = take (get_or ns i e) (get_or (cut_below i ns gs) i d).changes })
       ≡ cut_below (suc i) ns gs
-  cut_more i [] [] d e long within = absurd (omega arith)
-  cut_more i [] (g ∷ gs) d e long within = absurd (omega arith)
-  cut_more i (n ∷ ns) [] d e long within = absurd (omega arith)
   cut_more zero (n ∷ ns) (g ∷ gs) d e long within = refl
   cut_more (suc i) (n ∷ ns) (g ∷ gs) d e long within =
       ap (λ l. record { table = g.table; schema = g.schema; changes = take n g.changes } ∷ l) (cut_more i ns gs d e (omega arith) (omega arith))
+  cut_more i ns gs d e long within = absurd (omega arith)
 
   pub cut_step : (i : ℕ) (ns : List ℕ) (gs now next : List (TableEntries X)) (g : TableEntries X) (d : TableEntries X) (e : ℕ) → length ns ≡ length gs → i < length gs → now ≡ cut_below i ns gs →
       g ≡ record { table = (get_or now i d).table; schema = (get_or now i d).schema; changes = take (get_or ns i e) (get_or now i d).changes } → next ≡ set now i g → next ≡ cut_below (i + 1) ns gs

@@ -1,9 +1,7 @@
 pub mod FitLemmas
 pub mod GroupLemmas
-pub mod TableLemmas
 pub mod RowLemmas
 pub mod RisingLemmas
-pub mod AgainLemmas
 pub mod BytesLemmas
 pub mod SameLemmas
 pub mod SortLemmas

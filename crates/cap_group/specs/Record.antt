@@ -37,6 +37,10 @@ module _ {A : Type 0} where
   abbrev pub new_field : Bool → Option (Value A) → Option (Value A) → Option (Value A)
   new_field key before after = if is_modified key before after then after else None
 
+  -- in the old record, or in the new one
+  abbrev pub field_of : Bool → Bool → Option (Value A) → Option (Value A) → Option (Value A)
+  field_of old key before after = if old then old_field key before after else new_field key before after
+
   -- whether a field outside the key differs
   abbrev pub differ : List Bool → RecordFields A → RecordFields A → Bool
   differ flags before after = list_any (λ modified. modified) (by_column is_modified flags before after)

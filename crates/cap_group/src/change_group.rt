@@ -15,7 +15,7 @@ ghost use Rattle.cap_group.specs.ChangeGroup.{empty_group, has_changes, refused_
 ghost use Rattle.cap_group.specs.Bytes.{bytes_added, contents_at};
 
 use crate::combine::Combine;
-use crate::tables::{add_groups, count_of, groups_of, merge_each};
+use crate::tables::{add_groups, count_of, groups_of, has_change, merge_each};
 use crate::{BlobRefusal, GroupRefusal};
 use cap_changes::{ChangeList, Patch, PatchList, RowChange, TableGroup};
 use cap_codec::{Contents, KeyFlags, read_blob, write_changes_with, write_patches_with};
@@ -201,12 +201,7 @@ fn read_contents<A: AllocHandle>(alloc: A, bytes: &[u8]) -> Result<Contents<A>, 
 fn has_changes<C: Combine<A> + Drop, A: AllocHandle>(groups: &[TableGroup<C, A>]) -> bool
     ensures { result ≡ has_changes groups.now }
 {
-    for group in groups {
-        if !group.changes().is_empty() {
-            return true;
-        }
-    }
-    false
+    groups.iter().any(|group| has_change(group))
 }
 
 /// The changes of blobs together, in their order (The Session Extension, "sqlite3changeset_concat"), with the

@@ -19,8 +19,6 @@ pub(crate) fn one_each<C: Combine<A> + Drop, A: AllocHandle>(
         (no_changes group.now.table group.now.schema) group.now.changes)) }
     ensures again { IfOk result (λ made. keyed_of C.key C.combined made ≡ keyed_of C.key C.combined group.now) }
 {
-    // For the proof: what changes of one row become is of that row.
-    C::keeps_key();
     let mut places = places_of(alloc, group)?;
     places.sort()?;
     let mut made = TableGroup::new(alloc, group.table().copy()?, group.schema().copy()?);
@@ -39,12 +37,16 @@ fn push_rows<C: Combine<A> + Drop, A: AllocHandle>(
     requires columns { group.old.schema ≡ flags.now }
     requires each { All (IsPlace C.key C.fits_in flags.now) places.now }
     requires sorted { IsSorted place_cmp places.now }
-    ensures { OnOk result (group.new ≡ entries_of (with_changes C.key C.combined
+    ensures made { OnOk result (group.new ≡ entries_of (with_changes C.key C.combined
         (no_changes group.old.table flags.now) (map (λ place. place.change) places.now))) }
+    ensures again { OnOk result (keyed_of C.key C.combined group.new ≡ with_changes C.key C.combined
+        (no_changes group.old.table flags.now) (map (λ place. place.change) places.now)) }
 {
     if places.is_empty() {
         return Ok(());
     }
+    // For the proof: what changes of one row become is of that row.
+    C::keeps_key();
     let mut row = Together::new(alloc, flags);
     row.add(places[0].change())?;
     for number in 1..places.len() {

@@ -106,32 +106,59 @@ pub fn push_update_between<A: AllocHandle>(
     ensures { IfOk result (λ some. IsPut some out.old.items out.new.items
         (together.update_between flags.now indirect before.now after.now)) }
 {
-    if !differ(flags, before.copy(), after.copy()) {
+    let start = out.len();
+    push_operation(out, Operation::Update, indirect)?;
+    if !push_fields(out, flags, true, before.copy(), after.copy())? {
+        out.truncate(start);
         return Ok(false);
     }
-    push_operation(out, Operation::Update, indirect)?;
-    push_old(out, flags, before.copy(), after.copy())?;
-    push_new(out, flags, before.copy(), after.copy())?;
+    push_fields(out, flags, false, before.copy(), after.copy())?;
     Ok(true)
 }
 
-fn differ<A: AllocHandle>(
+// Appends the old record of the update from one record to another, or its new record, and answers whether a
+// field outside the key differs.
+fn push_fields<A: AllocHandle>(
+    out: &mut Vec<u8, A>,
     flags: &[bool],
+    old: bool,
     before: RecordOver<'_, A>,
     after: RecordOver<'_, A>,
-) -> bool
-    ensures { result ≡ together.differ flags.now before.entry after.entry }
+) -> Result<bool, OutOfMemory>
+    ensures bytes { OnOk result (out.new.items ≡ out.old.items
+        ++ record_bytes (by_column (together.field_of old) flags.now before.entry after.entry)) }
+    ensures some { IfOk result (λ some. some ≡ together.differ flags.now before.entry after.entry) }
 {
-    let (mut before, mut after) = (before, after);
+    let (mut before, mut after, mut some) = (before, after, false);
     for key in flags {
         let (Some(was), Some(is)) = (before.next_bytes(), after.next_bytes()) else {
-            return false;
+            return Ok(some);
         };
-        if is_modified(*key, was, is) {
-            return true;
-        }
+        let modified = is_modified(*key, was, is);
+        push_field(out, old, *key, modified, was, is)?;
+        some = some || modified;
     }
-    false
+    Ok(some)
+}
+
+// Appends the field of a column in the old record, or in the new one.
+fn push_field<A: AllocHandle>(
+    out: &mut Vec<u8, A>,
+    old: bool,
+    key: bool,
+    modified: bool,
+    was: &[u8],
+    is: &[u8],
+) -> Result<(), OutOfMemory>
+    ensures { OnOk result (out.new.items ≡ out.old.items ++ (if old
+        then (if key || modified then was.now else 0 ∷ [])
+        else if modified then is.now else 0 ∷ [])) }
+{
+    if old {
+        push_if(out, key || modified, was)
+    } else {
+        push_if(out, modified, is)
+    }
 }
 
 // Whether these are the bytes of a field outside the key that differs.
@@ -139,51 +166,6 @@ fn is_modified(key: bool, was: &[u8], is: &[u8]) -> bool
     ensures { result ≡ (not key && not (bytes_eq was.now is.now)) }
 {
     !key && was != is
-}
-
-// Whether these are the bytes of a key field, or of one that differs.
-fn is_kept(key: bool, was: &[u8], is: &[u8]) -> bool
-    ensures { result ≡ (key || not (bytes_eq was.now is.now)) }
-{
-    key || was != is
-}
-
-fn push_old<A: AllocHandle>(
-    out: &mut Vec<u8, A>,
-    flags: &[bool],
-    before: RecordOver<'_, A>,
-    after: RecordOver<'_, A>,
-) -> Result<(), OutOfMemory>
-    ensures { OnOk result (out.new.items ≡ out.old.items
-        ++ record_bytes (by_column together.old_field flags.now before.entry after.entry)) }
-{
-    let (mut before, mut after) = (before, after);
-    for key in flags {
-        let (Some(was), Some(is)) = (before.next_bytes(), after.next_bytes()) else {
-            return Ok(());
-        };
-        push_if(out, is_kept(*key, was, is), was)?;
-    }
-    Ok(())
-}
-
-fn push_new<A: AllocHandle>(
-    out: &mut Vec<u8, A>,
-    flags: &[bool],
-    before: RecordOver<'_, A>,
-    after: RecordOver<'_, A>,
-) -> Result<(), OutOfMemory>
-    ensures { OnOk result (out.new.items ≡ out.old.items
-        ++ record_bytes (by_column together.new_field flags.now before.entry after.entry)) }
-{
-    let (mut before, mut after) = (before, after);
-    for key in flags {
-        let (Some(was), Some(is)) = (before.next_bytes(), after.next_bytes()) else {
-            return Ok(());
-        };
-        push_if(out, is_modified(*key, was, is), is)?;
-    }
-    Ok(())
 }
 
 /// Appends a field, or an undefined one.

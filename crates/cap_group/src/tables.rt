@@ -1,14 +1,14 @@
 //! The tables of a changegroup, in the order of their first change. Each has the changes of the blobs, one after
 //! the other.
-ghost use Rattle.std.specs.Prelude.{◌≡◌, ◌++◌, ◌∷◌, [], ◌<◌, ◌≤◌, length, map, slice_set, slice_index_or};
-ghost use Rattle.std.specs.Prelude.{IfNone, IfOk, IfSome, IsTrue, None, OnErr, OnOk, Some};
+ghost use Rattle.std.specs.Prelude.{◌≡◌, ◌++◌, ◌∷◌, [], ◌<◌, ◌≤◌, length, map, position};
+ghost use Rattle.std.specs.Prelude.{IfOk, IsTrue, OnErr, OnOk, Some};
 ghost use Rattle.cap_row.specs.Schema.{flags_eq};
-ghost use Rattle.cap_changes.specs.Entries.{AllFit, TableEntries};
+ghost use Rattle.cap_value.specs.Bytes.{bytes_eq};
+ghost use Rattle.cap_codec.specs.Writable.{has_some};
 ghost use Rattle.cap_value.specs.Memory.{LeavesUnlessMemory};
 ghost use Rattle.cap_group.specs.ChangeGroup.{groups_of, with_group, with_groups};
 ghost use Rattle.cap_group.specs.Grown.{HaveGrown, IsGrown, cut_back};
-ghost use Rattle.cap_group.specs.KeyedChanges as keyed;
-ghost use Rattle.cap_group.specs.KeyedChanges.{keyed_of, table_at, with_table};
+ghost use Rattle.cap_group.specs.KeyedChanges.{keyed_of};
 
 use crate::GroupRefusal;
 use crate::combine::Combine;
@@ -83,7 +83,7 @@ fn push_groups<C: Combine<A> + Drop, A: AllocHandle>(
     ensures grown { HaveGrown tables.old.items tables.new.items }
 {
     for (place, group) in groups.iter().enumerate() {
-        if !group.changes().is_empty() {
+        if has_change(group) {
             push_group(tables, place, group)?;
         }
     }
@@ -127,12 +127,7 @@ fn push_at<C: Combine<A> + Drop, A: AllocHandle>(
     group: &TableGroup<C, A>,
 ) -> Result<(), Fault<GroupRefusal>>
     requires within { index < length tables.old }
-    requires at { (d : TableEntries C) → table_at (map (keyed_of C.key C.combined) tables.old) group.now.table
-        ≡ Some (keyed_of C.key C.combined (slice_index_or tables.old index d)) }
-    requires named { (d : TableEntries C) → (slice_index_or tables.old index d).table ≡ group.now.table }
-    requires put { (t : keyed.KeyedChanges A C) → t.table ≡ group.now.table
-        → with_table (map (keyed_of C.key C.combined) tables.old) t
-        ≡ slice_set (map (keyed_of C.key C.combined) tables.old) index t }
+    requires at { position (λ table. bytes_eq table.table group.now.table) tables.old ≡ Some index }
     ensures content { LeavesUnlessMemory result
         (with_group C.key C.combined place (map (keyed_of C.key C.combined) tables.old) group.now)
         (map (keyed_of C.key C.combined) tables.new) }
@@ -169,27 +164,16 @@ fn index_of<C: Combine<A> + Drop, A: AllocHandle>(
     tables: &[TableGroup<C, A>],
     name: &Name<A>,
 ) -> Option<usize>
-    ensures within { IfSome result (λ i. i < length tables.now) }
-    ensures at { IfSome result (λ i. (d : TableEntries C)
-        → table_at (map (keyed_of C.key C.combined) tables.now) name.now
-        ≡ Some (keyed_of C.key C.combined (slice_index_or tables.now i d))) }
-    ensures named { IfSome result (λ i. (d : TableEntries C) → (slice_index_or tables.now i d).table ≡ name.now) }
-    ensures put { IfSome result (λ i. (t : keyed.KeyedChanges A C) → t.table ≡ name.now
-        → with_table (map (keyed_of C.key C.combined) tables.now) t
-        ≡ slice_set (map (keyed_of C.key C.combined) tables.now) i t) }
-    ensures none { IfNone result (table_at (map (keyed_of C.key C.combined) tables.now) name.now ≡ None) }
-    ensures push { IfNone result ((t : keyed.KeyedChanges A C) → t.table ≡ name.now
-        → with_table (map (keyed_of C.key C.combined) tables.now) t
-        ≡ map (keyed_of C.key C.combined) tables.now ++ t ∷ []) }
+    ensures { result ≡ position (λ table. bytes_eq table.table name.now) tables.now }
 {
-    let mut index = 0;
-    while index < tables.len() {
-        if tables[index].table() == name {
-            return Some(index);
-        }
-        index += 1;
-    }
-    None
+    tables.iter().position(|table| table.table() == name)
+}
+
+// Whether the group has a change.
+pub(crate) fn has_change<C: Combine<A> + Drop, A: AllocHandle>(group: &TableGroup<C, A>) -> bool
+    ensures { result ≡ has_some group.now.changes }
+{
+    !group.changes().is_empty()
 }
 
 // The tables that have changes, each as a group of a list with one change for each row.
@@ -202,7 +186,7 @@ pub(crate) fn groups_of<C: Combine<A> + Drop, A: AllocHandle>(
     let mut list = GroupList::new(alloc);
     for table in tables {
         let made = one_each(alloc, table)?;
-        if !made.changes().is_empty() {
+        if has_change(&made) {
             list.push(made)?;
         }
     }

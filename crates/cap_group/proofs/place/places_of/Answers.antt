@@ -1,5 +1,5 @@
 use Rattle.std.proofs.Common.{◌≡◌, List, map, ◌++◌, sym, ap, ◌∙◌, append-nil}
-use Rattle.cap_group.specs.Place.{Place, place_of}
+use Rattle.cap_group.specs.Place.{place_of}
 use Rattle.cap_group.proofs.SortLemmas.{places_fit}
 use Rattle.cap_group.proofs.place.places_of.Goals as goal
 

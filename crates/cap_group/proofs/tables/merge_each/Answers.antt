@@ -1,6 +1,6 @@
 use Rattle.std.proofs.Common.{◌∙◌}
 use Rattle.cap_group.specs.KeyedChanges.{keyed_of}
-use Rattle.cap_group.proofs.AgainLemmas.{set_same}
+use Rattle.cap_group.proofs.GroupLemmas.{set_same}
 use Rattle.cap_group.proofs.tables.merge_each.Goals as goal
 
 pub loop-number-preserved : goal.loop-number-preserved

@@ -1,7 +1,7 @@
 use Rattle.std.proofs.Common.{◌≡◌, true, false, get_or, sym, ◌∙◌}
 use Rattle.cap_row.specs.Schema.{flags_eq}
+use Rattle.cap_group.proofs.GroupLemmas.{group_put, group_refused_at}
 use Rattle.cap_group.proofs.GrownLemmas.{all_set, grown_same}
-use Rattle.cap_group.proofs.TableLemmas.{group_pushed, group_refused_at}
 use Rattle.cap_group.proofs.tables.push_at.Goals as goal
 
 pub returns-in_err-push_changes-clause-grown : goal.returns-in_err-push_changes-clause-grown
@@ -12,8 +12,7 @@ pub returns-in_ok-push_changes-clause-content : goal.returns-in_ok-push_changes-
 returns-in_ok-push_changes-clause-content g c =
     let first = get_or c.args.tables.now c.args.index c.index-tables-index.result in
     let same : flags_eq first.schema c.args.group.now.schema ≡ true = rw (c.schema.ensures.schema, c.schema-2.ensures.schema) at (sym c.eq.ensures ∙ c.if-eq.true) in
-    group_pushed g.C.Combine.key g.C.Combine.combined c.args.place c.args.tables.now c.args.index first c.push_changes.new.table c.args.group.now
-    (c.requires.at c.index-tables-index.result) (c.requires.named c.index-tables-index.result) same c.requires.put c.in_ok-push_changes.ensures.changes
+    group_put g.C.Combine.key g.C.Combine.combined c.args.place c.args.tables.now c.args.index c.index-tables-index.result c.push_changes.new.table c.args.group.now c.requires.at same c.in_ok-push_changes.ensures.changes
 
 pub returns-in_ok-push_changes-clause-grown : goal.returns-in_ok-push_changes-clause-grown
 returns-in_ok-push_changes-clause-grown g c =
@@ -23,7 +22,7 @@ pub returns-else-eq-clause-content : goal.returns-else-eq-clause-content
 returns-else-eq-clause-content g c =
     let first = get_or c.args.tables.now c.args.index c.index-tables-index.result in
     let other : flags_eq first.schema c.args.group.now.schema ≡ false = rw (c.schema.ensures.schema, c.schema-2.ensures.schema) at (sym c.eq.ensures ∙ c.if-eq.false) in
-    group_refused_at g.C.Combine.key g.C.Combine.combined c.args.place c.args.tables.now first c.args.group.now (c.requires.at c.index-tables-index.result) other
+    group_refused_at g.C.Combine.key g.C.Combine.combined c.args.place c.args.tables.now c.args.index c.index-tables-index.result c.args.group.now c.requires.at other
 
 pub returns-else-eq-clause-grown : goal.returns-else-eq-clause-grown
 returns-else-eq-clause-grown g c =

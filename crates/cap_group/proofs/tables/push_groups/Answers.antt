@@ -1,13 +1,12 @@
 use Rattle.std.proofs.Common.{◌≡◌, ◌<◌, true, false, length, map, refl, arith, sym, ◌∙◌}
-use Rattle.std.proofs.lemmas.Bool.Decides.{nat_tests}
 use Rattle.std.proofs.lemmas.Result.{err_from_is_err_and}
 use Rattle.cap_codec.specs.Writable.{has_some}
 use Rattle.cap_group.specs.ChangeGroup.{with_group}
 use Rattle.cap_group.specs.KeyedChanges.{keyed_of}
-use Rattle.cap_group.proofs.GroupLemmas.{group_empty, group_more, group_refused, leaves_whole, some_is}
+use Rattle.cap_group.proofs.GroupLemmas.{group_empty, group_more, group_refused, leaves_whole}
 use Rattle.cap_group.proofs.GrownLemmas.{all_more, all_same}
 use Rattle.cap_group.proofs.tables.push_groups.Goals as goal
-use Rattle.cap_group.proofs.tables.push_groups.Goals.{then-not-is_empty+in_ok-push_group, else-not-is_empty}
+use Rattle.cap_group.proofs.tables.push_groups.Goals.{then-has_change+in_ok-push_group, else-has_change}
 
 pub loop-place-init : goal.loop-place-init
 loop-place-init g c = record { content = refl; grown = all_same c.args.tables.now.items }
@@ -17,7 +16,7 @@ returns-in_err-push_group-clause-content g c =
     let group = c.index-groups-place.result in
     let tables = map (keyed_of g.C.Combine.key g.C.Combine.combined) c.loop-place.tables.items in
     let within : c.loop-place.place < length c.args.groups.now = omega (arith, c.loop-place-test.true) in
-    let some : has_some group.changes ≡ true = grind (arith, nat_tests, some_is group.changes, c.changes.ensures.changes, c.is_empty.ensures, c.if-not-is_empty.true) in
+    let some : has_some group.changes ≡ true = sym c.has_change.ensures ∙ c.if-has_change.true in
     let p = err_from_is_err_and c.from_residual.result c.from_residual.ensures.1 in
     rw (p.1, p.2)
     (leaves_whole c.in_err-push_group.field-0.0 (with_group g.C.Combine.key g.C.Combine.combined c.loop-place.place tables group) _ _ _ c.in_err-push_group.ensures.content
@@ -32,9 +31,9 @@ loop-place-preserved g c =
     let group = c.index-groups-place.result in
     let tables = map (keyed_of g.C.Combine.key g.C.Combine.combined) c.loop-place.tables.items in
     let within : c.loop-place.place < length c.args.groups.now = omega (arith, c.loop-place-test.true) in
-    elim c.if-not-is_empty.branch [
-      | then-not-is_empty+in_ok-push_group w ↦
-          let some : has_some group.changes ≡ true = grind (arith, nat_tests, some_is group.changes, c.changes.ensures.changes, c.is_empty.ensures, w.if-not-is_empty.true) in
+    elim c.if-has_change.branch [
+      | then-has_change+in_ok-push_group w ↦
+          let some : has_some group.changes ≡ true = sym c.has_change.ensures ∙ w.if-has_change.true in
           rw w.tables-is (record {
             content =
                 sym (group_more g.C.Combine.key g.C.Combine.combined c.loop-place.place tables c.args.groups.now group within c.index-groups-place.is
@@ -42,8 +41,8 @@ loop-place-preserved g c =
                 ∙ c.loop-place.invariant.content;
             grown = all_more c.args.tables.now.items c.loop-place.tables.items w.push_group.new.tables.items c.loop-place.invariant.grown w.push_group.ensures.grown;
           })
-      | else-not-is_empty w ↦
-          let none : has_some group.changes ≡ false = grind (arith, nat_tests, some_is group.changes, c.changes.ensures.changes, c.is_empty.ensures, w.if-not-is_empty.false) in
+      | else-has_change w ↦
+          let none : has_some group.changes ≡ false = sym c.has_change.ensures ∙ w.if-has_change.false in
           rw w.tables-is (record {
             content =
                 sym (group_empty g.C.Combine.key g.C.Combine.combined c.loop-place.place tables c.args.groups.now group within c.index-groups-place.is none)
