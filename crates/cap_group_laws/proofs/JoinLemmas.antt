@@ -79,27 +79,21 @@ module _ {A : Type 0} where
   pub insert_update : (flags : List Bool) (row now : Fields A) → length row ≡ length flags → length now ≡ length flags → key_fields flags row ≡ key_fields flags now →
       record_over (full_record row) (by_column touched.new_field flags row now) ≡ full_record now
   insert_update [] [] [] wide wide' keys = refl
-  insert_update [] [] (c ∷ now) wide wide' keys = cc
-  insert_update [] (b ∷ row) now wide wide' keys = cc
-  insert_update (key ∷ flags) [] now wide wide' keys = cc
-  insert_update (key ∷ flags) (b ∷ row) [] wide wide' keys = cc
   insert_update (true ∷ flags) (b ∷ row) (c ∷ now) wide wide' keys =
       let firsts : (b ≡ c) × (key_fields flags row ≡ key_fields flags now) = same_first keys in
       λ i. Some (firsts.0 i) ∷ insert_update flags row now (cc) (cc) firsts.1 i
   insert_update (false ∷ flags) (b ∷ row) (c ∷ now) wide wide' keys =
       λ i. over_same b c (value_eq b c) refl i ∷ insert_update flags row now (cc) (cc) keys i
+  insert_update flags row now wide wide' keys = cc
 
   -- the old values of an UPDATE over the row that is deleted
   pub update_delete : (flags : List Bool) (image row : Fields A) → length image ≡ length flags → length row ≡ length flags →
       record_over (full_record row) (by_column touched.old_field flags image row) ≡ full_record image
   update_delete [] [] [] wide wide' = refl
-  update_delete [] [] (b ∷ row) wide wide' = cc
-  update_delete [] (a ∷ image) row wide wide' = cc
-  update_delete (key ∷ flags) [] row wide wide' = cc
-  update_delete (key ∷ flags) (a ∷ image) [] wide wide' = cc
   update_delete (true ∷ flags) (a ∷ image) (b ∷ row) wide wide' = ap (λ (r : RecordFields A). Some a ∷ r) (update_delete flags image row (cc) (cc))
   update_delete (false ∷ flags) (a ∷ image) (b ∷ row) wide wide' =
       λ i. under_same a b (value_eq a b) refl i ∷ update_delete flags image row (cc) (cc) i
+  update_delete flags image row wide wide' = cc
 
   -- the columns of a row that differ in another of its states
   abbrev pub modified : List Bool → Fields A → Fields A → List Bool
@@ -113,10 +107,6 @@ module _ {A : Type 0} where
 
   full_says : (flags : List Bool) (image now : Fields A) → length image ≡ length flags → length now ≡ length flags → Says flags (full_record image) (full_record now) image now
   full_says [] [] [] wide wide' = record { old_is = refl; new_is = refl; modified_is = refl }
-  full_says [] [] (c ∷ now) wide wide' = cc
-  full_says [] (a ∷ image) now wide wide' = cc
-  full_says (key ∷ flags) [] now wide wide' = cc
-  full_says (key ∷ flags) (a ∷ image) [] wide wide' = cc
   full_says (true ∷ flags) (a ∷ image) (c ∷ now) wide wide' =
       let more = full_says flags image now (cc) (cc) in record {
         old_is = ap (λ (r : RecordFields A). Some a ∷ r) more.old_is;
@@ -129,17 +119,12 @@ module _ {A : Type 0} where
         new_is = ap (λ (r : RecordFields A). touched.new_field false a c ∷ r) more.new_is;
         modified_is = ap (λ (l : List Bool). touched.is_modified false a c ∷ l) more.modified_is;
       }
+  full_says flags image now wide wide' = cc
 
   updates_say : (flags : List Bool) (image row now : Fields A) → length image ≡ length flags → length row ≡ length flags → length now ≡ length flags →
       Says flags (record_over (by_column touched.old_field flags row now) (by_column touched.old_field flags image row))
       (record_over (by_column touched.new_field flags image row) (by_column touched.new_field flags row now)) image now
   updates_say [] [] [] [] w w' w'' = record { old_is = refl; new_is = refl; modified_is = refl }
-  updates_say [] [] [] (c ∷ now) w w' w'' = cc
-  updates_say [] [] (b ∷ row) now w w' w'' = cc
-  updates_say [] (a ∷ image) row now w w' w'' = cc
-  updates_say (key ∷ flags) [] row now w w' w'' = cc
-  updates_say (key ∷ flags) (a ∷ image) [] now w w' w'' = cc
-  updates_say (key ∷ flags) (a ∷ image) (b ∷ row) [] w w' w'' = cc
   updates_say (true ∷ flags) (a ∷ image) (b ∷ row) (c ∷ now) w w' w'' =
       let more = updates_say flags image row now (cc) (cc) (cc) in record {
         old_is = ap (λ (r : RecordFields A). Some a ∷ r) more.old_is;
@@ -152,6 +137,7 @@ module _ {A : Type 0} where
         new_is = λ i. new_column a b c (value_eq a b) (value_eq b c) refl refl i ∷ more.new_is i;
         modified_is = λ i. modified_column a b c (value_eq a b) (value_eq b c) refl refl i ∷ more.modified_is i;
       }
+  updates_say flags image row now w w' w'' = cc
 
   -- ---- rows of one key are the same where no column is modified
 
@@ -165,16 +151,13 @@ module _ {A : Type 0} where
   same_rows : (flags : List Bool) (image now : Fields A) → length image ≡ length flags → length now ≡ length flags → key_fields flags image ≡ key_fields flags now →
       list_any (λ b. b) (modified flags image now) ≡ false → image ≡ now
   same_rows [] [] [] wide wide' keys none = refl
-  same_rows [] [] (c ∷ now) wide wide' keys none = cc
-  same_rows [] (a ∷ image) now wide wide' keys none = cc
-  same_rows (key ∷ flags) [] now wide wide' keys none = cc
-  same_rows (key ∷ flags) (a ∷ image) [] wide wide' keys none = cc
   same_rows (true ∷ flags) (a ∷ image) (c ∷ now) wide wide' keys none =
       let firsts : (a ≡ c) × (key_fields flags image ≡ key_fields flags now) = same_first keys in
       λ i. firsts.0 i ∷ same_rows flags image now (cc) (cc) firsts.1 none i
   same_rows (false ∷ flags) (a ∷ image) (c ∷ now) wide wide' keys none =
       let column = not_either (value_eq a c) (list_any (λ b. b) (modified flags image now)) none in
       λ i. value_is a c column.0 i ∷ same_rows flags image now (cc) (cc) keys column.1 i
+  same_rows flags image now wide wide' keys none = cc
 
   differs : (flags : List Bool) (image now : Fields A) → length image ≡ length flags → length now ≡ length flags → key_fields flags image ≡ key_fields flags now →
       (some same : Bool) → list_any (λ b. b) (modified flags image now) ≡ some → fields_eq image now ≡ same → some ≡ not same
