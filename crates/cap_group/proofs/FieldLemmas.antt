@@ -1,5 +1,6 @@
 -- Two records of one row, field by field, by the bytes of their fields.
 use Rattle.std.proofs.Common.{◌≡◌, ℕ, ◌+◌, ◌<◌, List, [], ◌∷◌, ◌++◌, Bool, true, false, not, ◌&&◌, ◌||◌, cond, length, drop, get_or, Option, Some, None, IfSome, ◌⊎◌, inl, inr, refl, sym, ap, ◌∙◌, append_assoc, append-nil}
+use Rattle.std.proofs.Math.Bool.{or_assoc}
 use Rattle.cap_value.specs.Bytes.{bytes_eq}
 use Rattle.cap_value.specs.declared.value.Value.{Value}
 use Rattle.cap_value.specs.declared.value.Value.TheVariants.{Null, Int, Text, Blob}
@@ -14,10 +15,6 @@ use Rattle.cap_changes.proofs.PutLemmas.{goes_on}
 use Rattle.cap_changes.proofs.TouchedLemmas.{choose, eq_by_bytes}
 use Rattle.cap_group.specs.Put.{IsPut}
 use Rattle.cap_group.specs.Record as together
-
-or_assoc : (a b c : Bool) → ((a || b) || c) ≡ (a || (b || c))
-or_assoc true b c = refl
-or_assoc false b c = refl
 
 or_none : (a b : Bool) → b ≡ false → a ≡ (a || b)
 or_none true b none = refl

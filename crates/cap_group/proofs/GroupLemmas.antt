@@ -112,12 +112,9 @@ module _ {A X : Type 0} (key : List Bool → X → Fields A) (combine : List Boo
     at_group : with_groups key combine i tables (drop i groups) ≡ with_groups key combine i tables (group ∷ drop (i + 1) groups)
     at_group = ap (with_groups key combine i tables) (drop_here groups i group within is)
 
-    pub group_more : (next : List (KeyedChanges A X)) → has_some group.changes ≡ true → with_group key combine i tables group ≡ Ok next →
-        with_groups key combine i tables (drop i groups) ≡ with_groups key combine (i + 1) next (drop (i + 1) groups)
-    group_more next some made = at_group ∙ rw (some, made) refl
-
-    pub group_refused : (why : GroupRefusal) → has_some group.changes ≡ true → with_group key combine i tables group ≡ Err why → with_groups key combine i tables (drop i groups) ≡ Err why
-    group_refused why some made = at_group ∙ rw (some, made) refl
+    pub group_some : (made : Result (List (KeyedChanges A X)) GroupRefusal) → has_some group.changes ≡ true → with_group key combine i tables group ≡ made →
+        with_groups key combine i tables (drop i groups) ≡ and_then made (λ more. with_groups key combine (i + 1) more (drop (i + 1) groups))
+    group_some made some is_made = at_group ∙ rw (some, is_made) refl
 
     pub group_empty : has_some group.changes ≡ false → with_groups key combine i tables (drop i groups) ≡ with_groups key combine (i + 1) tables (drop (i + 1) groups)
     group_empty none = at_group ∙ rw none refl

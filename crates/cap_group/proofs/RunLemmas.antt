@@ -14,7 +14,7 @@ use Rattle.std.specs.Cmp.{tied_itself}
 use Rattle.std.specs.Ordering.{is_eq}
 use Rattle.std.proofs.lemmas.List.{get_or_default}
 use Rattle.cap_row.specs.Fields.{Fields}
-use Rattle.cap_row.specs.Key.{fields_cmp, fields_cmp_total, fields_cmp-Equal}
+use Rattle.cap_row.specs.Key.{fields_cmp, fields_cmp_total, fields_eq_decides}
 use Rattle.cap_tree.specs.Tree.{IsOrdered, get}
 use Rattle.cap_tree.proofs.EntryLemmas.{Each, get-past, put_entry-past, take_entry-past, reversed, sorted_nil}
 use Rattle.cap_changes.specs.Entries.{TableEntries}
@@ -27,11 +27,6 @@ use Rattle.cap_group.proofs.SortLemmas.{all_ordered}
 
 less : (i : ℕ) → (i + 1) - 1 ≡ i
 less i = omega arith
-
-pub is_Equal : (r : Ordering) → is_eq r ≡ true → r ≡ Equal
-is_Equal Less is = cc
-is_Equal Equal is = refl
-is_Equal Greater is = cc
 
 -- neither equal nor below: above
 above : (r : Ordering) → is_lt r ≡ false → is_eq (ordering_reverse r) ≡ false → r ≡ Greater
@@ -193,7 +188,7 @@ module _ {A X : Type 0} (fits : List Bool → X → Bool) (key : List Bool → X
       pub put_same : KeepsKey fits key combine → (d : Place A X) (group group' : TableEntries X) (row row' row'' : RowSoFar X) (x : X) → x ≡ p.change → IsPut i group row → place_eq (get_or all (i - 1) d) p ≡ true →
           group' ≡ group → row' ≡ row → IsAdded row' x row'' → IsPut (i + 1) group' row''
       put_same keeps d group group' row row' row'' x x_is before same group_same row_same added =
-          let e : before.k ≡ p.key = sym (before.last d) ∙ (fields_cmp-Equal (get_or all (i - 1) d).key p.key).0 (is_Equal (fields_cmp (get_or all (i - 1) d).key p.key) same) in
+          let e : before.k ≡ p.key = sym (before.last d) ∙ (fields_eq_decides (get_or all (i - 1) d).key p.key).0 same in
           let row_is = row_same ∙ before.row_is in
           record {
             es = before.es;
