@@ -37,6 +37,7 @@ impl<A: AllocHandle> Combine<A> for RowChange<A> {
         push_together(out, flags, present, added)
     }
 
+    #[tactic(auto, using(crate::proofs::FitLemmas::changes_keep))]
     fn keeps_key() {}
 
     ghost stored_again = { λ flags change bytes fits values spelled.

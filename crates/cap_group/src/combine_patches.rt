@@ -39,6 +39,7 @@ impl<A: AllocHandle> Combine<A> for Patch<A> {
         push_together(out, present, added)
     }
 
+    #[tactic(auto, using(crate::proofs::FitLemmas::patches_keep))]
     fn keeps_key() {}
 
     ghost stored_again = { λ flags change bytes fits values spelled.

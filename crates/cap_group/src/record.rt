@@ -37,6 +37,7 @@ impl<'a, A: AllocHandle> RecordOver<'a, A> {
     }
 
     /// The fields of a record alone.
+    #[tactic(auto, using(crate::proofs::FieldLemmas::over_self))]
     pub fn alone(fields: RecordRef<'a, A>) -> Self
         ensures { result ≡ fields.entry }
     {
@@ -57,6 +58,7 @@ impl<'a, A: AllocHandle> RecordOver<'a, A> {
     }
 
     // The next field, as its bytes.
+    #[tactic(auto, using(crate::proofs::FieldLemmas::over_none))]
     fn next_bytes(&mut self) -> Option<&'a [u8]>
         ensures { MatchOption result ((self.old ≡ []) × (self.new ≡ []))
             (λ field. BeginsWithField self.old field.now self.new) }

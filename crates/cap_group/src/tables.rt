@@ -170,6 +170,7 @@ fn index_of<C: Combine<A> + Drop, A: AllocHandle>(
 }
 
 // Whether the group has a change.
+#[tactic(auto, using(crate::proofs::GroupLemmas::some_is))]
 pub(crate) fn has_change<C: Combine<A> + Drop, A: AllocHandle>(group: &TableGroup<C, A>) -> bool
     ensures { result ≡ has_some group.now.changes }
 {
@@ -203,6 +204,7 @@ pub(crate) fn count_of<C: Combine<A> + Drop, A: AllocHandle>(tables: &[TableGrou
 }
 
 // Makes the changes of each table one for each row.
+#[tactic(auto, using(crate::proofs::GroupLemmas::set_same))]
 pub(crate) fn merge_each<C: Combine<A> + Drop, A: AllocHandle>(
     alloc: A,
     tables: &mut [TableGroup<C, A>],
