@@ -1,44 +1,69 @@
 -- The name and the flags of a header that was read.
-use Rattle.std.proofs.Common.{◌≡◌, ℕ, suc, ◌+◌, ◌<◌, ◌≤◌, Bool, true, false, nat_lt, nat_le, ◌&&◌, List, [], ◌∷◌, length, take, map, Some, None, Ok, refl, sym, ap, ◌∙◌, inl, inr, arith, length-take}
+use Rattle.std.proofs.Common.{◌≡◌, ℕ, zero, suc, ◌+◌, ◌<◌, ◌≤◌, Bool, true, false, nat_lt, nat_le, ◌&&◌, List, [], ◌∷◌, ◌++◌, length, take, drop, map, get_or, Some, None, Ok, if◌then◌else◌, refl, sym, ap, ◌∙◌, inl, inr, arith, add-one, length-take, length-append, drop-drop, drop-cons, take_at, drop_at, take-append-drop, lt-ltb}
 use Rattle.std.specs.Prelude.{position}
 use Rattle.std.specs.List.{list_any, position_or_len}
 use Rattle.std.specs.Str.{is_utf8}
-use Rattle.std.proofs.lemmas.Bool.{cond-true, ltb-true, and_from, le-leb, not_from_false, cases_Bool}
-use Rattle.std.proofs.lemmas.List.{length-map, take-take, length-take-le}
+use Rattle.std.proofs.lemmas.Bool.{cond-true, eqb-true, and_from, or_parts, le-leb, not_from_false}
+use Rattle.std.proofs.lemmas.List.{length-map, get_or-take, length-take-le}
+use Rattle.std.proofs.lemmas.List.Folds.{list_any_none}
+use Rattle.std.proofs.lemmas.List.Quantifiers.{position-Some}
+use Rattle.std.proofs.lemmas.List.Sums.{passes_at_first}
 use Rattle.cap_value.specs.Bytes.{is_name}
 use Rattle.cap_row.specs.Schema.{has_key, is_schema, schema_of}
+use Rattle.cap_field.specs.declared.fault.FaultKind.TheVariants.{BadName}
+use Rattle.cap_field.specs.Reading.{fault, place}
 use Rattle.cap_field.specs.FieldReading.{text_of}
-use Rattle.cap_codec.specs.HeaderReading.{is_zero}
+use Rattle.cap_codec.specs.HeaderReading.{is_zero, name_at}
 use Rattle.cap_changes.specs.ChangeReading.{is_set}
 use Rattle.cap_field.proofs.Binds.{chosen}
 
-one_more : (n : ℕ) → 1 + n ≡ suc n
-one_more n = omega arith
+-- ---- the first zero byte
 
-none_before : (p : ℕ → Bool) (xs : List ℕ) → list_any p (take (position_or_len p xs) xs) ≡ false
-none_before p [] = refl
-none_before p (x ∷ xs) = elim (cases_Bool (p x)) [
-  | inl e ↦ rw e refl
-  | inr e ↦ rw (e, one_more (position_or_len p xs), e) (none_before p xs)
-]
+-- the bytes before and behind it
+pub zero_at : (most : ℕ) (bytes : List ℕ) → position_or_len is_zero (take most bytes) < length (take most bytes)
+    → bytes ≡ take (position_or_len is_zero (take most bytes)) bytes ++ 0 ∷ drop (position_or_len is_zero (take most bytes) + 1) bytes
+zero_at most bytes lt =
+    let i = position_or_len is_zero (take most bytes) in
+    let is : get_or bytes i 0 ≡ 0 = sym (get_or-take most bytes i 0 (omega (arith, length-take most bytes))) ∙ eqb-true _ 0 (passes_at_first is_zero (take most bytes) 0 lt) in
+    let behind : drop i bytes ≡ 0 ∷ drop (i + 1) bytes = drop-cons bytes i 0 (omega (arith, length-take most bytes)) ∙ rw (is, add-one) refl in
+    sym (take-append-drop i bytes) ∙ ap (λ (b : List ℕ). take i bytes ++ b) behind
 
--- no byte before the first zero is zero
+-- no byte before it is zero
 pub no_zero_before : (bytes : List ℕ) (len : ℕ) → position is_zero (take 256 bytes) ≡ Some len → list_any is_zero (take len bytes) ≡ false
-no_zero_before bytes len e = elim (chosen (nat_lt (position_or_len is_zero (take 256 bytes)) (length (take 256 bytes))) (Some (position_or_len is_zero (take 256 bytes))) None (Some len) e) [
-  | inl (below, is) ↦
-      let lt = ltb-true _ _ below in
-      let same : position_or_len is_zero (take 256 bytes) ≡ len = cc in
-      let short : len ≤ 256 = omega (arith, length-take 256 bytes) in
-      let whole : take len (take 256 bytes) ≡ take len bytes = take-take len 256 bytes short in
-      sym (ap (list_any is_zero) whole) ∙ rw (← same) (none_before is_zero (take 256 bytes))
-  | inr (past, is) ↦ absurd cc
-]
+no_zero_before bytes len e = list_any_none is_zero (take len bytes) (λ i d lt.
+    let (within, is, before) = position-Some is_zero (take 256 bytes) len d e in
+    let below : i < len = omega (arith, lt, length-take len bytes) in
+    ap is_zero (get_or-take len bytes i d below ∙ sym (get_or-take 256 bytes i d (omega (arith, length-take 256 bytes)))) ∙ before i below)
+
+-- the one behind a name
+pub first_zero : (most : ℕ) (bytes rest : List ℕ) → length bytes < most → list_any is_zero bytes ≡ false → position_or_len is_zero (take most (bytes ++ 0 ∷ rest)) ≡ length bytes
+first_zero zero bytes rest lt none = absurd (omega arith)
+first_zero (suc most) [] rest lt none = refl
+first_zero (suc most) (byte ∷ bytes) rest lt none =
+    let parts = or_parts (is_zero byte) (list_any is_zero bytes) none in
+    let others : position_or_len is_zero (take most (bytes ++ 0 ∷ rest)) ≡ length bytes = first_zero most bytes rest (omega arith) parts.1 in
+    rw (parts.0, others) (omega arith)
+
+-- ---- a name
+
+-- what bytes with a zero byte behind them read as
+pub name_is : (total : ℕ) (name rest : List ℕ) → length name < 256 → list_any is_zero name ≡ false
+    → name_at total (name ++ 0 ∷ rest) ≡ (if nat_lt 0 (length name) && is_utf8 name then Ok (name, rest) else fault BadName (place total (name ++ 0 ∷ rest)))
+unfolding name_at
+name_is total name rest short none =
+    let at : position_or_len is_zero (take 256 (name ++ 0 ∷ rest)) ≡ length name = first_zero 256 name rest short none in
+    let within : nat_lt (length name) (length (take 256 (name ++ 0 ∷ rest))) ≡ true = lt-ltb _ _ (omega (arith, length-take 256 (name ++ 0 ∷ rest), length-append name (0 ∷ rest))) in
+    let front : take (length name) (name ++ 0 ∷ rest) ≡ name = take_at name (0 ∷ rest) (length name) refl in
+    let behind : drop (length name + 1) (name ++ 0 ∷ rest) ≡ rest = sym (drop-drop 1 (length name) (name ++ 0 ∷ rest)) ∙ ap (drop 1) (drop_at name (0 ∷ rest) (length name) refl) in
+    rw (at, within, front, behind) refl
 
 -- the bytes before the first zero are a name
 pub name_before : (bytes : List ℕ) (len : ℕ) → position is_zero (take 256 bytes) ≡ Some len → 0 < len → len < length bytes → len ≤ 255 → is_name (take len bytes) ≡ true
 name_before bytes len first some within short =
     let long : length (take len bytes) ≡ len = length-take-le len bytes (omega arith) in
     rw long (and_from (nat_le 1 len && nat_le len 255) _ (and_from (nat_le 1 len) (nat_le len 255) (le-leb 1 len some) (le-leb len 255 short)) (not_from_false _ (no_zero_before bytes len first)))
+
+-- ---- the flags
 
 pub key_is_set : (flags : List ℕ) → has_key (map is_set flags) ≡ list_any is_set flags
 key_is_set [] = refl

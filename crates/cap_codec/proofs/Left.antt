@@ -1,13 +1,14 @@
--- Reading the changes and the groups of a blob, as the loops do: what was read, and what is left.
-use Rattle.std.proofs.Common.{◌≡◌, ℕ, ◌<◌, ◌≤◌, ◌==◌, true, false, List, [], ◌∷◌, ◌++◌, length, get_or, Result, Ok, Err, refl, subst, arith}
+-- Reading the groups of a blob one after the other, as the loop does: what was read, and what is left.
+use Rattle.std.proofs.Common.{◌≡◌, ℕ, zero, suc, ◌<◌, ◌≤◌, ◌==◌, true, false, List, [], ◌∷◌, ◌++◌, length, get_or, Result, Ok, Err, refl, sym, ap, ◌∙◌, append_assoc, arith}
+use Rattle.std.proofs.lemmas.List.{append-nil}
 use Rattle.cap_field.specs.declared.fault.BlobFault.{BlobFault}
 use Rattle.cap_value.specs.declared.memory.Fault.{Fault}
 use Rattle.cap_value.specs.declared.memory.Fault.TheVariants.{Refused, OutOfMemory}
 use Rattle.cap_value.specs.Memory.{RefusesUnlessMemory}
 use Rattle.cap_field.specs.Reading.{◌>>=◌, place}
-use Rattle.cap_codec.specs.BlobReading.{wrong_kind, groups_at}
+use Rattle.cap_codec.specs.declared.read.Contents.TheVariants.{Changes, Patches}
+use Rattle.cap_codec.specs.BlobReading.{wrong_kind, group_at, patch_group_at, groups_at, blob_at}
 use Rattle.cap_changes.proofs.ChangeLoops.{behind_of, behind-is}
-use Rattle.cap_codec.proofs.Loops.{GroupsFrom, group_goes_on, group_fails, other_kind_fails, groups_run_out}
 
 -- where a step that failed makes all fail
 pub fails_on : {X Y : Type 0} (read : Result X BlobFault) (all : Result Y BlobFault) → ((f : BlobFault) → read ≡ Err f → all ≡ Err f) → (e : Fault BlobFault) → RefusesUnlessMemory e read → RefusesUnlessMemory e all
@@ -15,9 +16,9 @@ fails_on read all step (Refused f) h = step f h
 fails_on read all step OutOfMemory h = tt
 
 module _ {X : Type 0} (one_at : ℕ → List ℕ → Result (X × List ℕ) BlobFault) (kind : ℕ) where
-  -- `all` is these groups, and those that are read from these bytes
+  -- `all` is these groups, and those that are read from these bytes, of which at most `most` are left
   unfoldable pub GroupsLeft : List X → ℕ → List ℕ → Result (List X) BlobFault → Type 0
-  GroupsLeft front total rest all = GroupsFrom one_at kind front total rest all
+  GroupsLeft front total rest all = (most : ℕ) × (length rest ≤ most) × ((groups_at one_at kind most total rest >>= λ xs. Ok (front ++ xs)) ≡ all)
 
   none_in_front : (read : Result (List X) BlobFault) → (read >>= λ xs. Ok ([] ++ xs)) ≡ read
   none_in_front (Ok xs) = refl
@@ -27,25 +28,52 @@ module _ {X : Type 0} (one_at : ℕ → List ℕ → Result (X × List ℕ) Blob
   unfolding GroupsLeft
   groups_start total bytes = (length bytes, omega arith, none_in_front (groups_at one_at kind (length bytes) total bytes))
 
+  put_group : (front : List X) (x : X) (read : Result (List X) BlobFault) → ((read >>= λ xs. Ok (x ∷ xs)) >>= λ xs. Ok (front ++ xs)) ≡ (read >>= λ xs. Ok ((front ++ x ∷ []) ++ xs))
+  put_group front x (Ok xs) = ap (λ (ys : List X). Ok ys) (sym (append_assoc front (x ∷ []) xs))
+  put_group front x (Err f) = refl
+
   pub groups_go_on : (front : List X) (total : ℕ) (rest after : List ℕ) (x : X) (all : Result (List X) BlobFault) → 1 ≤ length rest → (get_or rest 0 0 == kind) ≡ true
       → one_at total (behind_of rest) ≡ Ok (x, after) → length after ≤ length (behind_of rest) → GroupsLeft front total rest all → GroupsLeft (front ++ x ∷ []) total after all
-  unfolding GroupsLeft
+  unfolding GroupsLeft groups_at
   groups_go_on front total [] after x all some same read shorter left = absurd (omega arith)
-  groups_go_on front total (byte ∷ behind) after x all some same read shorter left = group_goes_on one_at kind front total byte behind after x all same (subst (λ (b : List ℕ). one_at total b ≡ Ok (x, after)) (behind-is byte behind) read) (subst (λ (b : List ℕ). length after ≤ length b) (behind-is byte behind) shorter) left
+  groups_go_on front total (byte ∷ behind) after x all some same read shorter (zero, le, e) = absurd (omega arith)
+  groups_go_on front total (byte ∷ behind) after x all some same read shorter (suc most, le, e) =
+      let is : one_at total behind ≡ Ok (x, after) = rw behind-is at read in
+      let fewer : length after ≤ length behind = rw behind-is at shorter in
+      let one : (groups_at one_at kind (suc most) total (byte ∷ behind) >>= λ xs. Ok (front ++ xs)) ≡ (groups_at one_at kind most total after >>= λ xs. Ok ((front ++ x ∷ []) ++ xs)) = rw (same, is) (put_group front x (groups_at one_at kind most total after)) in
+      (most, omega arith, sym one ∙ e)
 
   pub groups_fail : (front : List X) (total : ℕ) (rest : List ℕ) (f : BlobFault) (all : Result (List X) BlobFault) → 1 ≤ length rest → (get_or rest 0 0 == kind) ≡ true
       → one_at total (behind_of rest) ≡ Err f → GroupsLeft front total rest all → all ≡ Err f
-  unfolding GroupsLeft
+  unfolding GroupsLeft groups_at
   groups_fail front total [] f all some same read left = absurd (omega arith)
-  groups_fail front total (byte ∷ behind) f all some same read left = group_fails one_at kind front total byte behind f all same (subst (λ (b : List ℕ). one_at total b ≡ Err f) (behind-is byte behind) read) left
+  groups_fail front total (byte ∷ behind) f all some same read (zero, le, e) = absurd (omega arith)
+  groups_fail front total (byte ∷ behind) f all some same read (suc most, le, e) =
+      let is : one_at total behind ≡ Err f = rw behind-is at read in
+      let one : (groups_at one_at kind (suc most) total (byte ∷ behind) >>= λ xs. Ok (front ++ xs)) ≡ Err f = rw (same, is) refl in sym e ∙ one
 
   pub groups_other : (front : List X) (total : ℕ) (rest : List ℕ) (all : Result (List X) BlobFault) → 1 ≤ length rest → (get_or rest 0 0 == kind) ≡ false
       → GroupsLeft front total rest all → all ≡ Err (wrong_kind (get_or rest 0 0) (place total rest))
-  unfolding GroupsLeft
+  unfolding GroupsLeft groups_at
   groups_other front total [] all some other left = absurd (omega arith)
-  groups_other front total (byte ∷ behind) all some other left = other_kind_fails one_at kind front total byte behind all other left
+  groups_other front total (byte ∷ behind) all some other (zero, le, e) = absurd (omega arith)
+  groups_other front total (byte ∷ behind) all some other (suc most, le, e) =
+      let one : (groups_at one_at kind (suc most) total (byte ∷ behind) >>= λ xs. Ok (front ++ xs)) ≡ Err (wrong_kind byte (place total (byte ∷ behind))) = rw other refl in sym e ∙ one
 
   pub groups_stop : (front : List X) (total : ℕ) (rest : List ℕ) (all : Result (List X) BlobFault) → length rest < 1 → GroupsLeft front total rest all → all ≡ Ok front
-  unfolding GroupsLeft
-  groups_stop front total [] all none left = groups_run_out one_at kind front total all left
+  unfolding GroupsLeft groups_at
+  groups_stop front total [] all none (zero, le, e) = sym e ∙ ap (λ (ys : List X). Ok ys) (append-nil front)
+  groups_stop front total [] all none (suc most, le, e) = sym e ∙ ap (λ (ys : List X). Ok ys) (append-nil front)
   groups_stop front total (byte ∷ behind) all none left = absurd (omega arith)
+
+module _ {A : Type 0} where
+  -- by its first byte a blob is read as a changeset or as a patchset
+  pub changes_are : (bytes : List ℕ) → 1 ≤ length bytes → get_or bytes 0 0 ≡ 0x54 → blob_at {A = A} bytes ≡ (groups_at group_at 0x54 (length bytes) (length bytes) bytes >>= (λ groups. Ok (Changes groups)))
+  unfolding blob_at
+  changes_are [] some first = absurd (omega arith)
+  changes_are (byte ∷ bytes) some first = rw first refl
+
+  pub patches_are : (bytes : List ℕ) → 1 ≤ length bytes → get_or bytes 0 0 ≡ 0x50 → blob_at {A = A} bytes ≡ (groups_at patch_group_at 0x50 (length bytes) (length bytes) bytes >>= (λ groups. Ok (Patches groups)))
+  unfolding blob_at
+  patches_are [] some first = absurd (omega arith)
+  patches_are (byte ∷ bytes) some first = rw first refl

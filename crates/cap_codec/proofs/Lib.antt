@@ -1,4 +1,3 @@
-pub mod Loops
 pub mod Left
 pub mod HeaderLemmas
 pub mod KeyFlagLemmas
@@ -6,6 +5,5 @@ pub mod BlobAgain
 pub mod SpelledBlob
 pub mod Steady
 pub mod Looking
-pub mod Short
 pub mod StreamLemmas
 pub mod WriteLemmas

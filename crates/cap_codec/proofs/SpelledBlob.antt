@@ -1,5 +1,5 @@
 -- What was read is spelled by the bytes that were read: headers, groups and blobs.
-use Rattle.std.proofs.Common.{◌≡◌, ℕ, zero, suc, ◌+◌, ◌<◌, ◌≤◌, inl, inr, Bool, true, false, cond, nat_lt, nat_le, ◌==◌, ◌&&◌, ◌||◌, List, [], ◌∷◌, ◌++◌, length, take, drop, map, position, Option, Some, None, IfOk, Result, Ok, Err, IsTrue, IsUtf8, refl, sym, ap, subst, ◌∙◌, append_assoc, arith, lt-ltb, le-ltb, length-take, length-append}
+use Rattle.std.proofs.Common.{◌≡◌, ℕ, zero, suc, ◌+◌, ◌≤◌, inl, inr, Bool, true, nat_lt, nat_le, ◌==◌, ◌&&◌, ◌||◌, List, [], ◌∷◌, ◌++◌, length, take, drop, map, position, Option, Some, None, IfOk, Result, Ok, Err, IsTrue, IsUtf8, refl, sym, ap, subst, ◌∙◌, append_assoc, arith, lt-ltb, le-ltb, length-take, length-append}
 use Rattle.std.specs.List.{list_any, position_or_len}
 use Rattle.std.specs.Str.{is_utf8}
 use Rattle.std.proofs.lemmas.Bool.{and_parts, or_parts, ltb-true, ltb-false, eqb-true, eqb-false, cases_lt}
@@ -14,21 +14,21 @@ use Rattle.cap_field.specs.declared.fault.BlobFault.{BlobFault}
 use Rattle.cap_codec.specs.declared.read.Contents.{Contents}
 use Rattle.cap_codec.specs.declared.read.Contents.TheVariants.{Changes, Patches}
 use Rattle.cap_codec.specs.HeaderReading.{Header, is_zero, count_at, flags_at, named_at, name_at, header_at}
-use Rattle.cap_changes.specs.ChangeReading.{is_set}
+use Rattle.cap_changes.specs.ChangeReading.{is_set, change_at, patch_at, changes_at}
 use Rattle.cap_codec.specs.Pieces.{lasting}
 use Rattle.cap_field.specs.Reading.{◌>>=◌, bytes_at, varint_at}
 use Rattle.cap_field.specs.Varint.{varint_bytes}
 use Rattle.cap_changes.specs.Operation.{is_operation}
-use Rattle.cap_changes.specs.ChangeReading.{change_at, patch_at, changes_at}
 use Rattle.cap_changes.specs.Entries.{TableEntries}
 use Rattle.cap_codec.specs.BlobReading.{entries_at, group_at, patch_group_at, groups_at, blob_at}
 use Rattle.cap_changes.specs.Spelling.{SpellsEach, SpellsChange, SpellsPatch}
 use Rattle.cap_codec.specs.Spelling.{SpellsGroup, SpellsChanges, SpellsPatches, Spells}
 use Rattle.cap_codec.specs.Writable.{IsTable}
 use Rattle.cap_field.proofs.Binds.{bind_ok, guard_ok, check_ok, chosen, ok_is}
-use Rattle.cap_codec.proofs.HeaderLemmas.{key_is_set, is_schema_of, name_before}
+use Rattle.cap_codec.proofs.HeaderLemmas.{zero_at, key_is_set, is_schema_of, name_before}
 use Rattle.cap_field.proofs.Spelled.{AreLow, low_behind, varint_spelled, bytes_spelled}
 use Rattle.cap_codec.proofs.BlobAgain.{blob_again}
+use Rattle.cap_codec.proofs.Left.{changes_are, patches_are}
 use Rattle.cap_changes.proofs.ChangeSpelled.{Begins, change_spelled, patch_spelled, each_spelled}
 
 -- ---- headers
@@ -52,32 +52,6 @@ flags_spelled total count bytes x e =
     let parts = bytes_spelled total count bytes flags.0 flags.1 in
     subst (λ (y : List ℕ × List ℕ). (list_any is_set y.0 ≡ true) × (length y.0 ≡ count) × (bytes ≡ y.0 ++ y.1)) (ok_is flags.0 x keyed.1) (keyed.0, parts.1, parts.0)
 
-one_more : (n : ℕ) → 1 + n ≡ suc n
-one_more n = omega arith
-
-two_more : (n : ℕ) → 1 + n + 1 ≡ suc (n + 1)
-two_more n = omega arith
-
--- the first zero byte, with the bytes before and behind it
-pub zero_at : (most : ℕ) (bytes : List ℕ) → position_or_len is_zero (take most bytes) < length (take most bytes)
-    → bytes ≡ take (position_or_len is_zero (take most bytes)) bytes ++ 0 ∷ drop (position_or_len is_zero (take most bytes) + 1) bytes
-zero_at zero bytes lt = absurd (omega arith)
-zero_at (suc most) [] lt = absurd (omega arith)
-zero_at (suc most) (byte ∷ bytes) lt = first (is_zero byte) refl (λ below. zero_at most bytes below) lt
-  where
-    first : (b : Bool) → is_zero byte ≡ b → (position_or_len is_zero (take most bytes) < length (take most bytes)
-        → bytes ≡ take (position_or_len is_zero (take most bytes)) bytes ++ 0 ∷ drop (position_or_len is_zero (take most bytes) + 1) bytes)
-        → position_or_len is_zero (byte ∷ take most bytes) < suc (length (take most bytes))
-        → byte ∷ bytes ≡ take (position_or_len is_zero (byte ∷ take most bytes)) (byte ∷ bytes) ++ 0 ∷ drop (position_or_len is_zero (byte ∷ take most bytes) + 1) (byte ∷ bytes)
-    first true e others lt' = rw e (ap (λ (k : ℕ). k ∷ bytes) (eqb-true byte 0 e))
-    first false e others lt' =
-        let below : 1 + position_or_len is_zero (take most bytes) < suc (length (take most bytes)) = rw e at lt' in
-        rw (e, two_more (position_or_len is_zero (take most bytes)), one_more (position_or_len is_zero (take most bytes))) (ap (λ (b : List ℕ). byte ∷ b) (others (omega arith)))
-
-no_name : {X : Type 0} (b : Bool) (f g : BlobFault) (x : X) → cond b (Err f) (Err g) ≡ Ok x → ⊥
-no_name true f g x e = cc
-no_name false f g x e = cc
-
 abbrev IsNamed : List ℕ → List ℕ × List ℕ → Type 0
 IsNamed bytes x = IsTrue (is_name x.0) × IsUtf8 x.0 × (bytes ≡ x.0 ++ 0 ∷ x.1)
 
@@ -95,7 +69,7 @@ name_spelled total bytes x e = elim (cases_lt (position_or_len is_zero (take 256
   | inr none ↦
       let nowhere : position is_zero (take 256 bytes) ≡ None = rw (le-ltb _ _ none) refl in
       let read : named_at total bytes None ≡ Ok x = subst (λ (o : Option ℕ). named_at total bytes o ≡ Ok x) nowhere e in
-      absurd (no_name (nat_le (length bytes) 255) _ _ x read)
+      absurd (elim (chosen (nat_le (length bytes) 255) _ _ _ read) [ inl (cut, h) ↦ cc | inr (long, h) ↦ cc ])
 ]
 
 abbrev IsHeader : List ℕ → Header × List ℕ → Type 0
@@ -195,17 +169,14 @@ module _ {A : Type 0} where
   blob_spelled [] blob low e = subst (λ (b : Contents A). Spells b []) (ok_is (Changes []) blob e) refl
   blob_spelled (kind ∷ bytes) blob low e = elim (chosen (kind == 0x54) _ _ _ e) [
     | inl (of_changes, h) ↦
-        let groups = bind_ok (groups_at group_at kind (length (kind ∷ bytes)) (length (kind ∷ bytes)) (kind ∷ bytes)) (λ groups. Ok (Changes groups)) blob h in
-        let read : groups_at group_at 0x54 (length (kind ∷ bytes)) (length (kind ∷ bytes)) (kind ∷ bytes) ≡ Ok groups.0 =
-        subst (λ (k : ℕ). groups_at group_at k (length (kind ∷ bytes)) (length (kind ∷ bytes)) (kind ∷ bytes) ≡ Ok groups.0) (eqb-true kind 0x54 of_changes) groups.1 in
+        let first = changes_are (kind ∷ bytes) (omega arith) (eqb-true kind 0x54 of_changes) in
+        let groups = bind_ok (groups_at group_at 0x54 (length (kind ∷ bytes)) (length (kind ∷ bytes)) (kind ∷ bytes)) (λ groups. Ok (Changes groups)) blob (sym first ∙ e) in
         subst (λ (b : Contents A). Spells b (kind ∷ bytes)) (ok_is (Changes groups.0) blob groups.2)
-        (groups_spelled group_at 0x54 SpellsChanges group_spelled (length (kind ∷ bytes)) (length (kind ∷ bytes)) (kind ∷ bytes) groups.0 low (omega arith) read)
-    | inr (other, h0) ↦
-        let patchset = check_ok (kind == 0x50) _ _ blob h0 in
-        let groups = bind_ok (groups_at patch_group_at kind (length (kind ∷ bytes)) (length (kind ∷ bytes)) (kind ∷ bytes)) (λ groups. Ok (Patches groups)) blob patchset.1 in
-        let read : groups_at patch_group_at 0x50 (length (kind ∷ bytes)) (length (kind ∷ bytes)) (kind ∷ bytes) ≡ Ok groups.0 =
-        subst (λ (k : ℕ). groups_at patch_group_at k (length (kind ∷ bytes)) (length (kind ∷ bytes)) (kind ∷ bytes) ≡ Ok groups.0) (eqb-true kind 0x50 patchset.0) groups.1 in
-        let spelled = groups_spelled patch_group_at 0x50 SpellsPatches patch_group_spelled (length (kind ∷ bytes)) (length (kind ∷ bytes)) (kind ∷ bytes) groups.0 low (omega arith) read in
+        (groups_spelled group_at 0x54 SpellsChanges group_spelled (length (kind ∷ bytes)) (length (kind ∷ bytes)) (kind ∷ bytes) groups.0 low (omega arith) groups.1)
+    | inr (other, h) ↦
+        let first = patches_are (kind ∷ bytes) (omega arith) (eqb-true kind 0x50 (check_ok (kind == 0x50) _ _ blob h).0) in
+        let groups = bind_ok (groups_at patch_group_at 0x50 (length (kind ∷ bytes)) (length (kind ∷ bytes)) (kind ∷ bytes)) (λ groups. Ok (Patches groups)) blob (sym first ∙ e) in
+        let spelled = groups_spelled patch_group_at 0x50 SpellsPatches patch_group_spelled (length (kind ∷ bytes)) (length (kind ∷ bytes)) (kind ∷ bytes) groups.0 low (omega arith) groups.1 in
         subst (λ (b : Contents A). Spells b (kind ∷ bytes)) (ok_is (Patches groups.0) blob groups.2) (spelled, some_groups kind bytes groups.0 spelled)
   ]
 

@@ -1,23 +1,27 @@
--- A part that was read, and a fault other than `Truncated`, stay as they are where more bytes follow.
-use Rattle.std.proofs.Common.{◌≡◌, ℕ, zero, suc, ◌+◌, ◌-◌, ◌*◌, ◌<◌, ◌≤◌, Bool, true, false, not, nat_lt, nat_le, ◌==◌, ◌&&◌, ◌||◌, List, [], ◌∷◌, ◌++◌, length, take, position, Result, Ok, Err, refl, sym, ap, subst, ◌∙◌, inl, inr, arith, append_assoc, length-append, length-take, take-append-drop, lt-ltb, le-ltb, le-leb}
+-- What was read, and a fault other than `Truncated`, stay as they are where more bytes follow. What ends early
+-- still does, while fewer bytes follow than it lacks.
+use Rattle.std.proofs.Common.{◌≡◌, ℕ, ◌+◌, ◌-◌, ◌*◌, ◌<◌, ◌≤◌, Bool, true, false, not, cond, nat_lt, nat_le, ◌==◌, ◌&&◌, ◌||◌, List, [], ◌∷◌, ◌++◌, length, take, drop, Result, Ok, Err, if◌then◌else◌, refl, sym, ap, subst, ◌∙◌, inl, inr, arith, append_assoc, append-nil, length-append, length-take, take-append-drop, lt-ltb, le-ltb, le-leb}
 use Rattle.std.specs.List.{list_any, position_or_len}
 use Rattle.std.specs.Str.{is_utf8}
-use Rattle.std.proofs.lemmas.Bool.{cases_Bool, cases_lt, lt-leb}
+use Rattle.std.proofs.lemmas.Bool.{cases_lt, lt-leb}
 use Rattle.std.proofs.lemmas.List.{take-append-le, drop-append-le}
 use Rattle.cap_changes.specs.declared.field_requirement.FieldRequirement.{FieldRequirement}
 use Rattle.cap_changes.specs.declared.field_requirement.FieldRequirement.TheVariants as required
 use Rattle.cap_field.specs.declared.fault.BlobFault.{BlobFault}
-use Rattle.cap_field.specs.declared.fault.FaultKind.TheVariants.{BadName}
+use Rattle.cap_field.specs.declared.fault.FaultKind.TheVariants.{BadField, BadName}
 use Rattle.cap_changes.specs.declared.record_kind.RecordKind.TheVariants as record_kinds
 use Rattle.cap_changes.specs.Requirements.{requirements, new_requirements}
 use Rattle.cap_field.specs.FieldReading.{number_at, sized_at, text_at}
 use Rattle.cap_changes.specs.FieldReading.{allows, content_at, typed_at, field_at}
-use Rattle.cap_codec.specs.HeaderReading.{is_zero, count_at, flags_at, named_at, name_at, header_at}
-use Rattle.cap_changes.specs.ChangeReading.{is_set}
-use Rattle.cap_codec.specs.Pieces.{is_cut}
+use Rattle.cap_codec.specs.HeaderReading.{is_zero, count_at, flags_at, name_at, header_at}
+use Rattle.cap_changes.specs.ChangeReading.{is_set, change_at, patch_at}
+use Rattle.cap_codec.specs.Missing.{content_len_at, skip_content, skip_at}
+use Rattle.cap_codec.specs.declared.scan.Kind.{Kind}
+use Rattle.cap_codec.specs.declared.scan.Kind.TheVariants as kinds
+use Rattle.cap_codec.specs.Pieces.{is_cut, ends_early, one_as}
 use Rattle.cap_field.specs.Reading.{◌>>=◌, fault, place, byte_at, bytes_at, varint_from, varint_at}
 use Rattle.cap_changes.specs.RecordReading.{record_at}
-use Rattle.cap_changes.specs.ChangeReading.{change_at, patch_at}
+use Rattle.cap_codec.proofs.HeaderLemmas.{no_zero_before, zero_at, name_is}
 
 -- they are the last of the bytes
 abbrev pub IsBehind : List ℕ → List ℕ → Type 0
@@ -29,189 +33,201 @@ further a b c (x, p) (y, q) = (y ++ x, append_assoc y x a ∙ ap (λ (rest : Lis
 pub no_longer : (rest bytes : List ℕ) → IsBehind rest bytes → length rest ≤ length bytes
 no_longer rest bytes (front, parts) = subst (λ (all : List ℕ). length rest ≤ length all) parts (omega (arith, length-append front rest))
 
--- what these bytes read as, and what they read as with more bytes behind them
-abbrev pub Stays : {X : Type 0} → List ℕ → List ℕ → Result (X × List ℕ) BlobFault → Result (X × List ℕ) BlobFault → Type 0
-Stays bytes more (Ok x) later = (later ≡ Ok (x.0, x.1 ++ more)) × IsBehind x.1 bytes
-Stays bytes more (Err f) later = is_cut f.kind ≡ false → later ≡ Err f
-
--- the same, of a longer list of bytes
-wider : {X : Type 0} (some bytes more : List ℕ) (read later : Result (X × List ℕ) BlobFault) → IsBehind some bytes → Stays some more read later → Stays bytes more read later
-wider some bytes more (Ok x) later behind stays = (stays.0, further x.1 some bytes stays.1 behind)
-wider some bytes more (Err f) later behind stays = stays
-
-pub stays_then : {X Y : Type 0} (bytes more : List ℕ) (read later : Result (X × List ℕ) BlobFault) (f g : X × List ℕ → Result (Y × List ℕ) BlobFault)
-    → Stays bytes more read later → ((x : X × List ℕ) → Stays x.1 more (f x) (g (x.0, x.1 ++ more))) → Stays bytes more (read >>= f) (later >>= g)
-stays_then {Y = Y} bytes more (Ok x) later f g stays others =
-    subst (λ (all : Result (Y × List ℕ) BlobFault). Stays bytes more (f x) all) (sym (ap (λ r. r >>= g) stays.0)) (wider x.1 bytes more (f x) (g (x.0, x.1 ++ more)) stays.1 (others x))
-stays_then bytes more (Err e) later f g stays others = λ lasts. ap (λ r. r >>= g) (stays lasts)
-
 pub same_place : (total : ℕ) (bytes more : List ℕ) → place (total + length more) (bytes ++ more) ≡ place total bytes
 same_place total bytes more = omega (arith, length-append bytes more)
 
-byte_stays : (total : ℕ) (bytes more : List ℕ) → Stays bytes more (byte_at total bytes) (byte_at (total + length more) (bytes ++ more))
-byte_stays total [] more = λ lasts. absurd cc
-byte_stays total (byte ∷ bytes) more = (refl, (byte ∷ [], refl))
+-- nothing follows
+pub again : {X : Type 0} (read : ℕ → List ℕ → X) (total : ℕ) (bytes more : List ℕ) → length more < 1 → read (total + length more) (bytes ++ more) ≡ read total bytes
+again read total bytes [] lt = rw (append-nil bytes) (ap (λ (n : ℕ). read n bytes) (omega arith))
+again read total bytes (byte ∷ more) lt = absurd (omega arith)
 
-bytes_stay : (total count : ℕ) (bytes more : List ℕ) → Stays bytes more (bytes_at total count bytes) (bytes_at (total + length more) count (bytes ++ more))
-bytes_stay total count bytes more = elim (cases_lt (length bytes) count) [
-  | inl short ↦ rw (lt-ltb (length bytes) count short) (λ lasts. absurd cc)
-  | inr long ↦
-      let later : nat_lt (length (bytes ++ more)) count ≡ false = le-ltb _ _ (omega (arith, length-append bytes more)) in
-      rw (le-ltb (length bytes) count long, later, take-append-le count bytes more long, drop-append-le count bytes more long) (refl, (take count bytes, take-append-drop count bytes))
-]
+-- What these bytes read as, and what they read as with more bytes behind them. `P` holds of the bytes behind what
+-- was read, or of how many bytes it lacks.
+abbrev pub Stays : {X : Type 0} → (Result (List ℕ) ℕ → Type 0) → List ℕ → List ℕ → Result (X × List ℕ) BlobFault → Result (X × List ℕ) BlobFault → Type 0
+Stays P bytes more (Ok x) later = (later ≡ Ok (x.0, x.1 ++ more)) × IsBehind x.1 bytes × P (Ok x.1)
+Stays P bytes more (Err f) later = (is_cut f.kind ≡ false → later ≡ Err f) × (is_cut f.kind ≡ true → (n : ℕ) × P (Err n) × (length more < n → ends_early later ≡ true))
 
-varint_from_stays : (total later at read high : ℕ) (bytes more : List ℕ) → Stays bytes more (varint_from total at read high bytes) (varint_from later at read high (bytes ++ more))
-varint_from_stays total later at read high [] more = λ lasts. absurd cc
-varint_from_stays total later at read high (byte ∷ bytes) more = elim (cases_Bool (nat_lt byte 128)) [
-  | inl last ↦ rw last (refl, (byte ∷ [], refl))
-  | inr goes_on ↦ elim (cases_Bool ((read == 4) || (read == 0) && (byte == 128))) [
-    | inl bad ↦ rw (goes_on, bad) (λ lasts. refl)
-    | inr good ↦ rw (goes_on, good) (wider bytes (byte ∷ bytes) more _ _ (byte ∷ [], refl) (varint_from_stays total later at (read + 1) (high * 128 + (byte - 128)) bytes more))
+pub early_then : {X Y : Type 0} (read : Result X BlobFault) (f : X → Result Y BlobFault) → ends_early read ≡ true → ends_early (read >>= f) ≡ true
+early_then (Ok x) f early = absurd cc
+early_then (Err fault) f early = early
+
+module _ (P : Result (List ℕ) ℕ → Type 0) where
+  -- the same, of a longer list of bytes
+  pub wider : {X : Type 0} (some bytes more : List ℕ) (read later : Result (X × List ℕ) BlobFault) → IsBehind some bytes → Stays P some more read later → Stays P bytes more read later
+  wider some bytes more (Ok x) later behind stays = (stays.0, further x.1 some bytes stays.1 behind, stays.2)
+  wider some bytes more (Err f) later behind stays = stays
+
+  pub stays_then : {X Y : Type 0} (bytes more : List ℕ) (read later : Result (X × List ℕ) BlobFault) (f g : X × List ℕ → Result (Y × List ℕ) BlobFault)
+      → Stays P bytes more read later → ((x : X × List ℕ) → P (Ok x.1) → Stays P x.1 more (f x) (g (x.0, x.1 ++ more))) → Stays P bytes more (read >>= f) (later >>= g)
+  stays_then {Y = Y} bytes more (Ok x) later f g stays others =
+      subst (λ (all : Result (Y × List ℕ) BlobFault). Stays P bytes more (f x) all) (sym (ap (λ r. r >>= g) stays.0)) (wider x.1 bytes more (f x) (g (x.0, x.1 ++ more)) stays.1 (others x stays.2))
+  stays_then bytes more (Err e) later f g stays others =
+      (λ lasts. ap (λ r. r >>= g) (stays.0 lasts), λ cut. let (n, lacks, early) = stays.1 cut in (n, lacks, λ lt. early_then later g (early lt)))
+
+  -- a test of what does not change
+  pub either_stays : {X : Type 0} (bytes more : List ℕ) (test : Bool) (x y later_x later_y : Result (X × List ℕ) BlobFault) → Stays P bytes more x later_x → Stays P bytes more y later_y
+      → Stays P bytes more (cond test x y) (cond test later_x later_y)
+  either_stays bytes more true x y later_x later_y of_x of_y = of_x
+  either_stays bytes more false x y later_x later_y of_x of_y = of_y
+
+  bytes_stay : (total later count : ℕ) (bytes more : List ℕ) → P (skip_content (Ok (count, bytes))) → Stays P bytes more (bytes_at total count bytes) (bytes_at later count (bytes ++ more))
+  bytes_stay total later count bytes more = elim (cases_lt (length bytes) count) [
+    | inl short ↦
+        let longer : length more < count - length bytes → nat_lt (length (bytes ++ more)) count ≡ true = λ lt. lt-ltb _ _ (omega (arith, length-append bytes more)) in
+        rw (lt-ltb (length bytes) count short) (λ p. (λ lasts. absurd cc, λ cut. (count - length bytes, p, λ lt. rw (longer lt) refl)))
+    | inr long ↦
+        let later : nat_lt (length (bytes ++ more)) count ≡ false = le-ltb _ _ (omega (arith, length-append bytes more)) in
+        rw (le-ltb (length bytes) count long, later, take-append-le count bytes more long, drop-append-le count bytes more long) (λ p. (refl, (take count bytes, take-append-drop count bytes), p))
   ]
-]
 
-pub varint_stays : (total : ℕ) (bytes more : List ℕ) → Stays bytes more (varint_at total bytes) (varint_at (total + length more) (bytes ++ more))
+-- nothing is asked
+abbrev pub Any : Result (List ℕ) ℕ → Type 0
+Any skipped = Unit {0}
+
+pub fault_stays : {X : Type 0} (bytes more : List ℕ) (f : BlobFault) (later : Result (X × List ℕ) BlobFault) → (is_cut f.kind ≡ false → later ≡ Err f) → Stays Any bytes more (Err f) later
+fault_stays bytes more f later lasts = (lasts, λ cut. (0, tt, λ lt. absurd (omega arith)))
+
+varint_from_stays : (total later at read high : ℕ) (bytes more : List ℕ) → Stays Any bytes more (varint_from total at read high bytes) (varint_from later at read high (bytes ++ more))
+varint_from_stays total later at read high [] more = fault_stays [] more _ _ (λ lasts. absurd cc)
+varint_from_stays total later at read high (byte ∷ bytes) more =
+    either_stays Any (byte ∷ bytes) more (nat_lt byte 128) _ _ _ _ (refl, (byte ∷ [], refl), tt)
+    (either_stays Any (byte ∷ bytes) more ((read == 4) || (read == 0) && (byte == 128)) _ _ _ _ (λ lasts. refl, λ cut. absurd cc)
+    (wider Any bytes (byte ∷ bytes) more _ _ (byte ∷ [], refl) (varint_from_stays total later at (read + 1) (high * 128 + (byte - 128)) bytes more)))
+
+varint_stays : (total : ℕ) (bytes more : List ℕ) → Stays Any bytes more (varint_at total bytes) (varint_at (total + length more) (bytes ++ more))
 unfolding varint_at
 varint_stays total bytes more = rw (same_place total bytes more) (varint_from_stays total (total + length more) (place total bytes) 0 0 bytes more)
 
-number_stays : (total : ℕ) (bytes more : List ℕ) → Stays bytes more (number_at total bytes) (number_at (total + length more) (bytes ++ more))
-number_stays total bytes more = stays_then bytes more (bytes_at total 8 bytes) (bytes_at (total + length more) 8 (bytes ++ more)) _ _ (bytes_stay total 8 bytes more) (λ n. (refl, ([], refl)))
+-- ---- a field, of which `P` holds when it is skipped
 
-sized_stays : (total at : ℕ) (bytes more : List ℕ) → Stays bytes more (sized_at total at bytes) (sized_at (total + length more) at (bytes ++ more))
-unfolding sized_at
-sized_stays total at bytes more = stays_then bytes more (varint_at total bytes) (varint_at (total + length more) (bytes ++ more)) _ _ (varint_stays total bytes more)
-    (λ count. elim (cases_Bool (nat_lt 1000000000 count.0)) [ inl large ↦ rw large (λ lasts. refl) | inr fits ↦ rw fits (bytes_stay total count.0 count.1 more) ])
+module _ (A : Type 0) (P : Result (List ℕ) ℕ → Type 0) where
+  sized_from : (total at : ℕ) (bytes more : List ℕ) (read later : Result (ℕ × List ℕ) BlobFault) → Stays Any bytes more read later → (length more < 1 → later ≡ read) → P (skip_content read)
+      → Stays P bytes more (read >>= (λ count. if nat_lt 1000000000 count.0 then fault BadField at else bytes_at total count.0 count.1))
+      (later >>= (λ count. if nat_lt 1000000000 count.0 then fault BadField at else bytes_at (total + length more) count.0 count.1))
+  sized_from total at bytes more (Ok count) later stays same p = rw stays.0
+      (either_stays P bytes more (nat_lt 1000000000 count.0) _ _ _ _ (λ lasts. refl, λ cut. absurd cc) (wider P count.1 bytes more _ _ stays.1 (bytes_stay P total (total + length more) count.0 count.1 more p)))
+  sized_from total at bytes more (Err f) later stays same p = (λ lasts. rw (stays.0 lasts) refl, λ cut. (1, p, λ lt. rw (same lt) cut))
 
-text_stays : (total at : ℕ) (bytes more : List ℕ) → Stays bytes more (text_at total at bytes) (text_at (total + length more) at (bytes ++ more))
-unfolding text_at
-text_stays total at bytes more = stays_then bytes more (sized_at total at bytes) (sized_at (total + length more) at (bytes ++ more)) _ _ (sized_stays total at bytes more)
-    (λ text. elim (cases_Bool (is_utf8 text.0)) [ inl utf8 ↦ rw utf8 (refl, ([], refl)) | inr other ↦ rw other (λ lasts. refl) ])
+  sized_stays : (total at : ℕ) (bytes more : List ℕ) → P (skip_content (varint_at total bytes)) → Stays P bytes more (sized_at total at bytes) (sized_at (total + length more) at (bytes ++ more))
+  unfolding sized_at
+  sized_stays total at bytes more p = sized_from total at bytes more _ _ (varint_stays total bytes more) (again varint_at total bytes more) p
 
-module _ (A : Type 0) where
-  content_stays : (total at kind : ℕ) (bytes more : List ℕ) → Stays bytes more (content_at {A = A} total at kind bytes) (content_at (total + length more) at kind (bytes ++ more))
+  text_stays : (total at : ℕ) (bytes more : List ℕ) → P (skip_content (varint_at total bytes)) → Stays P bytes more (text_at total at bytes) (text_at (total + length more) at (bytes ++ more))
+  unfolding text_at
+  text_stays total at bytes more p = stays_then P bytes more _ _ _ _ (sized_stays total at bytes more p)
+      (λ text q. either_stays P text.1 more (is_utf8 text.0) _ _ _ _ (refl, ([], refl), q) (λ lasts. refl, λ cut. absurd cc))
+
+  -- a test that what is skipped makes too
+  either_skip : {X : Type 0} (bytes more : List ℕ) (test : Bool) (s t : Result (ℕ × List ℕ) BlobFault) (x y later_x later_y : Result (X × List ℕ) BlobFault) → (P (skip_content s) → Stays P bytes more x later_x)
+      → (P (skip_content t) → Stays P bytes more y later_y) → P (skip_content (cond test s t)) → Stays P bytes more (cond test x y) (cond test later_x later_y)
+  either_skip bytes more true s t x y later_x later_y of_x of_y p = of_x p
+  either_skip bytes more false s t x y later_x later_y of_x of_y p = of_y p
+
+  content_stays : (total at kind : ℕ) (bytes more : List ℕ) → P (skip_content (content_len_at total kind bytes)) → Stays P bytes more (content_at {A = A} total at kind bytes) (content_at (total + length more) at kind (bytes ++ more))
   unfolding content_at
-  content_stays total at kind bytes more = elim (cases_Bool (kind == 0)) [
-    | inl e ↦ rw e (refl, ([], refl))
-    | inr e0 ↦ elim (cases_Bool (kind == 1)) [
-      | inl e ↦ rw (e0, e) (stays_then bytes more (number_at total bytes) (number_at (total + length more) (bytes ++ more)) _ _ (number_stays total bytes more) (λ n. (refl, ([], refl))))
-      | inr e1 ↦ elim (cases_Bool (kind == 3)) [
-        | inl e ↦ rw (e0, e1, e) (stays_then bytes more (text_at total at bytes) (text_at (total + length more) at (bytes ++ more)) _ _ (text_stays total at bytes more) (λ text. (refl, ([], refl))))
-        | inr e3 ↦ elim (cases_Bool (kind == 4)) [
-          | inl e ↦ rw (e0, e1, e3, e) (stays_then bytes more (sized_at total at bytes) (sized_at (total + length more) at (bytes ++ more)) _ _ (sized_stays total at bytes more) (λ blob. (refl, ([], refl))))
-          | inr e4 ↦ rw (e0, e1, e3, e4) (refl, ([], refl))
-        ]
-      ]
-    ]
-  ]
+  content_stays total at kind bytes more p =
+      let none : nat_lt (length bytes) 0 ≡ false = le-ltb (length bytes) 0 (omega arith) in
+      either_skip bytes more (kind == 0) _ _ _ _ _ _ (λ q. (refl, ([], refl), rw none at q))
+      (either_skip bytes more (kind == 1) _ _ _ _ _ _
+      (λ q. stays_then P bytes more (number_at total bytes) _ _ _ (stays_then P bytes more _ _ _ _ (bytes_stay P total (total + length more) 8 bytes more q) (λ n r. (refl, ([], refl), r))) (λ n r. (refl, ([], refl), r)))
+      (either_skip bytes more (kind == 3) _ _ _ _ _ _ (λ q. stays_then P bytes more _ _ _ _ (text_stays total at bytes more q) (λ text r. (refl, ([], refl), r)))
+      (either_skip bytes more (kind == 4) _ _ _ _ _ _ (λ q. stays_then P bytes more _ _ _ _ (sized_stays total at bytes more q) (λ blob r. (refl, ([], refl), r)))
+      (λ q. (refl, ([], refl), rw none at q))))) p
 
-  typed_stays : (total at : ℕ) (requirement : FieldRequirement) (kind : ℕ) (bytes more : List ℕ) → Stays bytes more (typed_at {A = A} total at requirement kind bytes) (typed_at (total + length more) at requirement kind (bytes ++ more))
-  typed_stays total at requirement kind bytes more = elim (cases_Bool (kind == 2)) [
-    | inl e ↦ rw e (λ lasts. refl)
-    | inr e2 ↦ elim (cases_Bool (nat_lt 5 kind)) [
-      | inl e ↦ rw (e2, e) (λ lasts. refl)
-      | inr e5 ↦ elim (cases_Bool (not (allows requirement kind))) [
-        | inl e ↦ rw (e2, e5, e) (λ lasts. refl)
-        | inr e6 ↦ rw (e2, e5, e6) (content_stays total at kind bytes more)
-      ]
-    ]
-  ]
+  typed_stays : (total at : ℕ) (requirement : FieldRequirement) (kind : ℕ) (bytes more : List ℕ) → P (skip_content (content_len_at total kind bytes))
+      → Stays P bytes more (typed_at {A = A} total at requirement kind bytes) (typed_at (total + length more) at requirement kind (bytes ++ more))
+  typed_stays total at requirement kind bytes more p =
+      either_stays P bytes more (kind == 2) _ _ _ _ (λ lasts. refl, λ cut. absurd cc)
+      (either_stays P bytes more (nat_lt 5 kind) _ _ _ _ (λ lasts. refl, λ cut. absurd cc)
+      (either_stays P bytes more (not (allows requirement kind)) _ _ _ _ (λ lasts. refl, λ cut. absurd cc) (content_stays total at kind bytes more p)))
 
-  present_stays : (total : ℕ) (requirement : FieldRequirement) (bytes more : List ℕ)
-      → Stays bytes more (byte_at total bytes >>= (λ kind. typed_at {A = A} total (place total bytes) requirement kind.0 kind.1))
+  present_stays : (total : ℕ) (requirement : FieldRequirement) (bytes more : List ℕ) → P (skip_at total bytes)
+      → Stays P bytes more (byte_at total bytes >>= (λ kind. typed_at {A = A} total (place total bytes) requirement kind.0 kind.1))
       (byte_at (total + length more) (bytes ++ more) >>= (λ kind. typed_at {A = A} (total + length more) (place (total + length more) (bytes ++ more)) requirement kind.0 kind.1))
-  present_stays total requirement bytes more =
-      rw (same_place total bytes more) (stays_then bytes more (byte_at total bytes) (byte_at (total + length more) (bytes ++ more)) _ _ (byte_stays total bytes more) (λ kind. typed_stays total (place total bytes) requirement kind.0 kind.1 more))
+  present_stays total requirement [] [] p = (λ lasts. absurd cc, λ cut. (1, p, λ lt. refl))
+  present_stays total requirement [] (byte ∷ more) p = (λ lasts. absurd cc, λ cut. (1, p, λ lt. absurd (omega arith)))
+  present_stays total requirement (kind ∷ bytes) more p = rw (same_place total (kind ∷ bytes) more)
+      (wider P bytes (kind ∷ bytes) more _ _ (kind ∷ [], refl) (typed_stays total (place total (kind ∷ bytes)) requirement kind bytes more p))
 
-  pub field_stays : (total : ℕ) (requirement : FieldRequirement) (bytes more : List ℕ) → Stays bytes more (field_at {A = A} total requirement bytes) (field_at (total + length more) requirement (bytes ++ more))
+-- the bytes behind the flag byte of a change, or that it lacks
+abbrev pub skip_flag : List ℕ → Result (List ℕ) ℕ
+skip_flag [] = Err 1
+skip_flag (flag ∷ fields) = Ok fields
+
+-- ---- a change, of whose fields it holds one after the other
+
+module _ (A : Type 0) (P : Result (List ℕ) ℕ → Type 0) (total : ℕ) (next : (bytes : List ℕ) → P (Ok bytes) → P (skip_at total bytes)) where
+  field_stays : (requirement : FieldRequirement) (bytes more : List ℕ) → P (Ok bytes) → Stays P bytes more (field_at {A = A} total requirement bytes) (field_at (total + length more) requirement (bytes ++ more))
   unfolding field_at
-  field_stays total required.Omitted bytes more = (refl, ([], refl))
-  field_stays total required.Key bytes more = present_stays total required.Key bytes more
-  field_stays total required.Defined bytes more = present_stays total required.Defined bytes more
-  field_stays total required.Any bytes more = present_stays total required.Any bytes more
-  field_stays total required.Undefined bytes more = present_stays total required.Undefined bytes more
+  field_stays required.Omitted bytes more p = (refl, ([], refl), p)
+  field_stays requirement bytes more p = present_stays A P total requirement bytes more (next bytes p)
 
-  pub record_stays : (total : ℕ) (requirements : List FieldRequirement) (bytes more : List ℕ) → Stays bytes more (record_at {A = A} total requirements bytes) (record_at (total + length more) requirements (bytes ++ more))
+  record_stays : (requirements : List FieldRequirement) (bytes more : List ℕ) → P (Ok bytes) → Stays P bytes more (record_at {A = A} total requirements bytes) (record_at (total + length more) requirements (bytes ++ more))
   unfolding record_at
-  record_stays total [] bytes more = (refl, ([], refl))
-  record_stays total (requirement ∷ requirements) bytes more =
-      stays_then bytes more (field_at total requirement bytes) (field_at (total + length more) requirement (bytes ++ more)) _ _ (field_stays total requirement bytes more)
-      (λ field. stays_then field.1 more (record_at total requirements field.1) (record_at (total + length more) requirements (field.1 ++ more)) _ _ (record_stays total requirements field.1 more) (λ others. (refl, ([], refl))))
+  record_stays [] bytes more p = (refl, ([], refl), p)
+  record_stays (requirement ∷ requirements) bytes more p =
+      stays_then P bytes more _ _ _ _ (field_stays requirement bytes more p)
+      (λ field q. stays_then P field.1 more _ _ _ _ (record_stays requirements field.1 more q) (λ others last. (refl, ([], refl), last)))
 
-  pub change_stays : (total : ℕ) (flags : List Bool) (op : ℕ) (bytes more : List ℕ) → Stays bytes more (change_at {A = A} total flags op bytes) (change_at (total + length more) flags op (bytes ++ more))
-  unfolding change_at
-  change_stays total flags op bytes more =
-      stays_then bytes more (byte_at total bytes) (byte_at (total + length more) (bytes ++ more)) _ _ (byte_stays total bytes more)
-      (λ flag_byte. elim (cases_Bool (op == 0x12)) [
-        | inl e ↦ rw e (stays_then flag_byte.1 more (record_at total (requirements record_kinds.Full flags) flag_byte.1) (record_at (total + length more) (requirements record_kinds.Full flags) (flag_byte.1 ++ more)) _ _ (record_stays total (requirements record_kinds.Full flags) flag_byte.1 more) (λ new. (refl, ([], refl))))
-        | inr e ↦ elim (cases_Bool (op == 0x17)) [
-          | inl u ↦ rw (e, u) (stays_then flag_byte.1 more (record_at total (requirements record_kinds.Keyed flags) flag_byte.1) (record_at (total + length more) (requirements record_kinds.Keyed flags) (flag_byte.1 ++ more)) _ _ (record_stays total (requirements record_kinds.Keyed flags) flag_byte.1 more)
-              (λ old. stays_then old.1 more (record_at total (new_requirements flags old.0) old.1) (record_at (total + length more) (new_requirements flags old.0) (old.1 ++ more)) _ _ (record_stays total (new_requirements flags old.0) old.1 more) (λ new. (refl, ([], refl)))))
-          | inr u ↦ rw (e, u) (stays_then flag_byte.1 more (record_at total (requirements record_kinds.Full flags) flag_byte.1) (record_at (total + length more) (requirements record_kinds.Full flags) (flag_byte.1 ++ more)) _ _ (record_stays total (requirements record_kinds.Full flags) flag_byte.1 more) (λ old. (refl, ([], refl))))
-        ]
-      ])
+  flag_stays : (bytes more : List ℕ) → P (skip_flag bytes) → Stays P bytes more (byte_at total bytes) (byte_at (total + length more) (bytes ++ more))
+  flag_stays [] [] p = (λ lasts. absurd cc, λ cut. (1, p, λ lt. refl))
+  flag_stays [] (byte ∷ more) p = (λ lasts. absurd cc, λ cut. (1, p, λ lt. absurd (omega arith)))
+  flag_stays (flag ∷ bytes) more p = (refl, (flag ∷ [], refl), p)
 
-  pub patch_stays : (total : ℕ) (flags : List Bool) (op : ℕ) (bytes more : List ℕ) → Stays bytes more (patch_at {A = A} total flags op bytes) (patch_at (total + length more) flags op (bytes ++ more))
-  unfolding patch_at
-  patch_stays total flags op bytes more =
-      stays_then bytes more (byte_at total bytes) (byte_at (total + length more) (bytes ++ more)) _ _ (byte_stays total bytes more)
-      (λ flag_byte. elim (cases_Bool (op == 0x12)) [
-        | inl e ↦ rw e (stays_then flag_byte.1 more (record_at total (requirements record_kinds.Full flags) flag_byte.1) (record_at (total + length more) (requirements record_kinds.Full flags) (flag_byte.1 ++ more)) _ _ (record_stays total (requirements record_kinds.Full flags) flag_byte.1 more) (λ new. (refl, ([], refl))))
-        | inr e ↦ elim (cases_Bool (op == 0x17)) [
-          | inl u ↦ rw (e, u) (stays_then flag_byte.1 more (record_at total (requirements record_kinds.Keyed flags) flag_byte.1) (record_at (total + length more) (requirements record_kinds.Keyed flags) (flag_byte.1 ++ more)) _ _ (record_stays total (requirements record_kinds.Keyed flags) flag_byte.1 more) (λ new. (refl, ([], refl))))
-          | inr u ↦ rw (e, u) (stays_then flag_byte.1 more (record_at total (requirements record_kinds.KeyAlone flags) flag_byte.1) (record_at (total + length more) (requirements record_kinds.KeyAlone flags) (flag_byte.1 ++ more)) _ _ (record_stays total (requirements record_kinds.KeyAlone flags) flag_byte.1 more) (λ key. (refl, ([], refl))))
-        ]
-      ])
+  pub one_stays : (kind : Kind) (flags : List Bool) (op : ℕ) (bytes more : List ℕ) → P (skip_flag bytes) → Stays P bytes more (one_as A kind total flags op bytes) (one_as A kind (total + length more) flags op (bytes ++ more))
+  unfolding change_at patch_at
+  one_stays kinds.Changes flags op bytes more p = stays_then P bytes more _ _ _ _ (flag_stays bytes more p)
+      (λ flag q. either_stays P flag.1 more (op == 0x12) _ _ _ _
+      (stays_then P flag.1 more _ _ _ _ (record_stays (requirements record_kinds.Full flags) flag.1 more q) (λ new r. (refl, ([], refl), r)))
+      (either_stays P flag.1 more (op == 0x17) _ _ _ _
+      (stays_then P flag.1 more _ _ _ _ (record_stays (requirements record_kinds.Keyed flags) flag.1 more q)
+      (λ old r. stays_then P old.1 more _ _ _ _ (record_stays (new_requirements flags old.0) old.1 more r) (λ new s. (refl, ([], refl), s))))
+      (stays_then P flag.1 more _ _ _ _ (record_stays (requirements record_kinds.Full flags) flag.1 more q) (λ old r. (refl, ([], refl), r)))))
+  one_stays kinds.Patches flags op bytes more p = stays_then P bytes more _ _ _ _ (flag_stays bytes more p)
+      (λ flag q. either_stays P flag.1 more (op == 0x12) _ _ _ _
+      (stays_then P flag.1 more _ _ _ _ (record_stays (requirements record_kinds.Full flags) flag.1 more q) (λ new r. (refl, ([], refl), r)))
+      (either_stays P flag.1 more (op == 0x17) _ _ _ _
+      (stays_then P flag.1 more _ _ _ _ (record_stays (requirements record_kinds.Keyed flags) flag.1 more q) (λ new r. (refl, ([], refl), r)))
+      (stays_then P flag.1 more _ _ _ _ (record_stays (requirements record_kinds.KeyAlone flags) flag.1 more q) (λ key r. (refl, ([], refl), r)))))
 
 -- ---- headers
 
-count_stays : (total : ℕ) (bytes more : List ℕ) → Stays bytes more (count_at total bytes) (count_at (total + length more) (bytes ++ more))
+count_stays : (total : ℕ) (bytes more : List ℕ) → Stays Any bytes more (count_at total bytes) (count_at (total + length more) (bytes ++ more))
 unfolding count_at
-count_stays total bytes more = rw (same_place total bytes more) (stays_then bytes more (varint_at total bytes) (varint_at (total + length more) (bytes ++ more)) _ _ (varint_stays total bytes more)
-    (λ count. elim (cases_Bool ((count.0 == 0) || nat_lt 2000 count.0)) [ inl bad ↦ rw bad (λ lasts. refl) | inr good ↦ rw good (refl, ([], refl)) ]))
+count_stays total bytes more = rw (same_place total bytes more) (stays_then Any bytes more _ _ _ _ (varint_stays total bytes more)
+    (λ count any. either_stays Any count.1 more ((count.0 == 0) || nat_lt 2000 count.0) _ _ _ _ (λ lasts. refl, λ cut. absurd cc) (refl, ([], refl), tt)))
 
-flags_stay : (total count : ℕ) (bytes more : List ℕ) → Stays bytes more (flags_at total count bytes) (flags_at (total + length more) count (bytes ++ more))
+flags_stay : (total count : ℕ) (bytes more : List ℕ) → Stays Any bytes more (flags_at total count bytes) (flags_at (total + length more) count (bytes ++ more))
 unfolding flags_at
-flags_stay total count bytes more = rw (same_place total bytes more) (stays_then bytes more (bytes_at total count bytes) (bytes_at (total + length more) count (bytes ++ more)) _ _ (bytes_stay total count bytes more)
-    (λ flags. elim (cases_Bool (list_any is_set flags.0)) [ inl keyed ↦ rw keyed (refl, ([], refl)) | inr none ↦ rw none (λ lasts. refl) ]))
+flags_stay total count bytes more = rw (same_place total bytes more) (stays_then Any bytes more _ _ _ _ (bytes_stay Any total (total + length more) count bytes more tt)
+    (λ flags any. either_stays Any flags.1 more (list_any is_set flags.0) _ _ _ _ (refl, ([], refl), tt) (λ lasts. refl, λ cut. absurd cc)))
 
-first_stays : (most : ℕ) (bytes more : List ℕ) → position_or_len is_zero (take most bytes) < length (take most bytes) → position_or_len is_zero (take most (bytes ++ more)) ≡ position_or_len is_zero (take most bytes)
-first_stays zero bytes more lt = refl
-first_stays (suc most) [] more lt = absurd (omega arith)
-first_stays (suc most) (byte ∷ bytes) more lt = elim (cases_Bool (is_zero byte)) [
-  | inl e ↦ rw e refl
-  | inr e ↦
-      let below : 1 + position_or_len is_zero (take most bytes) < suc (length (take most bytes)) = rw e at lt in
-      rw e (ap (λ (n : ℕ). 1 + n) (first_stays most bytes more (omega arith)))
-]
+-- with a zero byte behind it
+named_stays : (total : ℕ) (name rest more : List ℕ) → length name < 256 → list_any is_zero name ≡ false
+    → Stays Any (name ++ 0 ∷ rest) more (name_at total (name ++ 0 ∷ rest)) (name_at (total + length more) ((name ++ 0 ∷ rest) ++ more))
+named_stays total name rest more short none =
+    rw (append_assoc name (0 ∷ rest) more, name_is total name rest short none, name_is (total + length more) name (rest ++ more) short none)
+    (either_stays Any (name ++ 0 ∷ rest) more (nat_lt 0 (length name) && is_utf8 name) _ _ _ _ (refl, (name ++ 0 ∷ [], append_assoc name (0 ∷ []) rest), tt)
+    (λ lasts. ap (λ (b : List ℕ). fault BadName (place (total + length more) b)) (sym (append_assoc name (0 ∷ rest) more)) ∙ ap (λ (at : ℕ). fault BadName at) (same_place total (name ++ 0 ∷ rest) more), λ cut. absurd cc))
 
-named_stays : (total : ℕ) (bytes more : List ℕ) → Stays bytes more (named_at total bytes (position is_zero (take 256 bytes))) (named_at (total + length more) (bytes ++ more) (position is_zero (take 256 (bytes ++ more))))
-named_stays total bytes more = elim (cases_lt (position_or_len is_zero (take 256 bytes)) (length (take 256 bytes))) [
+name_stays : (total : ℕ) (bytes more : List ℕ) → Stays Any bytes more (name_at total bytes) (name_at (total + length more) (bytes ++ more))
+unfolding name_at
+name_stays total bytes more = elim (cases_lt (position_or_len is_zero (take 256 bytes)) (length (take 256 bytes))) [
   | inl found ↦
       let len = position_or_len is_zero (take 256 bytes) in
-      let first : position_or_len is_zero (take 256 (bytes ++ more)) ≡ len = first_stays 256 bytes more found in
-      let later : nat_lt len (length (take 256 (bytes ++ more))) ≡ true = lt-ltb _ _ (omega (arith, length-take 256 bytes, length-take 256 (bytes ++ more), length-append bytes more)) in
-      let within : len + 1 ≤ length bytes = omega (arith, length-take 256 bytes) in
-      rw (lt-ltb _ _ found, first, later, take-append-le len bytes more (omega arith), drop-append-le (len + 1) bytes more within)
-      (elim (cases_Bool (nat_lt 0 len && is_utf8 (take len bytes))) [
-        | inl good ↦ rw good (refl, (take (len + 1) bytes, take-append-drop (len + 1) bytes))
-        | inr bad ↦ rw bad (λ lasts. ap (λ (at : ℕ). fault BadName at) (same_place total bytes more))
-      ])
+      subst (λ (b : List ℕ). Stays Any b more (name_at total b) (name_at (total + length more) (b ++ more))) (sym (zero_at 256 bytes found))
+      (named_stays total (take len bytes) (drop (len + 1) bytes) more (omega (arith, length-take len bytes, length-take 256 bytes)) (no_zero_before bytes len (rw (lt-ltb _ _ found) refl)))
   | inr none ↦ elim (cases_lt (length bytes) 256) [
-    | inl short ↦ rw (le-ltb _ _ none, le-leb (length bytes) 255 (omega arith)) (λ lasts. absurd cc)
+    | inl short ↦ rw (le-ltb _ _ none, le-leb (length bytes) 255 (omega arith)) (fault_stays bytes more _ _ (λ lasts. absurd cc))
     | inr long ↦
-        let same : take 256 (bytes ++ more) ≡ take 256 bytes = take-append-le 256 bytes more long in
         let past : nat_le (length (bytes ++ more)) 255 ≡ false = lt-leb _ _ (omega (arith, length-append bytes more)) in
-        rw (same, le-ltb _ _ none, lt-leb (length bytes) 255 (omega arith), past) (λ lasts. ap (λ (at : ℕ). fault BadName at) (same_place total bytes more))
+        rw (take-append-le 256 bytes more long, le-ltb _ _ none, lt-leb (length bytes) 255 (omega arith), past) (fault_stays bytes more _ _ (λ lasts. ap (λ (at : ℕ). fault BadName at) (same_place total bytes more)))
   ]
 ]
 
-name_stays : (total : ℕ) (bytes more : List ℕ) → Stays bytes more (name_at total bytes) (name_at (total + length more) (bytes ++ more))
-unfolding name_at
-name_stays total bytes more = named_stays total bytes more
-
-pub header_stays : (total : ℕ) (bytes more : List ℕ) → Stays bytes more (header_at total bytes) (header_at (total + length more) (bytes ++ more))
+pub header_stays : (total : ℕ) (bytes more : List ℕ) → Stays Any bytes more (header_at total bytes) (header_at (total + length more) (bytes ++ more))
 unfolding header_at
 header_stays total bytes more =
-    stays_then bytes more (count_at total bytes) (count_at (total + length more) (bytes ++ more)) _ _ (count_stays total bytes more)
-    (λ count. stays_then count.1 more (flags_at total count.0 count.1) (flags_at (total + length more) count.0 (count.1 ++ more)) _ _ (flags_stay total count.0 count.1 more)
-    (λ flags. stays_then flags.1 more (name_at total flags.1) (name_at (total + length more) (flags.1 ++ more)) _ _ (name_stays total flags.1 more) (λ name. (refl, ([], refl)))))
+    stays_then Any bytes more _ _ _ _ (count_stays total bytes more)
+    (λ count any. stays_then Any count.1 more _ _ _ _ (flags_stay total count.0 count.1 more)
+    (λ flags any. stays_then Any flags.1 more _ _ _ _ (name_stays total flags.1 more) (λ name any. (refl, ([], refl), tt))))

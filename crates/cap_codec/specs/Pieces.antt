@@ -6,6 +6,8 @@ use Rattle.cap_value.specs.declared.memory.Fault.TheVariants.{Refused, OutOfMemo
 use Rattle.cap_field.specs.declared.fault.BlobFault.{BlobFault}
 use Rattle.cap_field.specs.declared.fault.FaultKind.{FaultKind}
 use Rattle.cap_field.specs.declared.fault.FaultKind.TheVariants.{Truncated}
+use Rattle.cap_changes.specs.declared.row_change.RowChange.{RowChange}
+use Rattle.cap_changes.specs.declared.patch.Patch.{Patch}
 use Rattle.cap_codec.specs.declared.scan.Kind.{Kind}
 use Rattle.cap_codec.specs.declared.scan.Kind.TheVariants as kinds
 use Rattle.cap_codec.specs.declared.scan.ScanPosition.{ScanPosition}
@@ -53,21 +55,26 @@ module _ {X : Type 0} (one_at : ℕ → List Bool → ℕ → List ℕ → Resul
       >>= (λ changes. groups_at (entries_at one_at) kind n total changes.1)) ≡ answer)
 
 module _ (A : Type 0) where
-  -- Whatever follows these bytes, the lasting fault is that of the rest from here on, in a group of these
-  -- columns.
-  unfoldable pub Leads : {X : Type 0} → (ℕ → List Bool → ℕ → List ℕ → Result (X × List ℕ) BlobFault) → ℕ →
-      List ℕ → List Bool → ℕ → Type 0
-  Leads one_at kind bytes flags at = (more : List ℕ) → GoesOn one_at kind (length (bytes ++ more)) flags
-      (drop at (bytes ++ more)) (lasting (blob_at {A = A} (bytes ++ more)))
+  -- what groups of this kind have
+  abbrev pub entry_of : Kind → Type 0
+  entry_of kinds.Changes = RowChange A
+  entry_of kinds.Patches = Patch A
 
-  abbrev pub LeadsAs : Kind → List ℕ → List Bool → ℕ → Type 0
-  LeadsAs kinds.Changes bytes flags at = Leads (change_at {A = A}) changeset_kind bytes flags at
-  LeadsAs kinds.Patches bytes flags at = Leads (patch_at {A = A}) patchset_kind bytes flags at
+  -- one of them behind its operation byte
+  abbrev pub one_as : (kind : Kind) → ℕ → List Bool → ℕ → List ℕ → Result (entry_of kind × List ℕ) BlobFault
+  one_as kinds.Changes = change_at
+  one_as kinds.Patches = patch_at
 
   -- the next change or header in a group of this kind
   abbrev pub part_as : Kind → ℕ → List Bool → List ℕ → Result (List Bool × List ℕ) BlobFault
-  part_as kinds.Changes total flags bytes = part_at (change_at {A = A}) changeset_kind total flags bytes
-  part_as kinds.Patches total flags bytes = part_at (patch_at {A = A}) patchset_kind total flags bytes
+  part_as kind total flags bytes = part_at (one_as kind) (kind_byte kind) total flags bytes
+
+  -- Whatever follows these bytes, the lasting fault is that of the rest from here on, in a group of these
+  -- columns.
+  unfoldable pub Leads : Kind → List ℕ → List Bool → ℕ → Type 0
+  Leads kind bytes flags at = (more : List ℕ) →
+      GoesOn (one_as kind) (kind_byte kind) (length (bytes ++ more)) flags (drop at (bytes ++ more))
+      (lasting (blob_at {A = A} (bytes ++ more)))
 
   -- Where the bytes end before the next change or header does, so do they with fewer than this many more.
   unfoldable pub Lacks : ℕ → List ℕ → ℕ → Type 0
@@ -89,7 +96,7 @@ module _ (A : Type 0) where
 module _ {A : Type 0} where
   -- the bytes from the position on are still to be scanned
   abbrev pub IsPlace : List ℕ → ScanPosition A → Type 0
-  IsPlace bytes place = (place.at ≤ length bytes) × LeadsAs A place.kind bytes place.flags.items place.at
+  IsPlace bytes place = (place.at ≤ length bytes) × Leads A place.kind bytes place.flags.items place.at
 
   -- the same, and none of them need be scanned before they are due
   abbrev pub IsScanned : List ℕ → ScanPosition A → Type 0

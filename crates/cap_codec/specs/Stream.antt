@@ -66,10 +66,8 @@ module _ (A : Type 0) {R : Type 0} (remaining : R → Option (List ℕ)) (gave f
   -- A failed read is answered where the last read failed, or at the limit of reads; every other answer is
   -- that of the last read, and no read failed.
   abbrev pub EndsReads : Result (Contents A) ReadFault → R → R → Type 0
-  EndsReads (Ok blob) old new = AnswersLastRead (Ok blob) old new
   EndsReads (Err read.Read) old new = LastReadFailed old new ⊎ LimitReached old new
-  EndsReads (Err read.Memory) old new = AnswersLastRead (Err read.Memory) old new
-  EndsReads (Err (read.Blob fault)) old new = AnswersLastRead (Err (read.Blob fault)) old new
+  EndsReads result old new = AnswersLastRead result old new
 
 -- a failed write is answered where a write failed or their limit was reached, and out of memory where none was
 -- made

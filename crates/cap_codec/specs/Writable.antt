@@ -5,7 +5,8 @@ use Rattle.cap_row.specs.Schema.{is_schema, has_key}
 use Rattle.cap_changes.specs.HasValues.{HasValues, PatchHasValues}
 use Rattle.cap_changes.specs.Group.{TableChanges}
 use Rattle.cap_changes.specs.PatchGroup.{TablePatches}
-use Rattle.cap_changes.specs.Fits.{AllChangesFit, AllPatchesFit}
+use Rattle.cap_changes.specs.Entries.{AllFit, TableEntries}
+use Rattle.cap_changes.specs.Fits.{change_fits, patch_fits}
 use Rattle.cap_codec.specs.declared.key_flags.KeyFlags.{KeyFlags}
 use Rattle.cap_codec.specs.declared.key_flags.KeyFlags.TheVariants.{Ones}
 use Rattle.cap_codec.specs.declared.read.Contents.{Contents}
@@ -24,17 +25,19 @@ abbrev pub has_some : {X : Type 0} → List X → Bool
 has_some [] = false
 has_some (x ∷ xs) = true
 
-module _ {A : Type 0} where
-  -- a group that a list of changes may hold
-  pub record IsGroup (group : TableChanges A) : Type 0 where
-    pub table : IsTable group.table group.schema
-    pub fit : AllChangesFit group.schema group.changes
-    pub values : All HasValues group.changes
+-- a group that a list may hold: its changes fit and have values
+pub record IsGroupOf {X : Type 0} (fits : List Bool → X → Bool) (has_values : X → Type 0)
+    (group : TableEntries X) : Type 0 where
+  pub table : IsTable group.table group.schema
+  pub fit : AllFit fits group.schema group.changes
+  pub values : All has_values group.changes
 
-  pub record IsPatchGroup (group : TablePatches A) : Type 0 where
-    pub table : IsTable group.table group.schema
-    pub fit : AllPatchesFit group.schema group.changes
-    pub values : All PatchHasValues group.changes
+module _ {A : Type 0} where
+  abbrev pub IsGroup : TableChanges A → Type 0
+  IsGroup group = IsGroupOf change_fits HasValues group
+
+  abbrev pub IsPatchGroup : TablePatches A → Type 0
+  IsPatchGroup group = IsGroupOf patch_fits PatchHasValues group
 
   abbrev pub IsWritable : Contents A → Type 0
   IsWritable (Changes groups) = All IsGroup groups

@@ -6,8 +6,7 @@ ghost use Rattle.std.specs.List.{list_any};
 ghost use Rattle.cap_row.specs.Schema.{has_key};
 ghost use Rattle.cap_row.specs.declared.limits.TheConstants.{COLUMNS_MAX};
 ghost use Rattle.cap_value.specs.Memory.{ShowsUnlessMemory};
-ghost use Rattle.cap_changes.specs.ChangeReading.{is_set};
-ghost use Rattle.cap_changes.specs.ChangeReading.{changes_at, with_changes};
+ghost use Rattle.cap_changes.specs.ChangeReading.{is_set, changes_at, with_changes};
 ghost use Rattle.cap_codec.specs.BlobReading.{entries_at};
 
 use crate::header::take_header;

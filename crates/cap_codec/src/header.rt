@@ -22,6 +22,13 @@ pub struct HeaderRef<'a> {
     pub table: &'a str,
 }
 
+/// A fault of this kind at this offset.
+pub fn fault(at: usize, kind: FaultKind) -> BlobFault
+    ensures { result ≡ record { at = at; kind = kind } }
+{
+    BlobFault { at, kind }
+}
+
 #[tactic(auto, unfolding(crate::specs::HeaderReading::count_at))]
 fn take_count(total: usize, bytes: &[u8]) -> Result<(usize, &[u8]), BlobFault>
     ensures reads { Reads (λ x. (x.0, x.1.now)) result (count_at total bytes.now) }
@@ -30,10 +37,7 @@ fn take_count(total: usize, bytes: &[u8]) -> Result<(usize, &[u8]), BlobFault>
 {
     let (count, rest) = take_varint(total, bytes)?;
     if count == 0 || count > COLUMNS_MAX {
-        return Err(BlobFault {
-            at: place_of(total, bytes),
-            kind: FaultKind::BadHeader,
-        });
+        return Err(fault(place_of(total, bytes), FaultKind::BadHeader));
     }
     Ok((count, rest))
 }
@@ -53,10 +57,7 @@ fn take_flags(total: usize, count: usize, bytes: &[u8]) -> Result<(&[u8], &[u8])
 {
     let (flags, rest) = take_bytes(total, count, bytes)?;
     if !has_key(flags) {
-        return Err(BlobFault {
-            at: place_of(total, bytes),
-            kind: FaultKind::BadHeader,
-        });
+        return Err(fault(place_of(total, bytes), FaultKind::BadHeader));
     }
     Ok((flags, rest))
 }
@@ -80,22 +81,13 @@ fn take_name(total: usize, bytes: &[u8]) -> Result<(&str, &[u8]), BlobFault>
 {
     let Some(len) = name_len(bytes) else {
         if bytes.len() <= NAME_BYTES_MAX {
-            return Err(BlobFault {
-                at: total,
-                kind: FaultKind::Truncated,
-            });
+            return Err(fault(total, FaultKind::Truncated));
         }
-        return Err(BlobFault {
-            at: place_of(total, bytes),
-            kind: FaultKind::BadName,
-        });
+        return Err(fault(place_of(total, bytes), FaultKind::BadName));
     };
     match text_in(&bytes[..len]) {
         Some(name) if len > 0 => Ok((name, &bytes[len + 1..])),
-        _ => Err(BlobFault {
-            at: place_of(total, bytes),
-            kind: FaultKind::BadName,
-        }),
+        _ => Err(fault(place_of(total, bytes), FaultKind::BadName)),
     }
 }
 

@@ -5,8 +5,7 @@ ghost use Rattle.cap_codec.specs.declared.key_flags.KeyFlags.{KeyFlags};
 ghost use Rattle.cap_codec.specs.declared.read.Contents.{Contents};
 ghost use Rattle.cap_codec.specs.BlobReading.{blob_at};
 ghost use Rattle.cap_codec.specs.Spelling.{Spells};
-ghost use Rattle.cap_codec.specs.Writable.{IsWritable, blob_bytes_with};
-ghost use Rattle.cap_codec.specs.Writable.{with_some};
+ghost use Rattle.cap_codec.specs.Writable.{IsWritable, blob_bytes_with, with_some};
 
 use cap_value::AllocHandle;
 

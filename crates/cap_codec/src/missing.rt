@@ -40,7 +40,7 @@ fn skip_field(total: usize, bytes: &[u8]) -> Result<&[u8], usize>
 }
 
 /// How many bytes at least the change lacks that these bytes begin, where it is not complete. 1 at a header.
-#[tactic(auto, using(crate::proofs::Short::one_lacks))]
+#[tactic(auto, using(crate::proofs::Looking::one_lacks))]
 pub fn missing<A: AllocHandle>(total: usize, bytes: &[u8]) -> usize
     ensures { Lacks A total bytes.now result }
 {

@@ -4,12 +4,12 @@ ghost use Rattle.std.specs.Prelude.{◌≡◌, length, Ok, IfOk};
 ghost use Rattle.cap_value.specs.Memory.{AnswersUnlessMemory, RefusesFirst, ShowsUnlessMemory};
 ghost use Rattle.cap_codec.specs.declared.read.Contents.{Contents as Spelled};
 ghost use Rattle.cap_codec.specs.BlobReading as blob;
-ghost use Rattle.cap_codec.specs.BlobReading.{entries_at, group_at, patch_group_at, groups_at, blob_at};
+ghost use Rattle.cap_codec.specs.BlobReading.{entries_at, groups_at, blob_at};
 ghost use Rattle.cap_codec.specs.FirstByte.{first_fault};
-ghost use Rattle.cap_changes.specs.KindByte.{changeset_kind, patchset_kind};
 ghost use Rattle.cap_codec.specs.Spelling.{Spells};
 
 use crate::group::take_group;
+use crate::header::fault;
 use cap_changes::{CHANGESET_KIND, ChangeList, Entry, GroupList, PATCHSET_KIND, PatchList};
 use cap_field::{BlobFault, FaultKind, place_of};
 use cap_value::{AllocHandle, Fault};
@@ -28,15 +28,9 @@ pub fn wrong_kind(kind: u8, at: usize) -> BlobFault
     ensures { result ≡ blob.wrong_kind kind at }
 {
     if kind == CHANGESET_KIND || kind == PATCHSET_KIND {
-        BlobFault {
-            at,
-            kind: FaultKind::Mixed,
-        }
+        fault(at, FaultKind::Mixed)
     } else {
-        BlobFault {
-            at,
-            kind: FaultKind::BadOp,
-        }
+        fault(at, FaultKind::BadOp)
     }
 }
 
@@ -61,28 +55,6 @@ fn take_groups<C: Entry + Drop, A: AllocHandle>(
     Ok(list)
 }
 
-fn take_changeset<A: AllocHandle>(
-    alloc: A,
-    total: usize,
-    bytes: &[u8],
-) -> Result<ChangeList<A>, Fault<BlobFault>>
-    ensures { ShowsUnlessMemory (λ list. list) result
-        (groups_at group_at changeset_kind (length bytes.now) total bytes.now) }
-{
-    take_groups(alloc, total, bytes)
-}
-
-fn take_patchset<A: AllocHandle>(
-    alloc: A,
-    total: usize,
-    bytes: &[u8],
-) -> Result<PatchList<A>, Fault<BlobFault>>
-    ensures { ShowsUnlessMemory (λ list. list) result
-        (groups_at patch_group_at patchset_kind (length bytes.now) total bytes.now) }
-{
-    take_groups(alloc, total, bytes)
-}
-
 #[tactic(auto, unfolding(crate::specs::BlobReading::blob_at))]
 fn take_blob<A: AllocHandle>(alloc: A, bytes: &[u8]) -> Result<Contents<A>, Fault<BlobFault>>
     ensures answers { AnswersUnlessMemory result (blob_at bytes.now) }
@@ -90,12 +62,9 @@ fn take_blob<A: AllocHandle>(alloc: A, bytes: &[u8]) -> Result<Contents<A>, Faul
 {
     match bytes {
         [] => Ok(Contents::Changes(ChangeList::new(alloc))),
-        [CHANGESET_KIND, ..] => Ok(Contents::Changes(take_changeset(alloc, bytes.len(), bytes)?)),
-        [PATCHSET_KIND, ..] => Ok(Contents::Patches(take_patchset(alloc, bytes.len(), bytes)?)),
-        _ => Err(Fault::Refused(BlobFault {
-            at: 0,
-            kind: FaultKind::BadHeader,
-        })),
+        [CHANGESET_KIND, ..] => Ok(Contents::Changes(take_groups(alloc, bytes.len(), bytes)?)),
+        [PATCHSET_KIND, ..] => Ok(Contents::Patches(take_groups(alloc, bytes.len(), bytes)?)),
+        _ => Err(Fault::Refused(fault(0, FaultKind::BadHeader))),
     }
 }
 

@@ -1,14 +1,12 @@
 //! Scanning a prefix of a blob, change by change: how far it is complete, and whether it has a fault that no
 //! further bytes can mend.
 
-ghost use Rattle.std.specs.Prelude.{◌≡◌, ◌<◌, ◌≤◌, length, drop, get_or, Err, IfOk, IfSome, OnErr};
+ghost use Rattle.std.specs.Prelude.{◌≡◌, ◌≤◌, length, get_or, IfSome, OnErr};
 ghost use Rattle.cap_value.specs.Memory.{ShowsUnlessMemory};
-ghost use Rattle.cap_value.specs.declared.memory.Fault.TheVariants.{Refused};
-ghost use Rattle.cap_field.specs.declared.fault.BlobFault.{BlobFault as Wrong};
 ghost use Rattle.cap_codec.specs.Pieces.{is_cut, kind_byte, part_at, part_as, IsPlace, IsScanned, Scans};
 
 use crate::group::set_flags;
-use crate::header::take_header;
+use crate::header::{fault, take_header};
 use crate::missing::missing;
 use crate::read::wrong_kind;
 use cap_changes::{CHANGESET_KIND, Entry, Operation, PATCHSET_KIND, Patch, RowChange};
@@ -65,27 +63,22 @@ fn pass_part<'a, C: Entry, A: AllocHandle>(
     Ok(rest)
 }
 
-// Moves the position behind the next change or header. Refused with the fault that it has there.
-fn advance<A: AllocHandle>(
+// The same in groups of this kind.
+fn pass_as<'a, A: AllocHandle>(
     alloc: A,
-    bytes: &[u8],
-    place: &mut ScanPosition<A>,
-) -> Result<(), Fault<BlobFault>>
-    requires { IsPlace bytes.now place.old }
-    ensures place { IsPlace bytes.now place.new }
-    ensures on { IfOk result (λ _. place.old.at < place.new.at) }
-    ensures fault { (fault : Wrong) → result ≡ Err (Refused fault) →
-        part_as A place.new.kind (length bytes.now) place.new.flags.items (drop place.new.at bytes.now)
-        ≡ Err fault }
+    total: usize,
+    kind: Kind,
+    flags: &mut Vec<bool, A>,
+    bytes: &'a [u8],
+) -> Result<&'a [u8], Fault<BlobFault>>
+    ensures gives { ShowsUnlessMemory (λ rest. (flags.new.items, rest.now)) result
+        (part_as A kind total flags.old.items bytes.now) }
+    ensures kept { OnErr result (flags.new ≡ flags.old) }
 {
-    let total = bytes.len();
-    let rest = &bytes[place.at..];
-    let rest = match place.kind {
-        Kind::Changes => pass_part::<RowChange<A>, A>(alloc, total, &mut place.flags, rest)?,
-        Kind::Patches => pass_part::<Patch<A>, A>(alloc, total, &mut place.flags, rest)?,
-    };
-    place.at = place_of(total, rest);
-    Ok(())
+    match kind {
+        Kind::Changes => pass_part::<RowChange<A>, A>(alloc, total, flags, bytes),
+        Kind::Patches => pass_part::<Patch<A>, A>(alloc, total, flags, bytes),
+    }
 }
 
 // Scans from a position, as far as the changes and headers are complete.
@@ -99,11 +92,12 @@ fn scan_from<A: AllocHandle>(
 {
     let mut place = place;
     loop {
-        match advance(alloc, bytes, &mut place) {
-            Ok(()) => {}
+        let rest = &bytes[place.at..];
+        match pass_as(alloc, bytes.len(), place.kind, &mut place.flags, rest) {
+            Ok(behind) => place.at = place_of(bytes.len(), behind),
             Err(Fault::Refused(fault)) => {
                 if is_cut(fault) {
-                    let missing = missing::<A>(bytes.len(), &bytes[place.at..]);
+                    let missing = missing::<A>(bytes.len(), rest);
                     place.due = bytes.len().saturating_add(missing);
                     return Ok(Some(place));
                 }
@@ -157,9 +151,6 @@ pub fn scan<A: AllocHandle>(
         [] => Ok(None),
         [CHANGESET_KIND, ..] => scan_all(alloc, bytes, Kind::Changes),
         [PATCHSET_KIND, ..] => scan_all(alloc, bytes, Kind::Patches),
-        _ => Err(Fault::Refused(BlobFault {
-            at: 0,
-            kind: FaultKind::BadHeader,
-        })),
+        _ => Err(Fault::Refused(fault(0, FaultKind::BadHeader))),
     }
 }

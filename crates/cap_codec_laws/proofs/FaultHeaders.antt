@@ -16,11 +16,11 @@ use Rattle.cap_field.specs.Reading.{◌>>=◌, fault, place, bytes_at, varint_at
 use Rattle.cap_field.specs.Varint.{varint_bytes}
 use Rattle.cap_codec.specs.Writable.{IsTable}
 use Rattle.cap_field.proofs.Binds.{chosen, err_is}
-use Rattle.cap_codec.proofs.HeaderLemmas.{no_zero_before, key_is_set, is_schema_of}
+use Rattle.cap_codec.proofs.HeaderLemmas.{first_zero, zero_at, no_zero_before, key_is_set, is_schema_of}
 use Rattle.cap_field.proofs.FieldAgain.{varint_again, bytes_again}
-use Rattle.cap_codec.proofs.BlobAgain.{first_zero, count_again}
+use Rattle.cap_codec.proofs.BlobAgain.{count_again}
 use Rattle.cap_field.proofs.Spelled.{AreLow, low_behind, varint_spelled, bytes_spelled}
-use Rattle.cap_codec.proofs.SpelledBlob.{count_spelled, flags_spelled, zero_at}
+use Rattle.cap_codec.proofs.SpelledBlob.{count_spelled, flags_spelled}
 use Rattle.cap_codec_laws.proofs.FaultFields.{Fails, fails_then, fails_on, bind_err, not_cut, Stops, later, varint_stops}
 
 -- ---- the count, the flags and the name

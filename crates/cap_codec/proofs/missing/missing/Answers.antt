@@ -1,6 +1,6 @@
 use Rattle.std.proofs.Common.{zero, suc, arith, rules}
 use Rattle.std.proofs.lemmas.List.{take_rest}
-use Rattle.cap_codec.proofs.Short.{change_lacks}
+use Rattle.cap_codec.proofs.Looking.{change_lacks}
 use Rattle.cap_codec.proofs.missing.missing.Goals as goal
 
 pub loop-behind-init : goal.loop-behind-init

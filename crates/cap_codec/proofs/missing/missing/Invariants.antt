@@ -1,6 +1,6 @@
 use Rattle.std.proofs.Common.{ℕ, length}
 use Rattle.cap_codec.specs.Pieces.{Lacks}
-use Rattle.cap_codec.proofs.Short.{FieldsLack}
+use Rattle.cap_codec.proofs.Looking.{FieldsLack}
 use Rattle.cap_codec.proofs.missing.missing.Given as goal
 
 -- what the rest lacks the change lacks

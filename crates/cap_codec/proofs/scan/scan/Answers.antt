@@ -1,4 +1,4 @@
-use Rattle.cap_codec.proofs.Short.{quiet_now}
+use Rattle.cap_codec.proofs.Looking.{quiet_now}
 use Rattle.cap_codec.proofs.scan.scan.Goals as goal
 
 pub returns-then-bytes-place : goal.returns-then-bytes-place
