@@ -103,16 +103,6 @@ header_spelled total bytes x low e =
 abbrev pub BeginsGroup : {X : Type 0} → (X → List ℕ → Type 0) → ℕ → List ℕ → X × List ℕ → Type 0
 BeginsGroup one kind bytes x = (front : List ℕ) × (bytes ≡ front ++ x.1) × one x.0 (kind ∷ front)
 
-of_group : {X : Type 0} (kind : ℕ) (one : X → List ℕ → Type 0) (bytes : List ℕ) (header : Header) (behind : List ℕ) (changes : List X) (left : List ℕ) → IsHeader bytes (header, behind)
-    → (front : List ℕ) → behind ≡ front ++ left → SpellsEach one changes front
-    → (all : List ℕ) × (bytes ≡ all ++ left) × SpellsGroup kind header.table header.flags one changes (kind ∷ all)
-of_group kind one bytes header behind changes left (table, (flags, flagged, parts)) front is spelled =
-    let start = varint_bytes (length header.flags) ++ flags ++ header.table in (
-      start ++ 0 ∷ front,
-      parts ∙ ap (λ (b : List ℕ). start ++ 0 ∷ b) is ∙ sym (append_assoc start (0 ∷ front) left),
-      record { named = table; flags = flags; flagged = flagged; rest = front; parts = refl; each = spelled },
-    )
-
 module _ {X : Type 0} (one_at : ℕ → List Bool → ℕ → List ℕ → Result (X × List ℕ) BlobFault) (kind : ℕ) (one : List Bool → X → List ℕ → Type 0) where
   entries_spelled : ((total : ℕ) (flags : List Bool) (op : ℕ) (bytes : List ℕ) (x : X × List ℕ) → AreLow bytes → is_operation op ≡ true → one_at total flags op bytes ≡ Ok x → Begins (one flags) op bytes x)
       → (total : ℕ) (bytes : List ℕ) (x : TableEntries X × List ℕ) → AreLow bytes → entries_at one_at total bytes ≡ Ok x
@@ -120,11 +110,15 @@ module _ {X : Type 0} (one_at : ℕ → List Bool → ℕ → List ℕ → Resul
   entries_spelled spelled total bytes x low e =
       let header = bind_ok (header_at total bytes) _ x e in
       let changes = bind_ok (changes_at one_at (length header.0.1) total header.0.0.flags header.0.1) (λ changes. Ok (record { table = header.0.0.table; schema = header.0.0.flags; changes = [] ++ changes.0 }, changes.1)) x header.2 in
-      let is = header_spelled total bytes header.0 low header.1 in
-      let low' = low_behind bytes (varint_bytes (length header.0.0.flags) ++ is.1.0 ++ header.0.0.table ++ 0 ∷ []) header.0.1 (is.1.2 ∙ sym (append_assoc (varint_bytes (length header.0.0.flags) ++ is.1.0 ++ header.0.0.table) (0 ∷ []) header.0.1)) low in
-      let are = each_spelled one_at total header.0.0.flags (one header.0.0.flags) (spelled total header.0.0.flags) (length header.0.1) header.0.1 changes.0 low' changes.1 in
-      subst (BeginsGroup (λ group b. SpellsGroup kind group.table group.schema (one group.schema) group.changes b) kind bytes) (ok_is (record { table = header.0.0.table; schema = header.0.0.flags; changes = changes.0.0 }, changes.0.1) x changes.2)
-      (of_group kind (one header.0.0.flags) bytes header.0.0 header.0.1 changes.0.0 changes.0.1 is are.0 are.1 are.2)
+      let (table, (flags, flagged, parts)) = header_spelled total bytes header.0 low header.1 in
+      let start = varint_bytes (length header.0.0.flags) ++ flags ++ header.0.0.table in
+      let low' = low_behind bytes (start ++ 0 ∷ []) header.0.1 (parts ∙ sym (append_assoc start (0 ∷ []) header.0.1)) low in
+      let (front, is, each) = each_spelled one_at total header.0.0.flags (one header.0.0.flags) (spelled total header.0.0.flags) (length header.0.1) header.0.1 changes.0 low' changes.1 in
+      subst (BeginsGroup (λ group b. SpellsGroup kind group.table group.schema (one group.schema) group.changes b) kind bytes) (ok_is (record { table = header.0.0.table; schema = header.0.0.flags; changes = changes.0.0 }, changes.0.1) x changes.2) (
+        start ++ 0 ∷ front,
+        parts ∙ ap (λ (b : List ℕ). start ++ 0 ∷ b) is ∙ sym (append_assoc start (0 ∷ front) changes.0.1),
+        record { named = table; flags = flags; flagged = flagged; rest = front; parts = refl; each = each },
+      )
 
 module _ {A : Type 0} where
   pub group_spelled : (total : ℕ) (bytes : List ℕ) (x : TableChanges A × List ℕ) → AreLow bytes → group_at total bytes ≡ Ok x → BeginsGroup SpellsChanges 0x54 bytes x

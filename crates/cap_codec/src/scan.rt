@@ -1,9 +1,9 @@
 //! Scanning a prefix of a blob, change by change: how far it is complete, and whether it has a fault that no
 //! further bytes can mend.
 
-ghost use Rattle.std.specs.Prelude.{◌≡◌, ◌≤◌, length, get_or, IfSome, OnErr};
+ghost use Rattle.std.specs.Prelude.{◌≡◌, IfSome, OnErr};
 ghost use Rattle.cap_value.specs.Memory.{ShowsUnlessMemory};
-ghost use Rattle.cap_codec.specs.Pieces.{is_cut, kind_byte, part_at, part_as, IsPlace, IsScanned, Scans};
+ghost use Rattle.cap_codec.specs.Pieces.{is_cut, part_at, part_as, IsPlace, IsScanned, Scans};
 
 use crate::group::set_flags;
 use crate::header::{fault, take_header};
@@ -108,28 +108,6 @@ fn scan_from<A: AllocHandle>(
     }
 }
 
-// Scans from the first byte, which is that of the kind.
-fn scan_all<A: AllocHandle>(
-    alloc: A,
-    bytes: &[u8],
-    kind: Kind,
-) -> Result<Option<ScanPosition<A>>, Fault<BlobFault>>
-    requires some { 1 ≤ length bytes.now }
-    requires first { get_or bytes.now 0 0 ≡ kind_byte kind }
-    ensures { Scans result bytes.now }
-{
-    scan_from(
-        alloc,
-        bytes,
-        ScanPosition {
-            kind,
-            flags: Vec::new(alloc),
-            at: 0,
-            due: 0,
-        },
-    )
-}
-
 /// Scans what is complete of these bytes, from a position on, once more is due. Refused with the fault that
 /// no further bytes can mend.
 #[tactic(auto, unfolding(crate::specs::BlobReading::blob_at))]
@@ -147,10 +125,17 @@ pub fn scan<A: AllocHandle>(
         }
         return scan_from(alloc, bytes, place);
     }
-    match bytes {
-        [] => Ok(None),
-        [CHANGESET_KIND, ..] => scan_all(alloc, bytes, Kind::Changes),
-        [PATCHSET_KIND, ..] => scan_all(alloc, bytes, Kind::Patches),
-        _ => Err(Fault::Refused(fault(0, FaultKind::BadHeader))),
-    }
+    let kind = match bytes {
+        [] => return Ok(None),
+        [CHANGESET_KIND, ..] => Kind::Changes,
+        [PATCHSET_KIND, ..] => Kind::Patches,
+        _ => return Err(Fault::Refused(fault(0, FaultKind::BadHeader))),
+    };
+    let place = ScanPosition {
+        kind,
+        flags: Vec::new(alloc),
+        at: 0,
+        due: 0,
+    };
+    scan_from(alloc, bytes, place)
 }
