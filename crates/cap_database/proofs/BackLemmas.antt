@@ -1,12 +1,12 @@
 -- A row that is put under its key in one table of a database, or taken out from under it.
-use Rattle.std.proofs.Common.{◌≡◌, ℕ, true, cond, Option, Some, None, Result, Ok, Err, List, [], ◌∷◌, length, refl, sym, ap, ap₂, subst, ◌∙◌, Ordering, Less, Equal, Greater}
+use Rattle.std.proofs.Common.{◌≡◌, ℕ, true, cond, Option, Some, None, Result, Ok, Err, List, [], ◌∷◌, length, refl, sym, ap, subst, ◌∙◌, arith, Ordering, Less}
 use Rattle.std.specs.Prelude.{IfOk, IfNone, OnOk, OnErr, is_some, option_and_then}
 use Rattle.std.specs.Cmp.{IsTotalOrder, tied_itself}
 use Rattle.std.specs.FinMap.{IsAntisymmetric}
 use Rattle.std.specs.List.{AllByRecursion}
 use Rattle.std.specs.List.Sorted.{IsStrictlySortedBy}
 use Rattle.std.specs.Map.{keys_of}
-use Rattle.std.specs.Ordering.{is_eq, match_ordering}
+use Rattle.std.specs.Ordering.{is_eq}
 use Rattle.std.proofs.lemmas.Cmp.{nat_list_cmp_total}
 use Rattle.cap_value.specs.Bytes.{bytes_cmp}
 use Rattle.cap_row.specs.Fields.{Fields}
@@ -26,15 +26,11 @@ use Rattle.cap_tree.proofs.EntryLemmas.{ordered_put}
 module _ {K V : Type 0} (R : K → K → Ordering) (o : IsTotalOrder R) where
   -- the last of two puts at a key stands
   pub again : (es : List (K × V)) (k : K) (v w : V) → put_entry R (put_entry R es k w) k v ≡ put_entry R es k v
-  again [] k v w = ap (λ r. match_ordering r ((k, v) ∷ (k, w) ∷ []) ((k, v) ∷ []) ((k, w) ∷ (k, v) ∷ [])) (tied_itself o k)
+  again [] k v w = let tie = tied_itself o k in grind (arith, tie)
   again (e ∷ es) k v w =
-      elim (R k e.0) as (λ r. R k e.0 ≡ r → put_entry R (match_ordering r ((k, w) ∷ e ∷ es) ((k, w) ∷ es) (e ∷ put_entry R es k w)) k v ≡ match_ordering r ((k, v) ∷ e ∷ es) ((k, v) ∷ es) (e ∷ put_entry R es k v)) [
-        | Less ↦ λ p. ap (λ r. match_ordering r ((k, v) ∷ (k, w) ∷ e ∷ es) ((k, v) ∷ e ∷ es) ((k, w) ∷ put_entry R (e ∷ es) k v)) (tied_itself o k)
-        | Equal ↦ λ p. ap (λ r. match_ordering r ((k, v) ∷ (k, w) ∷ es) ((k, v) ∷ es) ((k, w) ∷ put_entry R es k v)) (tied_itself o k)
-        | Greater ↦ λ p.
-            ap (λ r. match_ordering r ((k, v) ∷ e ∷ put_entry R es k w) ((k, v) ∷ put_entry R es k w) (e ∷ put_entry R (put_entry R es k w) k v)) p
-            ∙ ap (λ t. e ∷ t) (again es k v w)
-      ] refl
+      let tie = tied_itself o k in
+      let rest = again es k v w in
+      grind (arith, tie, rest)
 
   below-first : (k e : K) → R k e ≡ Less → (es : List (K × V)) → AllByRecursion (λ y. R e y ≡ Less) (keys_of es) → get R es k ≡ None
   below-first k e less [] h = refl
@@ -45,11 +41,10 @@ module _ {K V : Type 0} (R : K → K → Ordering) (o : IsTotalOrder R) where
   unfolding IsStrictlySortedBy
   there-already same [] k v s is = absurd cc
   there-already same (e ∷ es) k v s is =
-      elim (R k e.0) as (λ r. R k e.0 ≡ r → cond (is_eq r) (Some e.1) (get R es k) ≡ Some v → match_ordering r ((k, v) ∷ e ∷ es) ((k, v) ∷ es) (e ∷ put_entry R es k v) ≡ e ∷ es) [
-        | Less ↦ λ p found. let none : get R es k ≡ None = below-first k e.0 p es s.0 in absurd cc
-        | Equal ↦ λ p found. let value : v ≡ e.1 = cc in ap₂ (λ a b. (a, b) ∷ es) (same k e.0 p) value
-        | Greater ↦ λ p found. ap (λ x. e ∷ x) (there-already same es k v s.1 found)
-      ] refl is
+      let none = λ (less : R k e.0 ≡ Less). below-first k e.0 less es s.0 in
+      let keys = same k e.0 in
+      let rest = there-already same es k v s.1 in
+      grind (arith, none, keys, rest)
 
 pub one_table : {X : Type 0} (found : Option X) (x y : X) → found ≡ Some x → found ≡ Some y → x ≡ y
 one_table found x y first second = cc
@@ -106,7 +101,7 @@ module _ {A : Type 0} where
       pub take-none : {E : Type 0} (r : Result (Option (Fields A)) E) → OnOk r (new ≡ row_set tables name key None) → IfOk r (λ before. before ≡ row_at tables name key)
           → IfOk r (λ before. IfNone before (new ≡ tables))
       take-none (Ok None) set before =
-          set ∙ set_is key None ∙ ap (put_entry bytes_cmp tables name) (none-taken its.table key (sym (at_is key) ∙ sym before))
+          set ∙ set_is key None ∙ ap (put_entry bytes_cmp tables name) (none-taken its.table (Key key) (sym (at_is key) ∙ sym before))
           ∙ there-already bytes_cmp nat_list_cmp_total names_same tables name its.table h.ordered its.is
       take-none (Ok (Some old)) set before = tt
       take-none (Err e) set before = tt

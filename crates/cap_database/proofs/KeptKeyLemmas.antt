@@ -1,12 +1,10 @@
 -- An operation on a row that keeps its key: what its hook is shown, and its changes.
-use Rattle.std.proofs.Common.{◌≡◌, ◌⊎◌, ℕ, Bool, true, false, cond, Option, Some, None, Result, Ok, Err, List, [], ◌∷◌, inl, inr, refl, sym, ap, ap₂, subst, ◌∙◌, length}
+use Rattle.std.proofs.Common.{◌≡◌, ◌⊎◌, ℕ, Bool, true, cond, Option, Some, None, Result, Ok, Err, List, [], ◌∷◌, inl, inr, refl, sym, ap, ap₂, subst, ◌∙◌, length, arith}
 use Rattle.std.specs.Prelude.{OnOk, option_and_then, ◌==◌}
 use Rattle.std.specs.Cmp.{Equal-is, tied_itself}
 use Rattle.cap_value.specs.declared.refusal.Refusal.{Refusal}
-use Rattle.cap_value.specs.declared.refusal.Refusal.TheVariants.{BadColumn}
 use Rattle.cap_row.specs.Fields.{Fields}
 use Rattle.cap_row.specs.Key.{fields_cmp, fields_cmp_total, fields_eq, key_of}
-use Rattle.cap_row.specs.Row.{are_columns, columns_of}
 use Rattle.cap_tree.specs.Tree.{get}
 use Rattle.cap_table.specs.KeptKey.{keeps_key}
 use Rattle.cap_table.specs.Operation.{row_of, updated}
@@ -39,12 +37,7 @@ module _ {A : Type 0} where
   tied_itself-eq key = (Equal-is (fields_cmp key key)).1 (tied_itself fields_cmp_total key)
 
   if_true : (b : Bool) (own : Option (Fields A)) (key : Fields A) → cond b own None ≡ Some key → (b ≡ true) × (own ≡ Some key)
-  if_true true own key is = (refl, is)
-  if_true false own key is = absurd cc
-
-  not_bad : (b : Bool) (r : Result (TableState A) Refusal) (after : TableState A) → cond b r (Err BadColumn) ≡ Ok after → r ≡ Ok after
-  not_bad true r after is = is
-  not_bad false r after is = absurd cc
+  if_true b own key is = grind arith
 
   module _ (t : TableState A) (h : IsTable t) (key : Fields A) where
     updated-twice : (fields : Assigned A) → keeps_key t.schema fields ≡ true → (found : Option (Fields A)) → get fields_cmp t.keyed key ≡ found → (after : TableState A) → updated t (Key key) fields found ≡ Ok after
@@ -66,7 +59,7 @@ module _ {A : Type 0} where
       inl (ap₂ (λ k (b : Option (Fields A)). (k, b) ∷ []) own free)
   keys-kept t h (Update (Key own) fields) key kept after is =
       let both = if_true (keeps_key t.schema fields) (Some own) key kept in
-      let made = not_bad (are_columns (length t.schema) (columns_of fields)) (updated t (Key own) fields (row_of t (Key own))) after is in
+      let made : updated t (Key own) fields (row_of t (Key own)) ≡ Ok after = grind arith in
       let same : own ≡ key = same_found own key both.1 in
       inr (updated-twice t h own fields both.0 (row_of t (Key own)) refl after made ∙ ap (λ k. (Some k, get fields_cmp t.keyed k) ∷ (Some k, None) ∷ []) same)
   keys-kept t h (Update (Loose id) fields) key kept after is = absurd cc

@@ -1,10 +1,9 @@
 -- What operations and new tables keep of a database: the columns of its tables, and that names, keys and ids rise.
-use Rattle.std.proofs.Common.{◌≡◌, ℕ, Bool, true, false, cond, Option, Some, None, Result, Ok, Err, List, [], ◌∷◌, refl, sym, ap, subst, ◌∙◌, Less, Equal, Greater}
-use Rattle.std.specs.Prelude.{IfOk, OnErr, is_some, length, nat_lt}
-use Rattle.std.specs.Option.{option_map}
+use Rattle.std.proofs.Common.{◌≡◌, ℕ, Bool, true, false, cond, Option, Some, None, Result, Ok, Err, List, [], ◌∷◌, refl, sym, subst, ◌∙◌, arith, Less, Equal, Greater}
+use Rattle.std.specs.Prelude.{IfOk, OnErr, is_some}
 use Rattle.std.specs.List.{AllByRecursion}
 use Rattle.std.specs.Ordering.{eq_by_cmp, match_ordering}
-use Rattle.std.specs.Cmp.{Equal-is, eq_by_cmp_equiv}
+use Rattle.std.specs.Cmp.{Equal-is}
 use Rattle.std.specs.FinMap.{IsAntisymmetric, nat_cmp-IsAntisymmetric, slice_cmp-IsAntisymmetric}
 use Rattle.std.specs.FinMap.Entries.{find, is_sorted}
 use Rattle.std.proofs.lemmas.Cmp.{nat_list_cmp_total}
@@ -12,10 +11,8 @@ use Rattle.cap_value.specs.Bytes.{bytes_cmp}
 use Rattle.cap_value.specs.Memory.{LeavesUnlessMemory}
 use Rattle.cap_value.specs.declared.memory.Fault.{Fault}
 use Rattle.cap_value.specs.declared.refusal.Refusal.{Refusal}
-use Rattle.cap_value.specs.declared.refusal.Refusal.TheVariants.{TableExists, TooMany}
 use Rattle.cap_row.specs.Fields.{Fields}
 use Rattle.cap_tree.specs.Tree.{get, put_entry}
-use Rattle.cap_tree.proofs.EntryLemmas.{put_entry-Updates}
 use Rattle.cap_table.specs.WithHook.{LeavesIfAllowed}
 use Rattle.cap_table.specs.Operation.{delete_row, empty_table, insert_row, update_row}
 use Rattle.cap_table.specs.Sound.{IsRising}
@@ -24,7 +21,7 @@ use Rattle.cap_table.specs.declared.change_fault.ChangeFault.{ChangeFault}
 use Rattle.cap_table.specs.declared.row_ref.RowRef.{RowRef}
 use Rattle.cap_table.proofs.KeptLemmas.{sorted-put as sorted-entries}
 use Rattle.cap_database.specs.Assigned.{Assigned}
-use Rattle.cap_database.specs.Operation.{act, and_then, changes, in_place, one_later, run, step, stepped, with_changes}
+use Rattle.cap_database.specs.Operation.{act, and_then, changes, in_place, run, step, stepped}
 use Rattle.cap_database.specs.Outcome.{OutcomeState}
 use Rattle.cap_database.specs.Tables.{AreRising, EachRises, Tables, create, created, refused_create, schema_of, table_of}
 use Rattle.cap_database.specs.declared.change.Change.{Change}
@@ -32,6 +29,7 @@ use Rattle.cap_database.specs.declared.op.Action.{Action}
 use Rattle.cap_database.specs.declared.op.Action.TheVariants.{Insert, Update, Delete}
 use Rattle.cap_database.specs.declared.op.Op.{Op}
 use Rattle.cap_database.specs.declared.refused_at.RefusedAt.{RefusedAt}
+use Rattle.cap_database.proofs.WritesLemmas.{get-find as entries-find, get-put as entries-put}
 
 -- what is so of an answer is so where it says more
 pub if_ok : {X E : Type 0} (P Q : X → Type 0) → ((x : X) → P x → Q x) → (r : Result X E) → IfOk r P → IfOk r Q
@@ -45,13 +43,11 @@ names_same = slice_cmp-IsAntisymmetric nat_cmp-IsAntisymmetric
 
 module _ {X : Type 0} where
   pub get-find : (es : List (List ℕ × X)) (q : List ℕ) → get bytes_cmp es q ≡ find bytes_cmp q es
-  get-find [] q = refl
-  get-find (e ∷ es) q = ap (cond (eq_by_cmp bytes_cmp q e.0) (Some e.1)) (get-find es q)
+  get-find es q = entries-find bytes_cmp nat_list_cmp_total names_same es q
 
   -- what a name has after a put
   pub get-put : (es : List (List ℕ × X)) (name : List ℕ) (x : X) (q : List ℕ) → get bytes_cmp (put_entry bytes_cmp es name x) q ≡ cond (eq_by_cmp bytes_cmp q name) (Some x) (get bytes_cmp es q)
-  get-put es name x q =
-      put_entry-Updates bytes_cmp nat_list_cmp_total name x es q ∙ ap (λ b. cond b (Some x) (get bytes_cmp es q)) ((eq_by_cmp_equiv nat_list_cmp_total).symm name q)
+  get-put es name x q = entries-put bytes_cmp nat_list_cmp_total names_same es name x q
 
   pub sorted-put : (es : List (List ℕ × X)) (name : List ℕ) (x : X) → is_sorted bytes_cmp es ≡ true → is_sorted bytes_cmp (put_entry bytes_cmp es name x) ≡ true
   sorted-put es name x s = sorted-entries bytes_cmp nat_list_cmp_total names_same es name x s
@@ -68,51 +64,33 @@ module _ {X : Type 0} where
 
     pub each-found : (es : List (List ℕ × X)) (name : List ℕ) (x : X) → AllByRecursion (λ e. P e.1) es → get bytes_cmp es name ≡ Some x → P x
     each-found [] name x all is = cc
-    each-found (e ∷ es) name x all is =
-        elim (eq_by_cmp bytes_cmp name e.0) as (λ b. cond b (Some e.1) (get bytes_cmp es name) ≡ Some x → P x) [
-          | true ↦ λ here. let same : e.1 ≡ x = cc in subst P same all.0
-          | false ↦ λ later. each-found es name x all.1 later
-        ] is
+    each-found (e ∷ es) name x all is = let rest = each-found es name x all.1 in grind (arith, rest, all.0)
 
 pub same_name : (q name : List ℕ) → eq_by_cmp bytes_cmp q name ≡ true → q ≡ name
 same_name q name t = names_same q name ((Equal-is (bytes_cmp q name)).0 t)
-
-absent : {X : Type 0} (found : Option X) → is_some found ≡ false → found ≡ None
-absent None e = refl
-absent (Some x) e = cc
 
 module _ {A : Type 0} where
   -- a table of the same columns in the place of another
   pub schema_of-put : (tables : Tables A) (name : List ℕ) (old new : TableState A) → table_of tables name ≡ Some old → new.schema ≡ old.schema → (q : List ℕ) → schema_of (put_entry bytes_cmp tables name new) q ≡ schema_of tables q
   schema_of-put tables name old new there same q =
-      ap (option_map (λ t. t.schema)) (get-put tables name new q)
-      ∙ elim (eq_by_cmp bytes_cmp q name) as (λ b. eq_by_cmp bytes_cmp q name ≡ b → option_map (λ t. t.schema) (cond b (Some new) (table_of tables q)) ≡ schema_of tables q) [
-        | true ↦ λ e. ap Some same ∙ ap (option_map (λ t. t.schema)) (sym there ∙ ap (table_of tables) (sym (same_name q name e)))
-        | false ↦ λ e. refl
-      ] refl
+      let found = get-put tables name new q in
+      let named = same_name q name in
+      grind (arith, found, named)
 
   -- a table of a new name
   schema_of-create : (tables : Tables A) (name : List ℕ) (table : TableState A) → is_some (table_of tables name) ≡ false → (q : List ℕ) (columns : List Bool) → schema_of tables q ≡ Some columns
       → schema_of (put_entry bytes_cmp tables name table) q ≡ Some columns
   schema_of-create tables name table free q columns is =
-      ap (option_map (λ t. t.schema)) (get-put tables name table q)
-      ∙ elim (eq_by_cmp bytes_cmp q name) as (λ b. eq_by_cmp bytes_cmp q name ≡ b → option_map (λ t. t.schema) (cond b (Some table) (table_of tables q)) ≡ Some columns) [
-        | true ↦ λ e.
-            let none : schema_of tables q ≡ None = ap (schema_of tables) (same_name q name e) ∙ ap (option_map (λ t. t.schema)) (absent (table_of tables name) free) in
-            absurd cc
-        | false ↦ λ e. is
-      ] refl
+      let found = get-put tables name table q in
+      let named = same_name q name in
+      grind (arith, found, named)
 
   -- ---- lists of operations
 
   -- what the others leave of what the first leaves
   pub and_then-leaves : (P : Tables A → Type 0) (before : List (Change A)) (first : Result (Tables A) Refusal) (others : Tables A → Result (OutcomeState A) RefusedAt)
       → IfOk first (λ next. IfOk (others next) (λ left. P left.database)) → IfOk (and_then before first others) (λ left. P left.database)
-  and_then-leaves P before (Ok next) others h = inner (others next) h
-    where
-      inner : (r : Result (OutcomeState A) RefusedAt) → IfOk r (λ left. P left.database) → IfOk (with_changes before (one_later r)) (λ left. P left.database)
-      inner (Ok left) h = h
-      inner (Err refused) h = tt
+  and_then-leaves P before (Ok next) others h = grind arith
   and_then-leaves P before (Err why) others h = tt
 
   -- ---- columns
@@ -142,29 +120,26 @@ module _ {A : Type 0} where
 
   pub create-columns : (tables : Tables A) (name : List ℕ) (schema : List Bool) → IfOk (create tables name schema) (KeptColumns tables)
   create-columns tables name schema =
-      inner (is_some (table_of tables name)) refl
+      given (refused_create tables name) refl
     where
-      given : (refused : Option Refusal) → is_some (table_of tables name) ≡ false → IfOk (created refused tables name schema) (KeptColumns tables)
-      given None free = schema_of-create tables name (empty_table schema) free
+      given : (refused : Option Refusal) → refused_create tables name ≡ refused → IfOk (created refused tables name schema) (KeptColumns tables)
+      given None free = schema_of-create tables name (empty_table schema) (let taken : is_some (table_of tables name) ≡ false = grind arith in taken)
       given (Some why) free = tt
-
-      inner : (there : Bool) → is_some (table_of tables name) ≡ there → IfOk (create tables name schema) (KeptColumns tables)
-      inner true is = subst (λ b. IfOk (created (cond b (Some TableExists) (cond (nat_lt (length tables) 64) None (Some TooMany))) tables name schema) (KeptColumns tables)) (sym is) tt
-      inner false is = given (refused_create tables name) is
 
   -- ---- order
 
   module _ (acts : (table : TableState A) (action : Action A) → IsRising table → IfOk (act table action) IsRising) where
-    stepped-each : (tables : Tables A) (op : Op A) (found : Option (TableState A)) → EachRises tables → table_of tables op.table ≡ found → IfOk (stepped tables found op) EachRises
-    stepped-each tables op None each is = tt
-    stepped-each tables op (Some table) each is = inner (act table op.action) (acts table op.action (each-found IsRising tables op.table table each is))
+    stepped-keeps : (P : Tables A → Type 0) (tables : Tables A) → ((name : List ℕ) (after : TableState A) → IsRising after → P (put_entry bytes_cmp tables name after))
+        → (op : Op A) (found : Option (TableState A)) → EachRises tables → table_of tables op.table ≡ found → IfOk (stepped tables found op) P
+    stepped-keeps P tables put op None each is = tt
+    stepped-keeps P tables put op (Some table) each is = inner (act table op.action) (acts table op.action (each-found IsRising tables op.table table each is))
       where
-        inner : (r : Result (TableState A) Refusal) → IfOk r IsRising → IfOk (in_place tables op.table r) EachRises
-        inner (Ok after) rises = each-put IsRising tables op.table after each rises
+        inner : (r : Result (TableState A) Refusal) → IfOk r IsRising → IfOk (in_place tables op.table r) P
+        inner (Ok after) rises = put op.table after rises
         inner (Err why) rises = tt
 
     step-each : (tables left : Tables A) (op : Op A) → EachRises tables → step tables op ≡ Ok left → EachRises left
-    step-each tables left op each is = subst (λ r. IfOk r EachRises) is (stepped-each tables op (table_of tables op.table) each refl)
+    step-each tables left op each is = subst (λ r. IfOk r EachRises) is (stepped-keeps EachRises tables (λ name after. each-put IsRising tables name after each) op (table_of tables op.table) each refl)
 
     -- after an operation in place, whatever became of it
     pub left-each : {X : Type 0} (r : Result X (Fault Refusal)) (tables left : Tables A) (op : Op A) → EachRises tables → LeavesUnlessMemory r (step tables op) left → OnErr r (left ≡ tables) → EachRises left
@@ -177,19 +152,12 @@ module _ {A : Type 0} where
     agreed-each (Ok done) tables left op unasked gives each is same = step-each tables left op each is.0
     agreed-each (Err e) tables left op unasked gives each is same = subst EachRises (sym same) each
 
-    stepped-rises : (tables : Tables A) (op : Op A) (found : Option (TableState A)) → AreRising tables → table_of tables op.table ≡ found → IfOk (stepped tables found op) AreRising
-    stepped-rises tables op None rise is = tt
-    stepped-rises tables op (Some table) rise is = inner (act table op.action) (acts table op.action (each-found IsRising tables op.table table rise.each is))
-      where
-        inner : (r : Result (TableState A) Refusal) → IfOk r IsRising → IfOk (in_place tables op.table r) AreRising
-        inner (Ok after) rises = record { names = sorted-put tables op.table after rise.names; each = each-put IsRising tables op.table after rise.each rises }
-        inner (Err why) rises = tt
-
     pub run-rises : (tables : Tables A) (ops : List (Op A)) → AreRising tables → IfOk (run tables ops) (λ left. AreRising left.database)
     run-rises tables [] rise = rise
     run-rises tables (op ∷ ops) rise =
         and_then-leaves AreRising (changes tables op) (step tables op) (λ next. run next ops)
-        (if_ok AreRising (λ next. IfOk (run next ops) (λ left. AreRising left.database)) (λ next more. run-rises next ops more) (step tables op) (stepped-rises tables op (table_of tables op.table) rise refl))
+        (if_ok AreRising (λ next. IfOk (run next ops) (λ left. AreRising left.database)) (λ next more. run-rises next ops more) (step tables op) (stepped-keeps AreRising tables (λ name after rises. record { names = sorted-put tables name after rise.names; each = each-put IsRising tables name after rise.each rises })
+        op (table_of tables op.table) rise.each refl))
 
   pub create-rises : ((schema : List Bool) → IsRising (empty_table {A = A} schema)) → (tables : Tables A) (name : List ℕ) (schema : List Bool) → AreRising tables → IfOk (create tables name schema) AreRising
   create-rises empty tables name schema rise = inner (refused_create tables name)

@@ -1,5 +1,5 @@
 -- What an operation writes to its table, apart from what it needs of the table.
-use Rattle.std.proofs.Common.{◌≡◌, ℕ, ◌+◌, ◌^◌, Bool, true, false, cond, Option, Some, None, Result, Ok, Err, List, [], ◌∷◌, length, refl}
+use Rattle.std.proofs.Common.{◌≡◌, ℕ, ◌+◌, ◌^◌, Bool, false, Option, Some, None, Result, Ok, Err, List, [], ◌∷◌, length, refl, arith}
 use Rattle.std.specs.Prelude.{◌==◌, if◌then◌else◌, is_some, nat_lt, option_and_then}
 use Rattle.std.specs.Ordering.{nat_cmp}
 use Rattle.std.specs.FinMap.{nat_cmp-IsAntisymmetric}
@@ -11,7 +11,7 @@ use Rattle.cap_row.specs.Key.{fields_cmp, fields_cmp_total, fields_eq, key_of}
 use Rattle.cap_row.specs.Row.{are_columns, columns_of, row_with}
 use Rattle.cap_tree.specs.Tree.{get}
 use Rattle.cap_table.proofs.TableLemmas.{fields_same}
-use Rattle.cap_table.specs.Operation.{moved, placed, row_of, under_key, updated, with_id, with_key, without}
+use Rattle.cap_table.specs.Operation.{moved, placed, row_of, updated}
 use Rattle.cap_table.specs.Table.{TableState}
 use Rattle.cap_table.specs.declared.row_ref.RowRef.{RowRef}
 use Rattle.cap_table.specs.declared.row_ref.RowRef.TheVariants.{Key, Loose}
@@ -103,21 +103,13 @@ module _ {A : Type 0} where
   -- ---- an operation does what is planned
 
   placed-planned : (t : TableState A) (row : Fields A) (key : Option (Fields A)) → placed t row key ≡ planned t (placed_plan row key (is_taken t key) (nat_lt t.next_id (2 ^ 63)))
-  placed-planned t row (Some key) =
-      elim (is_some (get fields_cmp t.keyed key)) as (λ b. under_key b t key row ≡ planned t (unless_taken b (record { keys = (key, Some row) ∷ []; ids = []; fresh = None }))) [ true ↦ refl | false ↦ refl ]
-  placed-planned t row None =
-      elim (nat_lt t.next_id (2 ^ 63)) as (λ b. cond b (Ok (record (with_id t t.next_id row) { next_id = t.next_id + 1 })) (Err IdsSpent) ≡ planned t (if_left b (record { keys = []; ids = []; fresh = Some row }))) [ true ↦ refl | false ↦ refl ]
+  placed-planned t row (Some key) = grind arith
+  placed-planned t row None = grind arith
 
   moved-planned : (t : TableState A) (name : RowRef A) (row : Fields A) (key : Option (Fields A)) → moved t name row key ≡ planned t (moved_plan name row key (is_taken t key) (nat_lt t.next_id (2 ^ 63)))
-  moved-planned t (Key old) row (Some new) =
-      elim (fields_eq old new) as (λ e. cond e (Ok (with_key t new row)) (under_key (is_some (get fields_cmp t.keyed new)) (without t (Key old)) new row) ≡ planned t (cond e (Ok (record { keys = (new, Some row) ∷ []; ids = []; fresh = None })) (unless_taken (is_some (get fields_cmp t.keyed new)) (record { keys = (old, None) ∷ (new, Some row) ∷ []; ids = []; fresh = None })))) [
-        | true ↦ refl
-        | false ↦ elim (is_some (get fields_cmp t.keyed new)) as (λ b. under_key b (without t (Key old)) new row ≡ planned t (unless_taken b (record { keys = (old, None) ∷ (new, Some row) ∷ []; ids = []; fresh = None }))) [ true ↦ refl | false ↦ refl ]
-      ]
-  moved-planned t (Key old) row None =
-      elim (nat_lt t.next_id (2 ^ 63)) as (λ b. cond b (Ok (record (with_id (without t (Key old)) t.next_id row) { next_id = t.next_id + 1 })) (Err IdsSpent) ≡ planned t (if_left b (record { keys = (old, None) ∷ []; ids = []; fresh = Some row }))) [ true ↦ refl | false ↦ refl ]
-  moved-planned t (Loose id) row (Some new) =
-      elim (is_some (get fields_cmp t.keyed new)) as (λ b. under_key b (without t (Loose id)) new row ≡ planned t (unless_taken b (record { keys = (new, Some row) ∷ []; ids = (id, None) ∷ []; fresh = None }))) [ true ↦ refl | false ↦ refl ]
+  moved-planned t (Key old) row (Some new) = grind arith
+  moved-planned t (Key old) row None = grind arith
+  moved-planned t (Loose id) row (Some new) = grind arith
   moved-planned t (Loose id) row None = refl
 
   updated-planned : (t : TableState A) (name : RowRef A) (fields : Assigned A) (found : Option (Fields A))
@@ -126,16 +118,7 @@ module _ {A : Type 0} where
   updated-planned t name fields (Some row) = moved-planned t name (row_with fields row) (key_of t.schema (row_with fields row))
 
   pub act-planned : (t : TableState A) (a : Action A) → act t a ≡ planned t (plan_on t a)
-  act-planned t (Insert row) =
-      elim (length row == length t.schema) as (λ b. cond b (placed t row (key_of t.schema row)) (Err WrongWidth) ≡ planned t (cond b (placed_plan row (key_of t.schema row) (is_taken t (key_of t.schema row)) (nat_lt t.next_id (2 ^ 63))) (Err WrongWidth))) [
-        | true ↦ placed-planned t row (key_of t.schema row)
-        | false ↦ refl
-      ]
-  act-planned t (Update name fields) =
-      let plan = updated_plan t.schema name fields (row_of t name) (is_taken t (option_and_then (λ row. key_of t.schema (row_with fields row)) (row_of t name))) (nat_lt t.next_id (2 ^ 63)) in
-      elim (are_columns (length t.schema) (columns_of fields)) as (λ b. cond b (updated t name fields (row_of t name)) (Err BadColumn) ≡ planned t (cond b plan (Err BadColumn))) [
-        | true ↦ updated-planned t name fields (row_of t name)
-        | false ↦ refl
-      ]
-  act-planned t (Delete (Key key)) = elim (is_some (get fields_cmp t.keyed key)) as (λ b. cond b (Ok (without t (Key key))) (Err NoRow) ≡ planned t (cond b (Ok (gone_plan (Key key))) (Err NoRow))) [ true ↦ refl | false ↦ refl ]
-  act-planned t (Delete (Loose id)) = elim (is_some (get nat_cmp t.loose id)) as (λ b. cond b (Ok (without t (Loose id))) (Err NoRow) ≡ planned t (cond b (Ok (gone_plan (Loose id))) (Err NoRow))) [ true ↦ refl | false ↦ refl ]
+  act-planned t (Insert row) = let placed = placed-planned t row (key_of t.schema row) in grind (arith, placed)
+  act-planned t (Update name fields) = let updated = updated-planned t name fields (row_of t name) in grind (arith, updated)
+  act-planned t (Delete (Key key)) = grind arith
+  act-planned t (Delete (Loose id)) = grind arith

@@ -1,5 +1,5 @@
 -- A list of operations, one more at a time.
-use Rattle.std.proofs.Common.{◌≡◌, ℕ, suc, ◌+◌, ◌<◌, Result, Ok, Err, List, [], ◌∷◌, ◌++◌, length, take, drop, get_or, refl, sym, ap, subst, ◌∙◌, append_assoc, arith, drop-cons}
+use Rattle.std.proofs.Common.{◌≡◌, ℕ, suc, ◌+◌, ◌<◌, Result, Ok, Err, List, [], ◌∷◌, ◌++◌, length, take, drop, get_or, refl, sym, ap, ◌∙◌, append_assoc, arith, drop-cons}
 use Rattle.std.proofs.lemmas.List.{append-nil, take-append-drop, take_more, length-take}
 use Rattle.cap_value.specs.declared.refusal.Refusal.{Refusal}
 use Rattle.cap_database.specs.declared.change.Change.{Change}
@@ -10,57 +10,53 @@ use Rattle.cap_database.specs.Operation.{changes, step, one_later, with_changes,
 use Rattle.cap_database.specs.Tables.{Tables}
 
 module _ {A : Type 0} where
-  -- an accepted operation after an outcome
-  abbrev Next : OutcomeState A → Op A → Tables A → OutcomeState A
-  Next o op next = record { database = next; changes = o.changes ++ changes o.database op }
+  -- what operations leave that come so many places after others, with the changes of these before theirs
+  abbrev onto : List (Change A) → ℕ → Result (OutcomeState A) RefusedAt → Result (OutcomeState A) RefusedAt
+  onto before n (Ok left) = Ok (record { database = left.database; changes = before ++ left.changes })
+  onto before n (Err refused) = Err (record { at = refused.at + n; why = refused.why })
 
-  push_and_then : (before : List (Change A)) (first : Result (Tables A) Refusal) (f g : Tables A → Result (OutcomeState A) RefusedAt) (op : Op A) (o : OutcomeState A) (next : Tables A)
-      → ((t : Tables A) (o2 : OutcomeState A) → f t ≡ Ok o2 → step o2.database op ≡ Ok next → g t ≡ Ok (Next o2 op next))
-      → and_then before first f ≡ Ok o → step o.database op ≡ Ok next → and_then before first g ≡ Ok (Next o op next)
-  push_and_then before (Err why) f g op o next more is s = cc
-  push_and_then before (Ok t) f g op o next more is s = inner (f t) refl is
+  onto-none : (r : Result (OutcomeState A) RefusedAt) → r ≡ onto [] 0 r
+  onto-none (Ok left) = refl
+  onto-none (Err refused) = ap (λ (at : ℕ). Err (record { at = at; why = refused.why })) (omega arith)
+
+  onto-more : (first more : List (Change A)) (n : ℕ) (r : Result (OutcomeState A) RefusedAt) → with_changes first (one_later (onto more n r)) ≡ onto (first ++ more) (suc n) r
+  onto-more first more n (Ok left) = ap (λ (l : List (Change A)). Ok (record { database = left.database; changes = l })) (sym (append_assoc first more left.changes))
+  onto-more first more n (Err refused) = ap (λ (at : ℕ). Err (record { at = at; why = refused.why })) (omega arith)
+
+  and_then-on : (before : List (Change A)) (first : Result (Tables A) Refusal) (f g : Tables A → Result (OutcomeState A) RefusedAt) (rest : List (Op A)) (n : ℕ)
+      → ((t : Tables A) (o : OutcomeState A) → f t ≡ Ok o → g t ≡ onto o.changes n (run o.database rest))
+      → (o : OutcomeState A) → and_then before first f ≡ Ok o → and_then before first g ≡ onto o.changes (suc n) (run o.database rest)
+  and_then-on before (Err why) f g rest n more o is = cc
+  and_then-on before (Ok t) f g rest n more o is = inner (f t) refl is
     where
-      inner : (r : Result (OutcomeState A) RefusedAt) → f t ≡ r → with_changes before (one_later r) ≡ Ok o → with_changes before (one_later (g t)) ≡ Ok (Next o op next)
-      inner (Err e) r is = cc
-      inner (Ok o2) r is =
-          let same : record { database = o2.database; changes = before ++ o2.changes } ≡ o = cc in
-          let there = subst (λ (d : Tables A). step d op ≡ Ok next) (sym (ap (λ (x : OutcomeState A). x.database) same)) s in
-          ap (λ (x : Result (OutcomeState A) RefusedAt). with_changes before (one_later x)) (more t o2 r there)
-          ∙ ap (λ (l : List (Change A)). Ok (record { database = next; changes = l })) (sym (append_assoc before o2.changes (changes o2.database op)) ∙ ap (λ (x : OutcomeState A). x.changes ++ changes x.database op) same)
+      inner : (r : Result (OutcomeState A) RefusedAt) → f t ≡ r → with_changes before (one_later r) ≡ Ok o → with_changes before (one_later (g t)) ≡ onto o.changes (suc n) (run o.database rest)
+      inner (Err e) at is = cc
+      inner (Ok left) at is =
+          let same : record { database = left.database; changes = before ++ left.changes } ≡ o = cc in
+          ap (λ (x : Result (OutcomeState A) RefusedAt). with_changes before (one_later x)) (more t left at) ∙ onto-more before left.changes n (run left.database rest)
+          ∙ ap (λ (x : OutcomeState A). onto x.changes (suc n) (run x.database rest)) same
+
+  -- more operations after accepted ones
+  run-on : (tables : Tables A) (ops rest : List (Op A)) (o : OutcomeState A) → run tables ops ≡ Ok o → run tables (ops ++ rest) ≡ onto o.changes (length ops) (run o.database rest)
+  run-on tables [] rest o is =
+      let same : record { database = tables; changes = [] } ≡ o = cc in
+      onto-none (run tables rest) ∙ ap (λ (x : OutcomeState A). onto x.changes 0 (run x.database rest)) same
+  run-on tables (op ∷ ops) rest o is = and_then-on (changes tables op) (step tables op) (λ t. run t ops) (λ t. run t (ops ++ rest)) rest (length ops) (λ t left. run-on t ops rest left) o is
 
   -- one more accepted operation
-  pub run-push : (tables : Tables A) (ops : List (Op A)) (op : Op A) (o : OutcomeState A) (next : Tables A) → run tables ops ≡ Ok o → step o.database op ≡ Ok next → run tables (ops ++ op ∷ []) ≡ Ok (Next o op next)
-  run-push tables [] op o next is s =
-      let same : record { database = tables; changes = [] } ≡ o = cc in
-      let there = subst (λ (d : Tables A). step d op ≡ Ok next) (sym (ap (λ (x : OutcomeState A). x.database) same)) s in
-      ap (λ (first : Result (Tables A) Refusal). and_then (changes tables op) first (λ n. run n [])) there
-      ∙ ap (λ (l : List (Change A)). Ok (record { database = next; changes = l })) (append-nil (changes tables op) ∙ ap (λ (x : OutcomeState A). x.changes ++ changes x.database op) same)
-  run-push tables (p ∷ ops) op o next is s =
-      push_and_then (changes tables p) (step tables p) (λ t. run t ops) (λ t. run t (ops ++ op ∷ [])) op o next (λ t o2. run-push t ops op o2 next) is s
-
-  refused_and_then : (before : List (Change A)) (first : Result (Tables A) Refusal) (f g : Tables A → Result (OutcomeState A) RefusedAt) (op : Op A) (n : ℕ) (o : OutcomeState A) (why : Refusal)
-      → ((t : Tables A) (o2 : OutcomeState A) → f t ≡ Ok o2 → step o2.database op ≡ Err why → g t ≡ Err (record { at = n; why = why }))
-      → and_then before first f ≡ Ok o → step o.database op ≡ Err why → and_then before first g ≡ Err (record { at = n + 1; why = why })
-  refused_and_then before (Err early) f g op n o why more is s = cc
-  refused_and_then before (Ok t) f g op n o why more is s = inner (f t) refl is
-    where
-      inner : (r : Result (OutcomeState A) RefusedAt) → f t ≡ r → with_changes before (one_later r) ≡ Ok o → with_changes before (one_later (g t)) ≡ Err (record { at = n + 1; why = why })
-      inner (Err e) r is = cc
-      inner (Ok o2) r is =
-          let same : record { database = o2.database; changes = before ++ o2.changes } ≡ o = cc in
-          let there = subst (λ (d : Tables A). step d op ≡ Err why) (sym (ap (λ (x : OutcomeState A). x.database) same)) s in
-          ap (λ (x : Result (OutcomeState A) RefusedAt). with_changes before (one_later x)) (more t o2 r there)
+  pub run-push : (tables : Tables A) (ops : List (Op A)) (op : Op A) (o : OutcomeState A) (next : Tables A) → run tables ops ≡ Ok o → step o.database op ≡ Ok next
+      → run tables (ops ++ op ∷ []) ≡ Ok (record { database = next; changes = o.changes ++ changes o.database op })
+  run-push tables ops op o next is s =
+      run-on tables ops (op ∷ []) o is
+      ∙ ap (λ (r : Result (Tables A) Refusal). onto o.changes (length ops) (and_then (changes o.database op) r (λ n. run n []))) s
+      ∙ ap (λ (l : List (Change A)). Ok (record { database = next; changes = o.changes ++ l })) (append-nil (changes o.database op))
 
   -- the first refused operation
   pub run-refused : (tables : Tables A) (ops : List (Op A)) (op : Op A) (rest : List (Op A)) (o : OutcomeState A) (why : Refusal) → run tables ops ≡ Ok o → step o.database op ≡ Err why → run tables (ops ++ op ∷ rest) ≡ Err (record { at = length ops; why = why })
-  run-refused tables [] op rest o why is s =
-      let same : record { database = tables; changes = [] } ≡ o = cc in
-      let there = subst (λ (d : Tables A). step d op ≡ Err why) (sym (ap (λ (x : OutcomeState A). x.database) same)) s in
-      ap (λ (first : Result (Tables A) Refusal). and_then (changes tables op) first (λ n. run n rest)) there
-  run-refused tables (p ∷ ops) op rest o why is s =
-      let n : length ops + 1 ≡ suc (length ops) = omega arith in
-      refused_and_then (changes tables p) (step tables p) (λ t. run t ops) (λ t. run t (ops ++ op ∷ rest)) op (length ops) o why (λ t o2. run-refused t ops op rest o2 why) is s
-      ∙ ap (λ (at : ℕ). Err (record { at = at; why = why })) n
+  run-refused tables ops op rest o why is s =
+      run-on tables ops (op ∷ rest) o is
+      ∙ ap (λ (r : Result (Tables A) Refusal). onto o.changes (length ops) (and_then (changes o.database op) r (λ n. run n rest))) s
+      ∙ ap (λ (at : ℕ). Err (record { at = at; why = why })) (omega arith)
 
   -- ---- the operation at a place of the list
 

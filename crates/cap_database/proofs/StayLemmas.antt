@@ -1,25 +1,25 @@
 -- A row that no change names stays as it was, and the first change that names it carries it.
-use Rattle.std.proofs.Common.{◌≡◌, ℕ, ◌+◌, Bool, true, false, cond, Option, Some, None, Result, Ok, Err, IfOk, List, [], ◌∷◌, ◌++◌, ◌&&◌, ◌||◌, length, refl, sym, ap, ap₂, subst, ◌∙◌}
-use Rattle.std.specs.Prelude.{is_some, nat_lt, option_and_then, ◌==◌, ◌^◌}
+use Rattle.std.proofs.Common.{◌≡◌, ℕ, Bool, true, false, cond, Option, Some, None, Result, Ok, Err, IfOk, List, [], ◌∷◌, ◌++◌, ◌&&◌, ◌||◌, refl, sym, ap, ap₂, subst, ◌∙◌, arith}
+use Rattle.std.specs.Prelude.{option_and_then}
 use Rattle.std.specs.List.{find, list_any}
 use Rattle.std.specs.Option.{option_or}
 use Rattle.std.specs.Cmp.Lexicographic.{bytes_decides}
 use Rattle.std.specs.Ordering.{eq_by_cmp}
-use Rattle.std.specs.BTreeMap.{is_at}
 use Rattle.std.specs.Cmp.{Equal-is, eq_by_cmp_equiv}
+use Rattle.std.proofs.lemmas.Bool.{or_parts}
 use Rattle.std.proofs.lemmas.List.Folds.{find-append, list_any-append}
 use Rattle.cap_value.specs.Bytes.{bytes_cmp, bytes_eq}
 use Rattle.cap_value.specs.declared.refusal.Refusal.{Refusal}
-use Rattle.cap_value.specs.declared.refusal.Refusal.TheVariants.{BadColumn, IdsSpent, NoRow, WrongWidth}
 use Rattle.cap_row.specs.Fields.{Fields}
-use Rattle.cap_row.specs.Key.{fields_cmp, fields_cmp_total, fields_eq, key_of}
-use Rattle.cap_row.specs.Row.{are_columns, columns_of, row_with}
+use Rattle.cap_row.specs.Key.{fields_cmp, fields_cmp_total, key_of}
+use Rattle.cap_row.specs.Row.{row_with}
 use Rattle.cap_tree.specs.Tree.{get, put_entry, take_entry}
-use Rattle.cap_table.specs.Operation.{key_of_name, moved, placed, row_of, under_key, under_next_id, updated, with_id, with_key, without}
+use Rattle.cap_table.specs.Operation.{key_of_name, moved, placed, row_of, updated}
 use Rattle.cap_table.specs.Sound.{is_key_of}
 use Rattle.cap_table.specs.Table.{TableState}
 use Rattle.cap_table.specs.declared.row_ref.RowRef.{RowRef}
 use Rattle.cap_table.specs.declared.row_ref.RowRef.TheVariants.{Key, Loose}
+use Rattle.cap_table.proofs.BackLemmas.{get-take-other as take-other}
 use Rattle.cap_table.proofs.TableLemmas.{fields_same}
 use Rattle.cap_database.specs.Assigned.{Assigned}
 use Rattle.cap_database.specs.Carried.{CarryFirstRows, is_of_row}
@@ -33,18 +33,16 @@ use Rattle.cap_database.specs.declared.op.Action.{Action}
 use Rattle.cap_database.specs.declared.op.Action.TheVariants.{Delete, Insert, Update}
 use Rattle.cap_database.specs.declared.op.Op.{Op}
 use Rattle.cap_database.specs.declared.refused_at.RefusedAt.{RefusedAt}
-use Rattle.cap_database.proofs.KeptLemmas.{get-put as name-put, same_name}
+use Rattle.cap_database.proofs.KeptLemmas.{get-put as name-put, if_ok, same_name}
 use Rattle.cap_database.proofs.WritesLemmas.{get-put}
 
 -- ---- truth values
 
 pub either_false : (a b : Bool) → (a || b) ≡ false → a ≡ false
-either_false true b is = is
-either_false false b is = refl
+either_false a b is = (or_parts a b is).0
 
 pub other_false : (a b : Bool) → (a || b) ≡ false → b ≡ false
-other_false true b is = cc
-other_false false b is = is
+other_false a b is = (or_parts a b is).1
 
 -- what was found
 pub same_found : {X : Type 0} (a b : X) → Some a ≡ Some b → a ≡ b
@@ -54,7 +52,7 @@ same_found a b is = cc
 module _ {X : Type 0} (test : X → Bool) where
   pub any-none : (xs : List X) → find test xs ≡ None → list_any test xs ≡ false
   any-none [] none = refl
-  any-none (x ∷ xs) none = elim (test x) as (λ b. cond b (Some x) (find test xs) ≡ None → (b || list_any test xs) ≡ false) [ true ↦ λ e. cc | false ↦ λ e. any-none xs e ] none
+  any-none (x ∷ xs) none = let rest = any-none xs in grind (arith, rest)
 
   pub found-in : (P : X → Type 0) (xs ys : List X) → ((x : X) → find test xs ≡ Some x → P x) → (list_any test xs ≡ false → (x : X) → find test ys ≡ Some x → P x)
       → (x : X) → find test (xs ++ ys) ≡ Some x → P x
@@ -71,12 +69,7 @@ module _ {A : Type 0} where
   get-put-other es key row q apart = get-put fields_cmp fields_cmp_total fields_same es key row q ∙ ap (λ b. cond b (Some row) (get fields_cmp es q)) apart
 
   pub get-take-other : (es : List (Fields A × Fields A)) (key q : Fields A) → eq_by_cmp fields_cmp q key ≡ false → get fields_cmp (take_entry fields_cmp es key) q ≡ get fields_cmp es q
-  get-take-other [] key q apart = refl
-  get-take-other (e ∷ es) key q apart =
-      elim (is_at (fields_cmp key) e.0) as (λ b. is_at (fields_cmp key) e.0 ≡ b → get fields_cmp (cond b es (e ∷ take_entry fields_cmp es key)) q ≡ get fields_cmp (e ∷ es) q) [
-        | true ↦ λ at. sym (ap (λ b. cond b (Some e.1) (get fields_cmp es q)) (ap (eq_by_cmp fields_cmp q) (sym (fields_same key e.0 ((Equal-is (fields_cmp key e.0)).0 at))) ∙ apart))
-        | false ↦ λ _. ap (cond (eq_by_cmp fields_cmp q e.0) (Some e.1)) (get-take-other es key q apart)
-      ] refl
+  get-take-other es key q apart = take-other es key q apart
 
   pub other_key : (own key : Fields A) → is_key_of (Some own) key ≡ false → eq_by_cmp fields_cmp key own ≡ false
   other_key own key apart = (eq_by_cmp_equiv fields_cmp_total).symm key own ∙ apart
@@ -88,31 +81,24 @@ module _ {A : Type 0} where
     abbrev Stays : Result (TableState A) Refusal → Type 0
     Stays r = IfOk r (λ next. get fields_cmp next.keyed key ≡ get fields_cmp table.keyed key)
 
-    under_key-stays : (taken : Bool) (before : TableState A) (own row : Fields A) → is_key_of (Some own) key ≡ false → get fields_cmp before.keyed key ≡ get fields_cmp table.keyed key → Stays (under_key taken before own row)
-    under_key-stays true before own row apart same = tt
-    under_key-stays false before own row apart same = get-put-other before.keyed own row key (other_key own key apart) ∙ same
+    put-apart : (es : List (Fields A × Fields A)) (own row : Fields A) → is_key_of (Some own) key ≡ false → get fields_cmp (put_entry fields_cmp es own row) key ≡ get fields_cmp es key
+    put-apart es own row apart = get-put-other es own row key (other_key own key apart)
 
-    next_id-stays : (before : TableState A) (row : Fields A) → get fields_cmp before.keyed key ≡ get fields_cmp table.keyed key → Stays (under_next_id before row)
-    next_id-stays before row same =
-        let left : Result (TableState A) Refusal = Ok (record (with_id before before.next_id row) { next_id = before.next_id + 1 }) in
-        elim (nat_lt before.next_id (2 ^ 63)) as (λ b. Stays (cond b left (Err IdsSpent))) [ true ↦ same | false ↦ tt ]
+    take-apart : (own : Fields A) → is_key_of (Some own) key ≡ false → get fields_cmp (take_entry fields_cmp table.keyed own) key ≡ get fields_cmp table.keyed key
+    take-apart own apart = take-other table.keyed own key (other_key own key apart)
 
     placed-stays : (row : Fields A) (own : Option (Fields A)) → is_key_of own key ≡ false → Stays (placed table row own)
-    placed-stays row None apart = next_id-stays table row refl
-    placed-stays row (Some own) apart = under_key-stays (is_some (get fields_cmp table.keyed own)) table own row apart refl
-
-    without-stays : (name : RowRef A) → is_key_of (key_of_name name) key ≡ false → get fields_cmp (without table name).keyed key ≡ get fields_cmp table.keyed key
-    without-stays (Key old) apart = get-take-other table.keyed old key (other_key old key apart)
-    without-stays (Loose id) apart = refl
+    placed-stays row None apart = grind arith
+    placed-stays row (Some own) apart = let other = put-apart table.keyed own row apart in grind (arith, other)
 
     moved-stays : (name : RowRef A) (row : Fields A) (own : Option (Fields A)) → is_key_of (key_of_name name) key ≡ false → is_key_of own key ≡ false → Stays (moved table name row own)
     moved-stays (Key old) row (Some new) apart away =
-        elim (fields_eq old new) as (λ b. Stays (cond b (Ok (with_key table new row)) (under_key (is_some (get fields_cmp table.keyed new)) (without table (Key old)) new row))) [
-          | true ↦ get-put-other table.keyed new row key (other_key new key away)
-          | false ↦ under_key-stays (is_some (get fields_cmp table.keyed new)) (without table (Key old)) new row away (without-stays (Key old) apart)
-        ]
-    moved-stays (Key old) row None apart away = next_id-stays (without table (Key old)) row (without-stays (Key old) apart)
-    moved-stays (Loose id) row (Some new) apart away = under_key-stays (is_some (get fields_cmp table.keyed new)) (without table (Loose id)) new row away refl
+        let taken = take-apart old apart in
+        let put = put-apart table.keyed new row away in
+        let put_then = put-apart (take_entry fields_cmp table.keyed old) new row away in
+        grind (arith, taken, put, put_then)
+    moved-stays (Key old) row None apart away = let taken = take-apart old apart in grind (arith, taken)
+    moved-stays (Loose id) row (Some new) apart away = let put = put-apart table.keyed new row away in grind (arith, put)
     moved-stays (Loose id) row None apart away = refl
 
     -- the change is of a row under the key
@@ -123,25 +109,16 @@ module _ {A : Type 0} where
     updated-stays name fields None apart = tt
     updated-stays name fields (Some row) apart =
         let own = key_of table.schema (row_with fields row) in
-        moved-stays name (row_with fields row) own (either_false (is_key_of (key_of_name name) key) (is_key_of own key || false) apart)
-        (either_false (is_key_of own key) false (other_false (is_key_of (key_of_name name) key) (is_key_of own key || false) apart))
+        let parts = or_parts (is_key_of (key_of_name name) key) (is_key_of own key || false) apart in
+        moved-stays name (row_with fields row) own parts.0 (or_parts (is_key_of own key) false parts.1).0
 
     pub act-stays : (action : Action A) → list_any is_here (changed_rows table action) ≡ false → Stays (act table action)
     act-stays (Insert row) apart =
-        elim (length row == length table.schema) as (λ b. Stays (cond b (placed table row (key_of table.schema row)) (Err WrongWidth))) [
-          | true ↦ placed-stays row (key_of table.schema row) (either_false (is_key_of (key_of table.schema row) key) false apart)
-          | false ↦ tt
-        ]
-    act-stays (Update name fields) apart =
-        elim (are_columns (length table.schema) (columns_of fields)) as (λ b. Stays (cond b (updated table name fields (row_of table name)) (Err BadColumn))) [
-          | true ↦ updated-stays name fields (row_of table name) apart
-          | false ↦ tt
-        ]
-    act-stays (Delete name) apart =
-        elim (is_some (row_of table name)) as (λ b. Stays (cond b (Ok (without table name)) (Err NoRow))) [
-          | true ↦ without-stays name (either_false (is_key_of (key_of_name name) key) false apart)
-          | false ↦ tt
-        ]
+        let placed = placed-stays row (key_of table.schema row) (or_parts (is_key_of (key_of table.schema row) key) false apart).0 in
+        grind (arith, placed)
+    act-stays (Update name fields) apart = let left = updated-stays name fields (row_of table name) apart in grind (arith, left)
+    act-stays (Delete (Key own)) apart = let taken = take-apart own (or_parts (is_key_of (Some own) key) false apart).0 in grind (arith, taken)
+    act-stays (Delete (Loose id)) apart = grind arith
 
     -- ---- the first change of the key carries the row
 
@@ -149,63 +126,39 @@ module _ {A : Type 0} where
     abbrev Has : Changed A → Type 0
     Has changed = changed.1 ≡ get fields_cmp table.keyed key
 
-    -- a row was put under the key, which no row had
-    under_key-free : (before after : TableState A) (row : Fields A) → under_key (is_some (get fields_cmp table.keyed key)) before key row ≡ Ok after → None ≡ get fields_cmp table.keyed key
-    under_key-free before after row is = inner (get fields_cmp table.keyed key) is
-      where
-        inner : (found : Option (Fields A)) → under_key (is_some found) before key row ≡ Ok after → None ≡ found
-        inner None is = refl
-        inner (Some other) is = cc
+    same_key : (own : Fields A) → is_key_of (Some own) key ≡ true → own ≡ key
+    same_key own here = fields_same own key ((Equal-is (fields_cmp own key)).0 here)
 
     placed-free : (row : Fields A) (after : TableState A) (own : Option (Fields A)) → is_key_of own key ≡ true → placed table row own ≡ Ok after → None ≡ get fields_cmp table.keyed key
     placed-free row after None here is = cc
-    placed-free row after (Some own) here is =
-        let same : own ≡ key = fields_same own key ((Equal-is (fields_cmp own key)).0 here) in
-        under_key-free table after row (ap (λ k. under_key (is_some (get fields_cmp table.keyed k)) table k row) (sym same) ∙ is)
+    placed-free row after (Some own) here is = let same = same_key own here in grind (arith, same)
 
     moved-free : (name : RowRef A) (row : Fields A) (after : TableState A) (own : Option (Fields A)) → is_key_of (key_of_name name) key ≡ false → is_key_of own key ≡ true → moved table name row own ≡ Ok after
         → None ≡ get fields_cmp table.keyed key
     moved-free name row after None apart here is = cc
-    moved-free (Key old) row after (Some own) apart here is =
-        let same : own ≡ key = fields_same own key ((Equal-is (fields_cmp own key)).0 here) in
-        under_key-free (without table (Key old)) after row
-        (ap (λ b. cond b (Ok (with_key table key row)) (under_key (is_some (get fields_cmp table.keyed key)) (without table (Key old)) key row)) (sym apart)
-        ∙ ap (λ k. moved table (Key old) row (Some k)) (sym same) ∙ is)
-    moved-free (Loose id) row after (Some own) apart here is =
-        let same : own ≡ key = fields_same own key ((Equal-is (fields_cmp own key)).0 here) in
-        under_key-free (without table (Loose id)) after row (ap (λ k. moved table (Loose id) row (Some k)) (sym same) ∙ is)
+    moved-free (Key old) row after (Some own) apart here is = let same = same_key own here in grind (arith, same)
+    moved-free (Loose id) row after (Some own) apart here is = let same = same_key own here in grind (arith, same)
 
-    -- one change
+    -- the first of one or two changes
     one-has : (only : Changed A) → (is_here only ≡ true → Has only) → (changed : Changed A) → find is_here (only ∷ []) ≡ Some changed → Has changed
-    one-has only has changed =
-        elim (is_here only) as (λ b. is_here only ≡ b → cond b (Some only) None ≡ Some changed → Has changed) [
-          | true ↦ λ here is. ap (λ (c : Changed A). c.1) (sym (same_found only changed is)) ∙ has here
-          | false ↦ λ _ is. cc
-        ] refl
+    one-has only has changed is = grind (arith, has)
 
     two-have : (one other : Changed A) → (is_here one ≡ true → Has one) → (is_here one ≡ false → is_here other ≡ true → Has other)
         → (changed : Changed A) → find is_here (one ∷ other ∷ []) ≡ Some changed → Has changed
-    two-have one other has have changed =
-        elim (is_here one) as (λ b. is_here one ≡ b → cond b (Some one) (find is_here (other ∷ [])) ≡ Some changed → Has changed) [
-          | true ↦ λ here is. ap (λ (c : Changed A). c.1) (sym (same_found one changed is)) ∙ has here
-          | false ↦ λ apart is. one-has other (have apart) changed is
-        ] refl
+    two-have one other has have changed is = grind (arith, has, have)
 
     -- the row of the name, where the name is the key
     goes-has : (name : RowRef A) → is_here (goes name (row_of table name)) ≡ true → Has (goes name (row_of table name))
-    goes-has (Key own) here = ap (get fields_cmp table.keyed) (fields_same own key ((Equal-is (fields_cmp own key)).0 here))
+    goes-has (Key own) here = ap (get fields_cmp table.keyed) (same_key own here)
     goes-has (Loose id) here = cc
-
-    bad-off : {X : Type 0} (b : Bool) (r : Result X Refusal) (why : Refusal) (after : X) → cond b r (Err why) ≡ Ok after → r ≡ Ok after
-    bad-off true r why after is = is
-    bad-off false r why after is = cc
 
     pub act-carries : (action : Action A) (after : TableState A) → act table action ≡ Ok after → (changed : Changed A) → find is_here (changed_rows table action) ≡ Some changed → Has changed
     act-carries (Insert row) after is =
-        one-has (key_of table.schema row, None)
-        (λ here. placed-free row after (key_of table.schema row) here (bad-off (length row == length table.schema) (placed table row (key_of table.schema row)) WrongWidth after is))
+        let placed : placed table row (key_of table.schema row) ≡ Ok after = grind arith in
+        one-has (key_of table.schema row, None) (λ here. placed-free row after (key_of table.schema row) here placed)
     act-carries (Update name fields) after is =
-        inner (row_of table name) refl (bad-off (are_columns (length table.schema) (columns_of fields)) (updated table name fields (row_of table name)) BadColumn after is)
+        let made : updated table name fields (row_of table name) ≡ Ok after = grind arith in
+        inner (row_of table name) refl made
       where
         inner : (found : Option (Fields A)) → row_of table name ≡ found → updated table name fields found ≡ Ok after → (changed : Changed A) → find is_here (updated_rows table name fields found) ≡ Some changed → Has changed
         inner None there made = cc
@@ -226,11 +179,7 @@ module _ {A : Type 0} where
     -- a change that names the row is of its table
     pub named-table : (table : List ℕ) (cause : Cause) (rows : List (Changed A)) → list_any (is_of_row name key) (changes_to table cause rows) ≡ true → bytes_eq name table ≡ true
     named-table table cause [] named = cc
-    named-table table cause (row ∷ rows) named =
-        elim (bytes_eq name table) as (λ b. ((b && is_key_of row.0 key) || list_any (is_of_row name key) (changes_to table cause rows)) ≡ true → bytes_eq name table ≡ b → b ≡ true) [
-          | true ↦ λ _ _. refl
-          | false ↦ λ rest apart. let clash : true ≡ false = sym (named-table table cause rows rest) ∙ apart in sym clash
-        ] named refl
+    named-table table cause (row ∷ rows) named = let rest = named-table table cause rows in grind (arith, rest)
 
     -- the first change of the row carries what the first of these rows has
     pub found-row : (P : Option (Fields A) → Type 0) (table : List ℕ) (cause : Cause) (rows : List (Changed A)) → (name ≡ table → (row : Changed A) → find (λ own. is_key_of own.0 key) rows ≡ Some row → P row.1)
@@ -254,71 +203,61 @@ module _ {A : Type 0} where
     pub put-stays : (tables : Tables A) (other : List ℕ) (table : TableState A) → (name ≡ other → option_and_then (λ t. get fields_cmp t.keyed key) (Some table) ≡ row_at tables name key)
         → row_at (put_entry bytes_cmp tables other table) name key ≡ row_at tables name key
     put-stays tables other table same =
-        ap (option_and_then (λ t. get fields_cmp t.keyed key)) (name-put tables other table name)
-        ∙ elim (eq_by_cmp bytes_cmp name other) as (λ b. eq_by_cmp bytes_cmp name other ≡ b → option_and_then (λ t. get fields_cmp t.keyed key) (cond b (Some table) (table_of tables name)) ≡ row_at tables name key) [
-          | true ↦ λ is. same (same_name name other is)
-          | false ↦ λ _. refl
-        ] refl
+        let found = name-put tables other table name in
+        let named = same_name name other in
+        grind (arith, found, named, same)
 
     -- a table of the name that was there
     row-there : (tables : Tables A) (other : List ℕ) (table : TableState A) → table_of tables other ≡ Some table → name ≡ other → get fields_cmp table.keyed key ≡ row_at tables name key
     row-there tables other table there same = ap (option_and_then (λ t. get fields_cmp t.keyed key)) (sym there) ∙ ap (λ n. row_at tables n key) (sym same)
 
-    pub step-stays : (tables : Tables A) (op : Op A) → list_any (is_of_row name key) (changes tables op) ≡ false → IfOk (step tables op) (λ next. row_at next name key ≡ row_at tables name key)
-    step-stays tables op apart =
-        elim (table_of tables op.table) as (λ o. table_of tables op.table ≡ o → list_any (is_of_row name key) (changes_in o op) ≡ false → IfOk (stepped tables o op) (λ next. row_at next name key ≡ row_at tables name key)) [
-          | None ↦ λ _ _. tt
-          | Some table ↦ λ there unnamed. inner table there (act table op.action)
-              (λ same. act-stays table key op.action (sym (unnamed-rows op.table op.cause (changed_rows table op.action) same) ∙ unnamed))
-        ] refl apart
-      where
-        inner : (table : TableState A) → table_of tables op.table ≡ Some table → (r : Result (TableState A) Refusal) → (name ≡ op.table → IfOk r (λ next. get fields_cmp next.keyed key ≡ get fields_cmp table.keyed key))
-            → IfOk (in_place tables op.table r) (λ next. row_at next name key ≡ row_at tables name key)
-        inner table there (Ok next) stays = put-stays tables op.table next (λ same. stays same ∙ row-there tables op.table table there same)
-        inner table there (Err why) stays = tt
-
     -- the first of these changes that names the row carries it
     abbrev pub CarriesRow : Tables A → List (Change A) → Type 0
     CarriesRow tables carried = (change : Change A) → find (is_of_row name key) carried ≡ Some change → change.before ≡ row_at tables name key
-
-    pub step-carries : (tables : Tables A) (op : Op A) → IfOk (step tables op) (λ next. CarriesRow tables (changes tables op))
-    step-carries tables op = outer (table_of tables op.table) refl
-      where
-        inner : (table : TableState A) → table_of tables op.table ≡ Some table → (r : Result (TableState A) Refusal) → act table op.action ≡ r → IfOk (in_place tables op.table r) (λ next. CarriesRow tables (changes_in (Some table) op))
-        inner table there (Ok after) acts =
-            found-row (λ before. before ≡ row_at tables name key) op.table op.cause (changed_rows table op.action)
-            (λ same row at. act-carries table key op.action after acts row at ∙ row-there tables op.table table there same)
-        inner table there (Err why) acts = tt
-
-        outer : (found : Option (TableState A)) → table_of tables op.table ≡ found → IfOk (stepped tables found op) (λ next. CarriesRow tables (changes_in found op))
-        outer None there = tt
-        outer (Some table) there = inner table there (act table op.action) refl
 
     -- what a list of operations leaves of the row, and what its changes carry
     pub record Leaves (tables : Tables A) (left : OutcomeState A) : Type 0 where
       pub stays : list_any (is_of_row name key) left.changes ≡ false → row_at left.database name key ≡ row_at tables name key
       pub carries : CarriesRow tables left.changes
 
+    step-leaves : (tables : Tables A) (op : Op A) → IfOk (step tables op) (λ next. Leaves tables (record { database = next; changes = changes tables op }))
+    step-leaves tables op = outer (table_of tables op.table) refl
+      where
+        inner : (table : TableState A) → table_of tables op.table ≡ Some table → (r : Result (TableState A) Refusal) → act table op.action ≡ r
+            → IfOk (in_place tables op.table r) (λ next. Leaves tables (record { database = next; changes = changes_in (Some table) op }))
+        inner table there (Ok after) acts = record {
+          stays = λ unnamed. put-stays tables op.table after (λ same.
+              let apart = sym (unnamed-rows op.table op.cause (changed_rows table op.action) same) ∙ unnamed in
+              subst (λ r. IfOk r (λ next. get fields_cmp next.keyed key ≡ get fields_cmp table.keyed key)) acts (act-stays table key op.action apart) ∙ row-there tables op.table table there same);
+          carries = found-row (λ before. before ≡ row_at tables name key) op.table op.cause (changed_rows table op.action)
+              (λ same row at. act-carries table key op.action after acts row at ∙ row-there tables op.table table there same);
+        }
+        inner table there (Err why) acts = tt
+
+        outer : (found : Option (TableState A)) → table_of tables op.table ≡ found → IfOk (stepped tables found op) (λ next. Leaves tables (record { database = next; changes = changes_in found op }))
+        outer None there = tt
+        outer (Some table) there = inner table there (act table op.action) refl
+
+    pub step-carries : (tables : Tables A) (op : Op A) → IfOk (step tables op) (λ next. CarriesRow tables (changes tables op))
+    step-carries tables op = if_ok (λ next. Leaves tables (record { database = next; changes = changes tables op })) (λ next. CarriesRow tables (changes tables op)) (λ next left. left.carries) (step tables op) (step-leaves tables op)
+
     pub run-leaves : (ops : List (Op A)) (tables : Tables A) → IfOk (run tables ops) (Leaves tables)
     run-leaves [] tables = record { stays = λ _. refl; carries = λ change is. cc }
-    run-leaves (op ∷ ops) tables = first (λ next. run-leaves ops next) (step tables op) (λ unnamed. step-stays tables op unnamed) (step-carries tables op)
+    run-leaves (op ∷ ops) tables = first (λ next. run-leaves ops next) (step tables op) (step-leaves tables op)
       where
-        later : (next : Tables A) → (list_any (is_of_row name key) (changes tables op) ≡ false → row_at next name key ≡ row_at tables name key) → CarriesRow tables (changes tables op) → (r : Result (OutcomeState A) RefusedAt) → IfOk r (Leaves next)
-            → IfOk (and_then (changes tables op) (Ok next) (λ _. r)) (Leaves tables)
-        later next same carried (Ok left) more = record {
+        later : (next : Tables A) → Leaves tables (record { database = next; changes = changes tables op }) → (r : Result (OutcomeState A) RefusedAt) → IfOk r (Leaves next) → IfOk (and_then (changes tables op) (Ok next) (λ _. r)) (Leaves tables)
+        later next one (Ok left) more = record {
           stays = λ unnamed.
-              let parts = sym (list_any-append (is_of_row name key) (changes tables op) left.changes) ∙ unnamed in
-              more.stays (other_false (list_any (is_of_row name key) (changes tables op)) (list_any (is_of_row name key) left.changes) parts)
-              ∙ same (either_false (list_any (is_of_row name key) (changes tables op)) (list_any (is_of_row name key) left.changes) parts);
-          carries = found-in (is_of_row name key) (λ change. change.before ≡ row_at tables name key) (changes tables op) left.changes carried (λ none change is. more.carries change is ∙ same none);
+              let parts = or_parts (list_any (is_of_row name key) (changes tables op)) (list_any (is_of_row name key) left.changes) (sym (list_any-append (is_of_row name key) (changes tables op) left.changes) ∙ unnamed) in
+              more.stays parts.1 ∙ one.stays parts.0;
+          carries = found-in (is_of_row name key) (λ change. change.before ≡ row_at tables name key) (changes tables op) left.changes one.carries (λ none change is. more.carries change is ∙ one.stays none);
         }
-        later next same carried (Err refused) more = tt
+        later next one (Err refused) more = tt
 
-        first : ((next : Tables A) → IfOk (run next ops) (Leaves next)) → (r : Result (Tables A) Refusal)
-            → (list_any (is_of_row name key) (changes tables op) ≡ false → IfOk r (λ next. row_at next name key ≡ row_at tables name key)) → IfOk r (λ next. CarriesRow tables (changes tables op))
+        first : ((next : Tables A) → IfOk (run next ops) (Leaves next)) → (r : Result (Tables A) Refusal) → IfOk r (λ next. Leaves tables (record { database = next; changes = changes tables op }))
             → IfOk (and_then (changes tables op) r (λ next. run next ops)) (Leaves tables)
-        first more (Ok next) stays carried = later next stays carried (run next ops) (more next)
-        first more (Err why) stays carried = tt
+        first more (Ok next) one = later next one (run next ops) (more next)
+        first more (Err why) one = tt
 
   pub run-carries : (tables : Tables A) (ops : List (Op A)) → IfOk (run tables ops) (λ left. CarryFirstRows tables left.changes)
   run-carries tables ops = inner (run tables ops) (λ name key. run-leaves name key ops tables)

@@ -1,8 +1,8 @@
 -- An operation on the table at its place, and what it does to the database.
-use Rattle.std.proofs.Common.{Bool, true, false, cond, ◌==◌, ◌≡◌, ℕ, ◌+◌, ◌<◌, Option, Some, None, Result, Ok, Err, List, [], ◌∷◌, ◌++◌, length, take, get_or, refl, sym, ap, subst, ◌∙◌, arith}
+use Rattle.std.proofs.Common.{Bool, true, false, cond, ◌≡◌, ℕ, ◌+◌, ◌<◌, Option, Some, None, Result, Ok, Err, List, [], ◌∷◌, ◌++◌, length, take, get_or, refl, sym, ap, subst, ◌∙◌, arith}
 use Rattle.std.specs.Prelude.{is_some, nat_lt}
 use Rattle.std.proofs.lemmas.Bool.Decides.{nat_tests}
-use Rattle.cap_value.specs.declared.refusal.Refusal.TheVariants.{BadColumn, NoRow, WrongWidth}
+use Rattle.cap_value.specs.declared.refusal.Refusal.TheVariants.{BadColumn, NoRow}
 use Rattle.cap_database.specs.Tables.{refused_create}
 use Rattle.std.proofs.lemmas.Cmp.{nat_list_cmp_total}
 use Rattle.cap_value.specs.Bytes.{bytes_cmp}
@@ -12,11 +12,8 @@ use Rattle.cap_value.specs.declared.refusal.Refusal.{Refusal}
 use Rattle.cap_row.specs.Fields.{Fields}
 use Rattle.cap_tree.specs.Tree.{IsOrdered, put_entry}
 use Rattle.cap_value.specs.Memory.{RefusesFirst}
-use Rattle.cap_row.specs.Key.{key_of}
 use Rattle.cap_row.specs.Row.{are_columns, columns_of}
-use Rattle.cap_table.specs.Operation.{empty_table, placed, row_of, updated, without}
-use Rattle.cap_table.specs.declared.row_ref.RowRef.{RowRef}
-use Rattle.cap_database.specs.Assigned.{Assigned}
+use Rattle.cap_table.specs.Operation.{empty_table, row_of, updated}
 use Rattle.cap_database.specs.declared.op.Action.{Action}
 use Rattle.cap_database.specs.declared.op.Action.TheVariants.{Insert, Update, Delete}
 use Rattle.cap_table.specs.Sound.{IsRising}
@@ -62,21 +59,17 @@ module _ {A : Type 0} (ts : Tables A) (name : List ℕ) where
 pub take_item : {X : Type 0} (xs : List X) (i : ℕ) (x : X) → i < length xs → x ≡ get_or xs i x → take (i + 1) xs ≡ take i xs ++ x ∷ []
 take_item xs i x within is = take_more xs i x within ∙ ap (λ y. take i xs ++ y ∷ []) (sym is)
 
--- what is refused before memory is needed is refused
-refused_by : {X : Type 0} (holds : Bool) (inner : Option Refusal) (answer : Result X Refusal) (otherwise why : Refusal) → (inner ≡ Some why → answer ≡ Err why) → cond holds inner (Some otherwise) ≡ Some why → cond holds answer (Err otherwise) ≡ Err why
-refused_by true inner answer otherwise why inside is = inside is
-refused_by false inner answer otherwise why inside is = cc
-
 module _ {A : Type 0} (t : TableState A) where
-  not_there : (name : RowRef A) (fields : Assigned A) (row : Option (Fields A)) (why : Refusal) → cond (is_some row) None (Some NoRow) ≡ Some why → updated t name fields row ≡ Err why
-  not_there name fields None why is = cc
-  not_there name fields (Some row) why is = cc
-
+  -- what is refused before memory is needed is refused
   pub refused_act_is : (action : Action A) (why : Refusal) → refused_act t action ≡ Some why → act t action ≡ Err why
-  refused_act_is (Insert row) why is = refused_by (length row == length t.schema) None (placed t row (key_of t.schema row)) WrongWidth why (λ none. cc) is
-  refused_act_is (Update name fields) why is =
-      refused_by (are_columns (length t.schema) (columns_of fields)) (cond (is_some (row_of t name)) None (Some NoRow)) (updated t name fields (row_of t name)) BadColumn why (not_there name fields (row_of t name) why) is
-  refused_act_is (Delete name) why is = refused_by (is_some (row_of t name)) None (Ok (without t name)) NoRow why (λ none. cc) is
+  refused_act_is (Insert row) why is = grind (arith, nat_tests)
+  refused_act_is (Update name fields) why is = inner (row_of t name) is
+    where
+      inner : (found : Option (Fields A)) → cond (are_columns (length t.schema) (columns_of fields)) (cond (is_some found) None (Some NoRow)) (Some BadColumn) ≡ Some why
+          → cond (are_columns (length t.schema) (columns_of fields)) (updated t name fields found) (Err BadColumn) ≡ Err why
+      inner None known = grind arith
+      inner (Some row) known = grind arith
+  refused_act_is (Delete name) why is = grind arith
 
   pub refused_act_first : (X : Type 0) (action : Action A) (why : Refusal) → act t action ≡ Err why → RefusesFirst {X = X} (refused_act t action) (Err (Refused why))
   refused_act_first X action why is = first (refused_act t action) (refused_act_is action)

@@ -1,6 +1,5 @@
 -- A row that is inserted into a table of a database, and then deleted.
-use Rattle.std.proofs.Common.{◌≡◌, ℕ, true, false, cond, Some, Result, Ok, Err, List, refl, sym, ap, subst, ◌∙◌, T}
-use Rattle.std.specs.Ordering.{eq_by_cmp}
+use Rattle.std.proofs.Common.{◌≡◌, ℕ, true, cond, Some, Result, Ok, Err, List, refl, sym, ap, subst, ◌∙◌, arith, T}
 use Rattle.std.specs.Cmp.{Equal-is, tied_itself}
 use Rattle.std.specs.FinMap.Entries.{is_sorted, same_entries}
 use Rattle.std.proofs.lemmas.Cmp.{nat_list_cmp_total}
@@ -16,21 +15,13 @@ use Rattle.cap_database.specs.Operation.{in_place, step, stepped}
 use Rattle.cap_database.specs.Tables.{AreRising, Tables, table_of}
 use Rattle.cap_database.specs.declared.cause.Cause.{Cause}
 use Rattle.cap_database.specs.declared.op.Action.TheVariants.{Insert, Delete}
+use Rattle.cap_database.proofs.BackLemmas.{again}
 use Rattle.cap_database.proofs.KeptLemmas.{get-find, get-put, names_same, same_name, sorted-put}
 
 module _ {X : Type 0} where
   -- the last of two puts under a name stands
   pub put-again : (es : List (List ℕ × X)) (name : List ℕ) (a b : X) → is_sorted bytes_cmp es ≡ true → put_entry bytes_cmp (put_entry bytes_cmp es name a) name b ≡ put_entry bytes_cmp es name b
-  put-again es name a b s =
-      same_entries bytes_cmp nat_list_cmp_total names_same (put_entry bytes_cmp (put_entry bytes_cmp es name a) name b) (put_entry bytes_cmp es name b)
-      (subst T (sym (sorted-put (put_entry bytes_cmp es name a) name b (sorted-put es name a s))) tt)
-      (subst T (sym (sorted-put es name b s)) tt)
-      (λ q. sym (get-find (put_entry bytes_cmp (put_entry bytes_cmp es name a) name b) q)
-      ∙ get-put (put_entry bytes_cmp es name a) name b q
-      ∙ ap (λ found. cond (eq_by_cmp bytes_cmp q name) (Some b) found) (get-put es name a q)
-      ∙ elim (eq_by_cmp bytes_cmp q name) as (λ t. cond t (Some b) (cond t (Some a) (get bytes_cmp es q)) ≡ cond t (Some b) (get bytes_cmp es q)) [ true ↦ refl | false ↦ refl ]
-      ∙ sym (get-put es name b q)
-      ∙ get-find (put_entry bytes_cmp es name b) q)
+  put-again es name a b s = again bytes_cmp nat_list_cmp_total es name b a
 
   -- what is put in its own place leaves the list
   put-there : (es : List (List ℕ × X)) (name : List ℕ) (x : X) → is_sorted bytes_cmp es ≡ true → get bytes_cmp es name ≡ Some x → put_entry bytes_cmp es name x ≡ es
@@ -38,13 +29,12 @@ module _ {X : Type 0} where
       same_entries bytes_cmp nat_list_cmp_total names_same (put_entry bytes_cmp es name x) es
       (subst T (sym (sorted-put es name x s)) tt)
       (subst T (sym s) tt)
-      (λ q. sym (get-find (put_entry bytes_cmp es name x) q)
-      ∙ get-put es name x q
-      ∙ elim (eq_by_cmp bytes_cmp q name) as (λ t. eq_by_cmp bytes_cmp q name ≡ t → cond t (Some x) (get bytes_cmp es q) ≡ get bytes_cmp es q) [
-        | true ↦ λ e. sym there ∙ ap (get bytes_cmp es) (sym (same_name q name e))
-        | false ↦ λ e. refl
-      ] refl
-      ∙ get-find es q)
+      (λ q.
+      let after = get-find (put_entry bytes_cmp es name x) q in
+      let before = get-find es q in
+      let found = get-put es name x q in
+      let named = same_name q name in
+      grind (arith, after, before, found, named))
 
   -- what was put stands under its name
   pub put-found : (es : List (List ℕ × X)) (name : List ℕ) (x : X) → get bytes_cmp (put_entry bytes_cmp es name x) name ≡ Some x

@@ -1,28 +1,18 @@
 -- Writes to a list of entries in the order of their keys: each puts an entry or takes one away.
-use Rattle.std.proofs.Common.{◌≡◌, Bool, true, false, cond, ◌&&◌, Option, Some, None, List, [], ◌∷◌, refl, sym, ap, subst, ◌∙◌, Ordering, Less, Equal, Greater, T}
+use Rattle.std.proofs.Common.{◌≡◌, true, cond, Option, Some, None, List, [], ◌∷◌, refl, sym, ap, subst, ◌∙◌, arith, Ordering, T}
 use Rattle.std.specs.List.{AllByRecursion}
 use Rattle.std.specs.BTreeMap.{is_at}
-use Rattle.std.specs.Ordering.{eq_by_cmp, is_eq, is_lt}
-use Rattle.std.specs.Cmp.{Equal-is, IsTotalOrder, eq_by_cmp_equiv}
+use Rattle.std.specs.Ordering.{eq_by_cmp}
+use Rattle.std.specs.Cmp.{IsTotalOrder, eq_by_cmp_equiv}
 use Rattle.std.specs.FinMap.{IsAntisymmetric}
 use Rattle.std.specs.FinMap.Entries.{below_all, find, is_sorted, same_entries}
 use Rattle.cap_tree.specs.Tree.{get, put_entry, take_entry}
 use Rattle.cap_tree.proofs.EntryLemmas.{put_entry-Updates}
 use Rattle.cap_table.proofs.KeptLemmas.{sorted-put, sorted-remove}
-use Rattle.cap_table.proofs.TableLemmas.{first, second}
-
-module _ {X : Type 0} where
-  -- two tests that do not both pass, in either order
-  pub picks : (x y : Bool) (a b found : Option X) → (x ≡ true → y ≡ true → ⊥) → cond x a (cond y b found) ≡ cond y b (cond x a found)
-  picks true true a b found apart = absurd (apart refl refl)
-  picks true false a b found apart = refl
-  picks false y a b found apart = refl
-
-tied : {K : Type 0} (R : K → K → Ordering) → IsAntisymmetric R → (x y : K) → eq_by_cmp R x y ≡ true → x ≡ y
-tied R same x y t = same x y ((Equal-is (R x y)).0 t)
+use Rattle.cap_table.proofs.TableLemmas.{tied}
 
 module _ {K X : Type 0} (R : K → K → Ordering) (o : IsTotalOrder R) (same : IsAntisymmetric R) where
-  get-find : (es : List (K × X)) (q : K) → get R es q ≡ find R q es
+  pub get-find : (es : List (K × X)) (q : K) → get R es q ≡ find R q es
   get-find [] q = refl
   get-find (e ∷ es) q = ap (cond (eq_by_cmp R q e.0) (Some e.1)) (get-find es q)
 
@@ -31,29 +21,16 @@ module _ {K X : Type 0} (R : K → K → Ordering) (o : IsTotalOrder R) (same : 
 
   absent-below : (x : K) (es : List (K × X)) → below_all R x es ≡ true → get R es x ≡ None
   absent-below x [] below = refl
-  absent-below x (e ∷ es) below =
-      elim (R x e.0) as (λ r. (is_lt r && below_all R x es) ≡ true → cond (is_eq r) (Some e.1) (get R es x) ≡ None) [
-        | Less ↦ λ b. absent-below x es b
-        | Equal ↦ λ b. cc
-        | Greater ↦ λ b. cc
-      ] below
+  absent-below x (e ∷ es) below = let rest = absent-below x es in grind (arith, rest)
 
   get-take : (es : List (K × X)) (k q : K) → is_sorted R es ≡ true → get R (take_entry R es k) q ≡ cond (eq_by_cmp R q k) None (get R es q)
-  get-take [] k q s = elim (eq_by_cmp R q k) as (λ b. None ≡ cond {A = Option X} b None None) [ true ↦ refl | false ↦ refl ]
+  get-take [] k q s = grind arith
   get-take (e ∷ es) k q s =
-      elim (is_at (R k) e.0) as (λ b. is_at (R k) e.0 ≡ b → get R (cond b es (e ∷ take_entry R es k)) q ≡ cond (eq_by_cmp R q k) None (cond (eq_by_cmp R q e.0) (Some e.1) (get R es q))) [
-        | true ↦ λ at.
-            let here : k ≡ e.0 = tied R same k e.0 at in
-            elim (eq_by_cmp R q k) as (λ b. eq_by_cmp R q k ≡ b → get R es q ≡ cond b None (cond (eq_by_cmp R q e.0) (Some e.1) (get R es q))) [
-              | true ↦ λ t. ap (get R es) (tied R same q k t ∙ here) ∙ absent-below e.0 es (first (below_all R e.0 es) (is_sorted R es) s)
-              | false ↦ λ f. sym (ap (λ b. cond b (Some e.1) (get R es q)) (ap (eq_by_cmp R q) (sym here) ∙ f))
-            ] refl
-        | false ↦ λ at.
-            ap (λ found. cond (eq_by_cmp R q e.0) (Some e.1) found) (get-take es k q (second (below_all R e.0 es) (is_sorted R es) s))
-            ∙ picks (eq_by_cmp R q e.0) (eq_by_cmp R q k) (Some e.1) None (get R es q) (λ here there.
-            let self : eq_by_cmp R k e.0 ≡ true = ap (λ x. eq_by_cmp R x e.0) (sym (tied R same q k there)) ∙ here in
-            let clash : true ≡ false = sym self ∙ at in cc)
-      ] refl
+      let rest = get-take es k q in
+      let absent = absent-below e.0 es in
+      let here = tied R k e.0 same in
+      let there = tied R q k same in
+      grind (arith, rest, absent, here, there)
 
   -- an entry at a key, or none
   abbrev pub set_at : List (K × X) → K → Option X → List (K × X)
@@ -73,13 +50,16 @@ module _ {K X : Type 0} (R : K → K → Ordering) (o : IsTotalOrder R) (same : 
       same_entries R o same (set_at (set_at es k x) j y) (set_at (set_at es j y) k x)
       (subst T (sym (sorted-set (set_at es k x) j y (sorted-set es k x s))) tt)
       (subst T (sym (sorted-set (set_at es j y) k x (sorted-set es j y s))) tt)
-      (λ q. sym (get-find (set_at (set_at es k x) j y) q)
-      ∙ get-set (set_at es k x) j y q (sorted-set es k x s)
-      ∙ ap (λ found. cond (eq_by_cmp R q j) y found) (get-set es k x q s)
-      ∙ picks (eq_by_cmp R q j) (eq_by_cmp R q k) y x (get R es q) (λ here there. apart (sym (tied R same q k there) ∙ tied R same q j here))
-      ∙ ap (λ found. cond (eq_by_cmp R q k) x found) (sym (get-set es j y q s))
-      ∙ sym (get-set (set_at es j y) k x q (sorted-set es j y s))
-      ∙ get-find (set_at (set_at es j y) k x) q)
+      (λ q.
+      let one = get-find (set_at (set_at es k x) j y) q in
+      let other = get-find (set_at (set_at es j y) k x) q in
+      let last = get-set (set_at es k x) j y q (sorted-set es k x s) in
+      let last_other = get-set (set_at es j y) k x q (sorted-set es j y s) in
+      let first = get-set es k x q s in
+      let first_other = get-set es j y q s in
+      let here = tied R q j same in
+      let there = tied R q k same in
+      grind (arith, one, other, last, last_other, first, first_other, here, there, apart))
 
   -- one write after another
   abbrev pub sets : List (K × X) → List (K × Option X) → List (K × X)
@@ -92,10 +72,7 @@ module _ {K X : Type 0} (R : K → K → Ordering) (o : IsTotalOrder R) (same : 
   get-sets es (w ∷ ws) q s apart =
       get-sets (set_at es w.0 w.1) ws q (sorted-set es w.0 w.1 s) apart.1
       ∙ get-set es w.0 w.1 q s
-      ∙ elim (eq_by_cmp R q w.0) as (λ b. eq_by_cmp R q w.0 ≡ b → cond b w.1 (get R es q) ≡ get R es q) [
-        | true ↦ λ t. absurd (apart.0 (sym (tied R same q w.0 t)))
-        | false ↦ λ _. refl
-      ] refl
+      ∙ (let at = tied R q w.0 same in let away = apart.0 in grind (arith, at, away))
 
   -- a write past others
   past : (es : List (K × X)) (k : K) (x : Option X) (ws : List (K × Option X)) → AllByRecursion (λ w. k ≡ w.0 → ⊥) ws → is_sorted R es ≡ true → sets (set_at es k x) ws ≡ set_at (sets es ws) k x

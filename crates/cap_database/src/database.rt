@@ -15,7 +15,7 @@ ghost use Rattle.cap_database.specs.Keyed.{IsOwnRow, row_set};
 ghost use Rattle.cap_database.specs.Read.{read, row_at, rows_of, Lends};
 
 use crate::kept_key::kept_in;
-use crate::keyed::{put_under, take_under};
+use crate::keyed::{put_in, take_from};
 use crate::limits::TABLES_MAX;
 use crate::place::{copies, place_of, put_at, step_at, step_keyed_at};
 use crate::{Effect, Op};
@@ -195,7 +195,8 @@ impl<A: AllocHandle> Database<A> {
         ensures kept { OnErr result (self.new ≡ self.old) }
         ensures before { IfOk result (λ before. before ≡ row_at self.old table.now key) }
     {
-        put_under(&mut self.tables, table, key, row)
+        cap_table::laws::keyed_rows_keep_tables::<A>();
+        put_in(&mut self.tables, table, key, row)
     }
 
     /// Takes the row of a key out of the table of this name, and answers it, if any. The table is searched
@@ -207,7 +208,8 @@ impl<A: AllocHandle> Database<A> {
         ensures before { IfOk result (λ before. before ≡ row_at self.old table.now key.now) }
         ensures none { IfOk result (λ before. IfNone before (self.new ≡ self.old)) }
     {
-        take_under(&mut self.tables, table, key)
+        cap_table::laws::keyed_rows_keep_tables::<A>();
+        take_from(&mut self.tables, table, key)
     }
 
     /// The row of this name in a table, or its absence. Refused with `NoTable` where no table has the name.

@@ -1,6 +1,6 @@
 -- An update that sets no key column leaves each row its key, and the table with the new row under it.
 use Rattle.std.proofs.Common.{◌≡◌, ℕ, suc, ◌+◌, Bool, true, false, cond, Some, List, [], ◌∷◌, Ok, Err, length, map, get_or, refl, sym, ap, subst, ◌∙◌, arith}
-use Rattle.std.specs.Prelude.{is_some, not}
+use Rattle.std.specs.Prelude.{not}
 use Rattle.std.specs.Cmp.{Equal-is, tied_itself}
 use Rattle.std.specs.List.{list_any, enumerate_from}
 use Rattle.std.specs.Option.{option_map}
@@ -14,7 +14,7 @@ use Rattle.cap_row.specs.Key.{fields_cmp, fields_cmp_total, key_fields, key_from
 use Rattle.cap_row.specs.Row.{are_columns, columns_of, new_value, row_with, with_fields}
 use Rattle.cap_tree.specs.Tree.{get}
 use Rattle.cap_table.specs.KeptKey.{keeps_key}
-use Rattle.cap_table.specs.Operation.{moved, row_of, under_key, update_row, updated, with_key, without}
+use Rattle.cap_table.specs.Operation.{update_row, with_key}
 use Rattle.cap_table.specs.Sound.{IsTable}
 use Rattle.cap_table.specs.Table.{TableState}
 use Rattle.cap_table.specs.declared.row_ref.RowRef.TheVariants.{Key}
@@ -67,10 +67,5 @@ module _ {A : Type 0} where
         width = ap length (sym is.1) ∙ length-map _ _ ∙ length-enumerate_from 0 row ∙ own.0;
         own = same;
         next = ap (option_map (row_with changes)) (sym there) ∙ ap Some is.1;
-        left =
-            ap (λ b. cond b (updated t (Key key) changes (row_of t (Key key))) (Err BadColumn)) is.0
-            ∙ ap (λ o. updated t (Key key) changes o) (sym there)
-            ∙ ap (λ (r : Fields A). moved t (Key key) r (key_of t.schema r)) is.1
-            ∙ ap (λ k. moved t (Key key) made k) same
-            ∙ ap (λ b. cond b (Ok (with_key t key made)) (under_key (is_some (get fields_cmp t.keyed key)) (without t (Key key)) key made)) ((Equal-is (fields_cmp key key)).1 (tied_itself fields_cmp_total key));
+        left = let tie = (Equal-is (fields_cmp key key)).1 (tied_itself fields_cmp_total key) in grind arith;
       }

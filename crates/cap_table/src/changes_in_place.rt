@@ -1,11 +1,11 @@
 //! Operations on one table, in place. Each reserves all its memory before it changes anything.
-ghost use Rattle.std.specs.Prelude.{◌≡◌, ◌<◌, ◌^◌, length, IfOk, OnErr, IsTrue, Some, None, is_some};
+ghost use Rattle.std.specs.Prelude.{◌≡◌, ◌<◌, ◌^◌, length, IfOk, OnOk, OnErr, IsTrue, Some, None, is_some};
 ghost use Rattle.std.specs.Ordering.{nat_cmp};
 ghost use Rattle.cap_value.specs.Memory.{LeavesUnlessMemory, RefusesFirst};
 ghost use Rattle.cap_row.specs.Key.{key_of, fields_cmp};
 ghost use Rattle.cap_row.specs.Row.{row_with};
 ghost use Rattle.cap_tree.specs.Tree.{get};
-ghost use Rattle.cap_table.specs.Operation.{insert_row, update_row, delete_row, moved, rekeyed, under_key};
+ghost use Rattle.cap_table.specs.Operation.{insert_row, update_row, delete_row, moved, placed, under_key};
 ghost use Rattle.cap_table.specs.Operation.{under_next_id, with_id, without, row_of, refused_delete};
 ghost use Rattle.cap_table.specs.Operation.{refused_insert, refused_update};
 
@@ -32,10 +32,7 @@ impl<A: AllocHandle> Table<A> {
         }
         let key = key_of(self.alloc, &self.schema, &row)?;
         let answer = copy_of(&key)?;
-        match key {
-            Some(key) => self.put_new(key, row)?,
-            None => self.put_next(row)?,
-        }
+        self.place(key, row)?;
         Ok(answer)
     }
 
@@ -83,43 +80,45 @@ impl<A: AllocHandle> Table<A> {
         ensures row { IfOk result (λ row. row_of self.old name.now ≡ Some row) }
         ensures first { RefusesFirst (refused_delete self.old name.now) result }
     {
-        let deleted = match name {
-            RowRef::Key(key) => self.delete_keyed(key),
-            RowRef::Loose(id) => self.delete_loose(*id),
-        };
-        match deleted {
-            Ok(row) => Ok(row),
-            Err(Fault::Refused(why)) => Err(Fault::Refused(why)),
-            Err(Fault::OutOfMemory) => match self.refused_delete(name) {
+        match self.take(name) {
+            Ok(Some(row)) => Ok(row),
+            Ok(None) => Err(Fault::Refused(Refusal::NoRow)),
+            Err(OutOfMemory) => match self.refused_delete(name) {
                 Some(why) => Err(Fault::Refused(why)),
                 None => Err(Fault::OutOfMemory),
             },
         }
     }
 
-    fn delete_keyed(&mut self, key: &Key<A>) -> Result<Row<A>, Fault<Refusal>>
-        ensures table { LeavesUnlessMemory result (delete_row self.old (RowRef.Key key.now)) self.new }
+    // Takes the row of this name out, and answers it, if any.
+    fn take(&mut self, name: &RowRef<A>) -> Result<Option<Row<A>>, OutOfMemory>
+        ensures table { OnOk result (self.new ≡ without self.old name.now) }
         ensures kept { OnErr result (self.new ≡ self.old) }
-        ensures row { IfOk result (λ row. get fields_cmp self.old.keyed key.now ≡ Some row) }
+        ensures before { IfOk result (λ before. before ≡ row_of self.old name.now) }
     {
-        let Some(row) = self.keyed.remove(key)? else {
-            return Err(Fault::Refused(Refusal::NoRow));
-        };
-        Ok(row)
+        match name {
+            RowRef::Key(key) => self.take_keyed(key),
+            RowRef::Loose(id) => {
+                let before = self.loose.remove(id)?;
+                Ok(before)
+            }
+        }
     }
 
-    fn delete_loose(&mut self, id: u64) -> Result<Row<A>, Fault<Refusal>>
-        ensures table { LeavesUnlessMemory result (delete_row self.old (RowRef.Loose id)) self.new }
+    // A new row under its key, or where it has none under the next id.
+    fn place(&mut self, key: Option<Key<A>>, row: Row<A>) -> Result<(), Fault<Refusal>>
+        requires width { length row ≡ length self.old.schema }
+        requires key { key_of self.old.schema row ≡ key }
+        ensures table { LeavesUnlessMemory result (placed self.old row key) self.new }
         ensures kept { OnErr result (self.new ≡ self.old) }
-        ensures row { IfOk result (λ row. get nat_cmp self.old.loose id ≡ Some row) }
     {
-        let Some(row) = self.loose.remove(&id)? else {
-            return Err(Fault::Refused(Refusal::NoRow));
-        };
-        Ok(row)
+        match key {
+            Some(key) => self.put_new(key, row),
+            None => self.put_next(row),
+        }
     }
 
-    // The row replaces a row, and has this key or none.
+    // The row replaces the row of this name, and has this key or none.
     fn move_row(
         &mut self,
         name: &RowRef<A>,
@@ -127,17 +126,42 @@ impl<A: AllocHandle> Table<A> {
         row: Row<A>,
     ) -> Result<(), Fault<Refusal>>
         requires width { length row ≡ length self.old.schema }
-        requires key { key ≡ key_of self.old.schema row }
+        requires key { key_of self.old.schema row ≡ key }
         requires there { IsTrue (is_some (row_of self.old name.now)) }
         ensures table { LeavesUnlessMemory result (moved self.old name.now row key) self.new }
         ensures kept { OnErr result (self.new ≡ self.old) }
     {
         match (name, key) {
-            (RowRef::Key(old), Some(new)) => self.rekey(old, new, row),
-            (RowRef::Key(old), None) => self.loosen(old, row),
-            (RowRef::Loose(id), Some(new)) => self.give_up(*id, new, row),
+            (RowRef::Key(old), Some(new)) => {
+                if *old != new {
+                    return self.replace(name, Some(new), row);
+                }
+                self.put_keyed(new, row)?;
+                Ok(())
+            }
+            (RowRef::Key(_), None) => self.replace(name, None, row),
+            (RowRef::Loose(_), Some(new)) => self.replace(name, Some(new), row),
             (RowRef::Loose(id), None) => self.put_back(*id, row),
         }
+    }
+
+    // The row of this name is taken out, and the new row gets another key, or another id.
+    fn replace(
+        &mut self,
+        name: &RowRef<A>,
+        key: Option<Key<A>>,
+        row: Row<A>,
+    ) -> Result<(), Fault<Refusal>>
+        requires width { length row ≡ length self.old.schema }
+        requires key { key_of self.old.schema row ≡ key }
+        ensures table { LeavesUnlessMemory result (placed (without self.old name.now) row key) self.new }
+        ensures kept { OnErr result (self.new ≡ self.old) }
+    {
+        let mut next = self.snapshot()?;
+        next.take(name)?;
+        next.place(key, row)?;
+        *self = next;
+        Ok(())
     }
 
     // A row under a key that no row has yet.
@@ -148,10 +172,10 @@ impl<A: AllocHandle> Table<A> {
             (under_key (is_some (get fields_cmp self.old.keyed key)) self.old key row) self.new }
         ensures kept { OnErr result (self.new ≡ self.old) }
     {
-        if self.keyed.get(&key).is_some() {
+        if self.keyed().get(&key).is_some() {
             return Err(Fault::Refused(Refusal::Duplicate));
         }
-        self.keyed.insert(key, row)?;
+        self.put_keyed(key, row)?;
         Ok(())
     }
 
@@ -167,64 +191,6 @@ impl<A: AllocHandle> Table<A> {
         }
         self.loose.insert(self.next_id, row)?;
         self.next_id += 1;
-        Ok(())
-    }
-
-    // A keyed row changes, and its key may.
-    fn rekey(&mut self, old: &Key<A>, new: Key<A>, row: Row<A>) -> Result<(), Fault<Refusal>>
-        requires width { length row ≡ length self.old.schema }
-        requires key { key_of self.old.schema row ≡ Some new }
-        ensures table { LeavesUnlessMemory result (rekeyed self.old old.now row new) self.new }
-        ensures kept { OnErr result (self.new ≡ self.old) }
-    {
-        if *old == new {
-            self.keyed.insert(new, row)?;
-            return Ok(());
-        }
-        if self.keyed.get(&new).is_some() {
-            return Err(Fault::Refused(Refusal::Duplicate));
-        }
-        let mut keyed = self.keyed.snapshot()?;
-        keyed.remove(old)?;
-        keyed.insert(new, row)?;
-        self.keyed = keyed;
-        Ok(())
-    }
-
-    // A keyed row loses its key.
-    fn loosen(&mut self, old: &Key<A>, row: Row<A>) -> Result<(), Fault<Refusal>>
-        requires width { length row ≡ length self.old.schema }
-        requires key { key_of self.old.schema row ≡ None }
-        ensures table { LeavesUnlessMemory result (under_next_id
-            (without self.old (RowRef.Key old.now)) row) self.new }
-        ensures kept { OnErr result (self.new ≡ self.old) }
-    {
-        if self.next_id >= ROW_IDS_END {
-            return Err(Fault::Refused(Refusal::IdsSpent));
-        }
-        let mut keyed = self.keyed.snapshot()?;
-        keyed.remove(old)?;
-        self.loose.insert(self.next_id, row)?;
-        self.keyed = keyed;
-        self.next_id += 1;
-        Ok(())
-    }
-
-    // A loose row gets a key, and gives its id up.
-    fn give_up(&mut self, id: u64, new: Key<A>, row: Row<A>) -> Result<(), Fault<Refusal>>
-        requires width { length row ≡ length self.old.schema }
-        requires key { key_of self.old.schema row ≡ Some new }
-        ensures table { LeavesUnlessMemory result (under_key (is_some (get fields_cmp self.old.keyed new))
-            (without self.old (RowRef.Loose id)) new row) self.new }
-        ensures kept { OnErr result (self.new ≡ self.old) }
-    {
-        if self.keyed.get(&new).is_some() {
-            return Err(Fault::Refused(Refusal::Duplicate));
-        }
-        let mut loose = self.loose.snapshot()?;
-        loose.remove(&id)?;
-        self.keyed.insert(new, row)?;
-        self.loose = loose;
         Ok(())
     }
 

@@ -10,7 +10,7 @@ ghost use Rattle.cap_row.specs.Key.{key_of, fields_cmp};
 ghost use Rattle.cap_tree.specs.Tree.{get};
 ghost use Rattle.cap_table.specs.WithHook.{LeavesIfAllowed};
 ghost use Rattle.cap_table.specs.ChangeFault.{RefusesAtOnce};
-ghost use Rattle.cap_table.specs.Operation.{delete_row, insert_row, under_key, update_row};
+ghost use Rattle.cap_table.specs.Operation.{delete_row, insert_row, update_row};
 ghost use Rattle.cap_table.specs.Operation.{refused_delete, refused_update, with_key, without};
 ghost use Rattle.cap_table.specs.KeptKey.{keeps_key, new_key};
 ghost use Rattle.cap_table.specs.Table.{TableState};
@@ -56,26 +56,6 @@ impl<A: AllocHandle> Table<A> {
             (hook.new ≡ hook.old) (λ answer. H.gives hook.old None (Some row) answer hook.new) }
         ensures kept { OnErr result (self.new ≡ self.old) }
         ensures free { OnOk result (get fields_cmp self.old.keyed key ≡ None) }
-    {
-        self.put_new_hooked(key, row, hook)
-    }
-
-    // A row under a key that no row has yet, in place.
-    fn put_new_hooked<H: Hook<Row<A>>>(
-        &mut self,
-        key: Key<A>,
-        row: Row<A>,
-        hook: &mut H,
-    ) -> Result<(), ChangeFault<H::Refusal>>
-        requires width { length row ≡ length self.old.schema }
-        requires key { key_of self.old.schema row ≡ Some key }
-        requires can_ask { (after : TableState A)
-            → under_key (is_some (get fields_cmp self.old.keyed key)) self.old key row ≡ Ok after
-            → H.can_ask hook.old None (Some row) }
-        ensures table { LeavesIfAllowed result
-            (under_key (is_some (get fields_cmp self.old.keyed key)) self.old key row) self.new
-            (hook.new ≡ hook.old) (λ answer. H.gives hook.old None (Some row) answer hook.new) }
-        ensures kept { OnErr result (self.new ≡ self.old) }
     {
         match self.keyed().get(&key) {
             Some(_) => Err(ChangeFault::Refused(Refusal::Duplicate)),

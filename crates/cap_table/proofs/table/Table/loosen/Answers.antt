@@ -1,6 +1,0 @@
-use Rattle.std.proofs.Common.{arith}
-use Rattle.cap_table.proofs.TableLemmas.{after_loosen}
-use Rattle.cap_table.proofs.table.Table.loosen.Goals as goal
-
-pub invariant_of-self-2 : goal.invariant_of-self-2
-invariant_of-self-2 g c = rw (c.in_ok-insert.ensures.ok, c.in_ok-remove.ensures.ok, c.in_ok-keyed.ensures) (after_loosen (record { schema = c.self.inside.schema; keyed = c.self.inside.keyed; loose = c.self.inside.loose; next_id = c.self.inside.next_id }) _ c.self.view_is c.self.invariant c.args.old.now c.args.row (omega arith) c.requires.width c.requires.key)

@@ -1,5 +1,0 @@
-use Rattle.cap_table.proofs.TableLemmas.{after_put}
-use Rattle.cap_table.proofs.table.Table.put_new.Goals as goal
-
-pub invariant_of-self-2 : goal.invariant_of-self-2
-invariant_of-self-2 g c = rw c.in_ok-insert.ensures.ok (after_put (record { schema = c.self.inside.schema; keyed = c.self.inside.keyed; loose = c.self.inside.loose; next_id = c.self.inside.next_id }) _ c.self.view_is c.self.invariant c.args.key c.args.row c.requires.width c.requires.key)
