@@ -36,11 +36,8 @@ module _ {A : Type 0} where
   kept_fields fields (flag ∷ flags) n [] h = refl
   kept_fields fields (flag ∷ flags) n (v ∷ row) h =
       let rest = kept_fields fields flags (n + 1) row (λ i w key. subst (λ m. new_value fields m w ≡ w) (omega arith) (h (suc i) w key)) in
-      head flag (λ is. subst (λ m. new_value fields m v ≡ v) (omega arith) (h 0 v is)) rest
-    where
-      head : (f : Bool) → (f ≡ true → new_value fields n v ≡ v) → key_fields flags (map (λ (field : ℕ × Value A). new_value fields field.0 field.1) (enumerate_from (n + 1) row)) ≡ key_fields flags row → key_fields (f ∷ flags) (map (λ (field : ℕ × Value A). new_value fields field.0 field.1) (enumerate_from n (v ∷ row))) ≡ key_fields (f ∷ flags) (v ∷ row)
-      head true is rest = let e = is refl in cc
-      head false is rest = rest
+      let here : flag ≡ true → new_value fields n v ≡ v = λ is. subst (λ m. new_value fields m v ≡ v) (omega arith) (h 0 v is) in
+      grind (arith, rest, here)
 
   pub same_key : (flags : List Bool) (fields : List (ℕ × Value A)) → keeps_key flags fields ≡ true → (row : Fields A) → key_of flags (row_with fields row) ≡ key_of flags row
   same_key flags fields keeps row =

@@ -1,5 +1,5 @@
 -- Rows that stand where they belong, after a row is put and after one is taken.
-use Rattle.std.proofs.Common.{◌≡◌, ℕ, ◌+◌, ◌^◌, ◌<◌, ◌≤◌, Bool, true, Option, Some, None, List, [], ◌∷◌, ◌&&◌, length, refl, sym, ap, subst, ◌∙◌, arith, Ordering, Bor}
+use Rattle.std.proofs.Common.{◌≡◌, ℕ, ◌+◌, ◌^◌, ◌<◌, ◌≤◌, Bool, true, Option, Some, None, List, [], ◌∷◌, ◌&&◌, length, refl, sym, ap, ◌∙◌, arith, Ordering, Bor}
 use Rattle.std.specs.Prelude.{is_some, ◌==◌, IfSome}
 use Rattle.std.specs.Option.{option_copied}
 use Rattle.std.specs.List.{list_all}
@@ -67,40 +67,26 @@ module _ {A : Type 0} where
   is_keyed_row-own schema key row width is = let own = own_key (key_of schema row) key is in grind (arith, nat_tests)
 
   pub is_loose_row-own : (schema : List Bool) (next id : ℕ) (row : Fields A) → length row ≡ length schema → key_of schema row ≡ None → 1 ≤ id → id < next → is_loose_row schema next id row ≡ true
-  is_loose_row-own schema next id row width none p l =
-      grind (arith, nat_tests)
+  is_loose_row-own schema next id row width none p l = grind (arith, nat_tests)
+
+  -- a table with other rows that stand where they belong
+  with_keyed : (t : TableState A) (rows : List (Fields A × Fields A)) → IsTable t → list_all (λ row. is_keyed_row t.schema row.0 row.1) rows ≡ true → IsTable (record t { keyed = rows })
+  with_keyed t rows h all = record { keyed = all; loose = h.loose; first = h.first; last = h.last }
+
+  with_loose : (t : TableState A) (rows : List (ℕ × Fields A)) → IsTable t → list_all (λ row. is_loose_row t.schema t.next_id row.0 row.1) rows ≡ true → IsTable (record t { loose = rows })
+  with_loose t rows h all = record { keyed = h.keyed; loose = all; first = h.first; last = h.last }
 
   pub put_keyed : (t : TableState A) (key row : Fields A) → IsTable t → length row ≡ length t.schema → key_of t.schema row ≡ Some key → IsTable (record t { keyed = put_entry fields_cmp t.keyed key row })
-  put_keyed t key row h width is = record {
-    keyed = list_all-put_entry fields_cmp (λ row. is_keyed_row t.schema row.0 row.1) t.keyed key row h.keyed (is_keyed_row-own t.schema key row width is);
-    loose = h.loose;
-    first = h.first;
-    last = h.last;
-  }
+  put_keyed t key row h width is = with_keyed t _ h (list_all-put_entry fields_cmp _ t.keyed key row h.keyed (is_keyed_row-own t.schema key row width is))
 
   pub take_keyed : (t : TableState A) (key : Fields A) → IsTable t → IsTable (record t { keyed = take_entry fields_cmp t.keyed key })
-  take_keyed t key h = record {
-    keyed = list_all-remove fields_cmp (λ row. is_keyed_row t.schema row.0 row.1) (is_at (fields_cmp key)) t.keyed h.keyed;
-    loose = h.loose;
-    first = h.first;
-    last = h.last;
-  }
+  take_keyed t key h = with_keyed t _ h (list_all-remove fields_cmp _ (is_at (fields_cmp key)) t.keyed h.keyed)
 
   pub put_loose : (t : TableState A) (id : ℕ) (row : Fields A) → IsTable t → 1 ≤ id → id < t.next_id → length row ≡ length t.schema → key_of t.schema row ≡ None → IsTable (record t { loose = put_entry nat_cmp t.loose id row })
-  put_loose t id row h p l width none = record {
-    keyed = h.keyed;
-    loose = list_all-put_entry nat_cmp (λ row. is_loose_row t.schema t.next_id row.0 row.1) t.loose id row h.loose (is_loose_row-own t.schema t.next_id id row width none p l);
-    first = h.first;
-    last = h.last;
-  }
+  put_loose t id row h p l width none = with_loose t _ h (list_all-put_entry nat_cmp _ t.loose id row h.loose (is_loose_row-own t.schema t.next_id id row width none p l))
 
   pub take_loose : (t : TableState A) (id : ℕ) → IsTable t → IsTable (record t { loose = take_entry nat_cmp t.loose id })
-  take_loose t id h = record {
-    keyed = h.keyed;
-    loose = list_all-remove nat_cmp (λ row. is_loose_row t.schema t.next_id row.0 row.1) (is_at (nat_cmp id)) t.loose h.loose;
-    first = h.first;
-    last = h.last;
-  }
+  take_loose t id h = with_loose t _ h (list_all-remove nat_cmp _ (is_at (nat_cmp id)) t.loose h.loose)
 
   loose_more : (schema : List Bool) (next id : ℕ) (row : Fields A) → is_loose_row schema next id row ≡ true → is_loose_row schema (next + 1) id row ≡ true
   loose_more schema next id row h = grind (arith, nat_tests)
@@ -145,23 +131,3 @@ module _ {A : Type 0} where
   pub width-found : (t : TableState A) (name : RowRef A) (found : Option (Bor (Fields A))) → IsTable t → option_copied found ≡ row_of t name → IfSome found (λ row. length row.now ≡ length t.schema)
   width-found t name None h is = tt
   width-found t name (Some row) h is = found-wide t name row.now h (sym is)
-
-  -- ---- a table as its fields, and as it is seen: the same
-
-  module _ (t u : TableState A) (is : t ≡ u) (h : IsTable t) where
-    width_of : (row : Fields A) → length row ≡ length u.schema → length row ≡ length t.schema
-    width_of row width = subst (λ (v : TableState A). length row ≡ length v.schema) (sym is) width
-
-    key_is : (row : Fields A) (key : Option (Fields A)) → key_of u.schema row ≡ key → key_of t.schema row ≡ key
-    key_is row key k = subst (λ (v : TableState A). key_of v.schema row ≡ key) (sym is) k
-
-    pub after_put : (key row : Fields A) → length row ≡ length u.schema → key_of u.schema row ≡ Some key → IsTable (record t { keyed = put_entry fields_cmp t.keyed key row })
-    after_put key row width k = put_keyed t key row h (width_of row width) (key_is row (Some key) k)
-
-    pub after_next : (row : Fields A) → t.next_id < 2 ^ 63 → length row ≡ length u.schema → key_of u.schema row ≡ None → IsTable (record t { loose = put_entry nat_cmp t.loose t.next_id row; next_id = t.next_id + 1 })
-    after_next row l width k = put_next t row h l (width_of row width) (key_is row None k)
-
-    pub after_put_back : (id : ℕ) (row : Fields A) → is_some (get nat_cmp u.loose id) ≡ true → length row ≡ length u.schema → key_of u.schema row ≡ None → IsTable (record t { loose = put_entry nat_cmp t.loose id row })
-    after_put_back id row there width k =
-        let here = subst (λ (v : TableState A). is_some (get nat_cmp v.loose id) ≡ true) (sym is) there in
-        put_loose t id row h (given_from_1 t id h here) (was_given t id h here) (width_of row width) (key_is row None k)

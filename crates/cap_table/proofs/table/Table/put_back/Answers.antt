@@ -1,5 +1,8 @@
-use Rattle.cap_table.proofs.TableLemmas.{after_put_back}
+use Rattle.cap_table.proofs.TableLemmas.{given_from_1, put_loose, was_given}
 use Rattle.cap_table.proofs.table.Table.put_back.Goals as goal
 
 pub invariant_of-self-2 : goal.invariant_of-self-2
-invariant_of-self-2 g c = rw c.in_ok-insert.ensures.ok (after_put_back (record { schema = c.self.inside.schema; keyed = c.self.inside.keyed; loose = c.self.inside.loose; next_id = c.self.inside.next_id }) _ c.self.view_is c.self.invariant c.args.id c.args.row c.requires.there c.requires.width c.requires.key)
+invariant_of-self-2 g c =
+    let there = rw (← c.self.view_is) at c.requires.there in
+    let h = c.self.invariant in
+    rw c.in_ok-insert.ensures.ok (put_loose _ c.args.id c.args.row h (given_from_1 _ c.args.id h there) (was_given _ c.args.id h there) (rw (← c.self.view_is) at c.requires.width) (rw (← c.self.view_is) at c.requires.key))
