@@ -1,8 +1,8 @@
 -- What operations and new tables keep of a database: the columns of its tables, and that names, keys and ids rise.
-use Rattle.std.proofs.Common.{◌≡◌, ℕ, Bool, true, false, cond, Option, Some, None, Result, Ok, Err, List, [], ◌∷◌, refl, sym, subst, ◌∙◌, arith, Less, Equal, Greater}
+use Rattle.std.proofs.Common.{◌≡◌, ℕ, Bool, true, false, cond, Option, Some, None, Result, Ok, Err, List, [], ◌∷◌, refl, sym, subst, ◌∙◌, arith}
 use Rattle.std.specs.Prelude.{IfOk, OnErr, is_some}
 use Rattle.std.specs.List.{AllByRecursion}
-use Rattle.std.specs.Ordering.{eq_by_cmp, match_ordering}
+use Rattle.std.specs.Ordering.{eq_by_cmp}
 use Rattle.std.specs.Cmp.{Equal-is}
 use Rattle.std.specs.FinMap.{IsAntisymmetric, nat_cmp-IsAntisymmetric, slice_cmp-IsAntisymmetric}
 use Rattle.std.specs.FinMap.Entries.{find, is_sorted}
@@ -55,12 +55,7 @@ module _ {X : Type 0} where
   module _ (P : X → Type 0) where
     pub each-put : (es : List (List ℕ × X)) (name : List ℕ) (x : X) → AllByRecursion (λ e. P e.1) es → P x → AllByRecursion (λ e. P e.1) (put_entry bytes_cmp es name x)
     each-put [] name x all new = (new, tt)
-    each-put (e ∷ es) name x all new =
-        elim (bytes_cmp name e.0) as (λ r. AllByRecursion (λ e. P e.1) (match_ordering r ((name, x) ∷ e ∷ es) ((name, x) ∷ es) (e ∷ put_entry bytes_cmp es name x))) [
-          | Less ↦ (new, all)
-          | Equal ↦ (new, all.1)
-          | Greater ↦ (all.0, each-put es name x all.1 new)
-        ]
+    each-put (e ∷ es) name x all new = let rest = each-put es name x all.1 new in grind (arith, rest, new, all.0, all.1)
 
     pub each-found : (es : List (List ℕ × X)) (name : List ℕ) (x : X) → AllByRecursion (λ e. P e.1) es → get bytes_cmp es name ≡ Some x → P x
     each-found [] name x all is = cc
