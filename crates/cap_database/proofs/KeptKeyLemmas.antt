@@ -1,6 +1,6 @@
 -- An operation on a row that keeps its key: what its hook is shown, and its changes.
 use Rattle.std.proofs.Common.{◌≡◌, ◌⊎◌, ℕ, Bool, true, cond, Option, Some, None, Result, Ok, Err, List, [], ◌∷◌, inl, inr, refl, sym, ap, ap₂, subst, ◌∙◌, length, arith}
-use Rattle.std.specs.Prelude.{OnOk, option_and_then, ◌==◌}
+use Rattle.std.specs.Prelude.{option_and_then, ◌==◌}
 use Rattle.std.specs.Cmp.{Equal-is, tied_itself}
 use Rattle.cap_value.specs.declared.refusal.Refusal.{Refusal}
 use Rattle.cap_row.specs.Fields.{Fields}
@@ -10,8 +10,6 @@ use Rattle.cap_table.specs.KeptKey.{keeps_key}
 use Rattle.cap_table.specs.Operation.{row_of, updated}
 use Rattle.cap_table.specs.Sound.{IsRising, IsTable, is_key_of}
 use Rattle.cap_table.specs.Table.{TableState}
-use Rattle.cap_table.specs.WithHook.{LeavesIfAllowed}
-use Rattle.cap_table.specs.declared.change_fault.ChangeFault.{ChangeFault}
 use Rattle.cap_table.specs.declared.row_ref.RowRef.TheVariants.{Key, Loose}
 use Rattle.cap_table.proofs.KeptKeyLemmas.{same_key}
 use Rattle.cap_table.proofs.BackLemmas.{own-row}
@@ -81,7 +79,5 @@ module _ {A : Type 0} where
           (told (keys-kept t (each-found IsRising ts op.table t each there).sound op.action key kept after acts))
       inner (Err why) acts made = absurd cc
 
-  pub changes-of-key : {E : Type 0} (ts : Tables A) → EachRises ts → (op : Op A) (key : Fields A) → kept_key ts op ≡ Some key → (r : Result (Unit {0}) (ChangeFault E)) (left : Tables A) (unasked : Type 0) (gives : Result (Unit {0}) E → Type 0)
-      → LeavesIfAllowed r (step ts op) left unasked gives → OnOk r (AreOfKey op key (row_at ts op.table key) (changes ts op))
-  changes-of-key ts each op key kept (Ok done) left unasked gives is = made-of-key ts each op key (table_of ts op.table) refl kept left is.0
-  changes-of-key ts each op key kept (Err why) left unasked gives is = tt
+  pub changes-of-key : (ts : Tables A) → EachRises ts → (op : Op A) (key : Fields A) → kept_key ts op ≡ Some key → (left : Tables A) → step ts op ≡ Ok left → AreOfKey op key (row_at ts op.table key) (changes ts op)
+  changes-of-key ts each op key kept left is = made-of-key ts each op key (table_of ts op.table) refl kept left is

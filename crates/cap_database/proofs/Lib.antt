@@ -9,3 +9,4 @@ pub mod StayLemmas
 pub mod StepLemmas
 pub mod UndoneLemmas
 pub mod WritesLemmas
+pub mod WriteLemmas

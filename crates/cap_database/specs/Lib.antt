@@ -7,3 +7,4 @@ pub mod Read
 pub mod Snapshot
 pub mod Tables
 pub mod KeptKey
+pub mod Write

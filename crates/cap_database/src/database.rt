@@ -141,9 +141,14 @@ impl<A: AllocHandle> Database<A> {
         }
     }
 
-    /// The key of the row that an operation adds, takes out, or changes outside its key: of a row that has
-    /// one and keeps it. None of any other operation, and where no table has the name.
-    pub fn kept_key(&self, op: &Op<A>) -> Result<Option<Key<A>>, OutOfMemory>
+    // Its allocator.
+    pub(crate) fn allocator(&self) -> A {
+        *self.tables.allocator()
+    }
+
+    // The key of the row that an operation adds, takes out, or changes outside its key: of a row that has
+    // one and keeps it. None of any other operation, and where no table has the name.
+    pub(crate) fn kept_key(&self, op: &Op<A>) -> Result<Option<Key<A>>, OutOfMemory>
         ensures key { IfOk result (λ key. key ≡ kept_key self.now op.now) }
         ensures first { table_of self.now op.now.table ≡ None → result ≡ Ok None }
     {
@@ -153,10 +158,10 @@ impl<A: AllocHandle> Database<A> {
         }
     }
 
-    /// Makes an operation on a row that keeps this key in place, if the hook allows it, with `step`'s
-    /// refusals. The hook is asked once, after all memory is reserved, and only if the rules accept the
-    /// operation. It is shown the row under the key before and after. On an error the database is as before.
-    pub fn step_keyed<H: Hook<Row<A>>>(
+    // Makes an operation on a row that keeps this key in place, if the hook allows it, with `step`'s
+    // refusals. The hook is asked once, after all memory is reserved, and only if the rules accept the
+    // operation. It is shown the row under the key before and after. On an error the database is as before.
+    pub(crate) fn step_keyed<H: Hook<Row<A>>>(
         &mut self,
         op: &Op<A>,
         key: &Key<A>,
@@ -170,8 +175,8 @@ impl<A: AllocHandle> Database<A> {
             (λ answer. H.gives hook.old (row_at self.old op.now.table key.now)
             (row_left op.now.action (row_at self.old op.now.table key.now)) answer hook.new) }
         ensures kept { OnErr result (self.new ≡ self.old) }
-        ensures changes { OnOk result (AreOfKey op.now key.now (row_at self.old op.now.table key.now)
-            (changes self.old op.now)) }
+        ensures changes { (after : Tables A) → step self.old op.now ≡ Ok after
+            → AreOfKey op.now key.now (row_at self.old op.now.table key.now) (changes self.old op.now) }
         ensures first { RefusesAtOnce (refused_step self.old op.now) result }
     {
         cap_table::laws::operations_keep_tables::<A>();

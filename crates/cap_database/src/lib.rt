@@ -16,6 +16,8 @@ mod place;
 mod refused_at;
 mod run;
 mod snapshot;
+mod write;
+mod write_hook;
 
 pub use assignments::Assignments;
 pub use cause::Cause;
@@ -28,3 +30,4 @@ pub use outcome::Outcome;
 pub use refused_at::RefusedAt;
 pub use run::run_ops;
 pub use snapshot::Snapshot;
+pub use write_hook::WriteHook;

@@ -1,9 +1,8 @@
-use Rattle.std.proofs.Common.{◌≡◌, Some, length, arith, sym, ap, subst}
-use Rattle.std.specs.Prelude.{OnOk}
+use Rattle.std.proofs.Common.{◌≡◌, Ok, Some, length, arith, sym, ap, subst}
 use Rattle.std.proofs.lemmas.List.{with_items_is}
 use Rattle.cap_table.specs.Sound.{IsRising}
 use Rattle.cap_database.specs.KeptKey.{AreOfKey, kept_key}
-use Rattle.cap_database.specs.Operation.{changes}
+use Rattle.cap_database.specs.Operation.{changes, step}
 use Rattle.cap_database.specs.Read.{row_at}
 use Rattle.cap_database.specs.Tables.{AreTables, Tables}
 use Rattle.cap_database.proofs.KeptKeyLemmas.{changes-of-key}
@@ -31,6 +30,5 @@ returns-clause-changes g c =
     let op = c.args.op.now in
     let key = c.args.key.now in
     let kept : kept_key ts op ≡ Some key = subst (λ (us : Tables g.row.A.Denot). kept_key us op ≡ Some key) (sym c.self.view_is) c.requires.key in
-    let left = rw c.deref_mut.ensures.value at c.step_keyed_at.ensures.tables in
-    subst (λ (us : Tables g.row.A.Denot). OnOk c.step_keyed_at.result (AreOfKey op key (row_at us op.table key) (changes us op))) c.self.view_is
-    (changes-of-key ts c.self.invariant.each op key kept c.step_keyed_at.result _ _ _ left)
+    subst (λ (us : Tables g.row.A.Denot). (after : Tables g.row.A.Denot) → step us op ≡ Ok after → AreOfKey op key (row_at us op.table key) (changes us op)) c.self.view_is
+    (changes-of-key ts c.self.invariant.each op key kept)
