@@ -13,7 +13,7 @@ use Rattle.cap_value.specs.declared.memory.Fault.TheVariants.{Refused, OutOfMemo
 use Rattle.cap_value.specs.Memory.{MatchFault}
 use Rattle.cap_tree.specs.Subtree.{Subtree, Branch}
 use Rattle.cap_tree.specs.Tree.{IsOrdered, get}
-use Rattle.cap_tree.specs.Change.{gain, loss, change_entry, Changes}
+use Rattle.cap_tree.specs.Change.{gain, change_entry, Changes}
 use Rattle.cap_tree.specs.Shape.{entries_of, IsChild, EachBelow, AreChildren}
 use Rattle.cap_tree.proofs.EntryLemmas.{Each, reversed, put_entry-past, put_entry-before, take_entry-past, take_entry-before, get-past, get-before, entries_from-past, entries_from-before, each_put, each_take, ordered_put, ordered_take, length-put_entry, length-take_entry}
 use Rattle.cap_tree.proofs.PlaceLemmas.{turn_not_less, below_children}
@@ -34,10 +34,6 @@ at_ok (Err e) a is h = cc
 -- what holds of k and of each key before holds of each key after
 abbrev pub Keeps : {K V : Type 0} → K → List (K × V) → List (K × V) → Type 1
 Keeps {K = K} k before after = (P : K → Type 0) → P k → AllByRecursion P (keys_of before) → AllByRecursion P (keys_of after)
-
-pub one_lost : {V : Type 0} (next : Option V) → loss next ≤ 1
-one_lost (Some v) = omega arith
-one_lost None = omega arith
 
 module _ {K V : Type 0} (cmp : K → K → Ordering) (k : K) where
   change-past : (next : Option V) (front back : List (K × V)) → Each cmp Greater k front → change_entry cmp (front ++ back) k next ≡ front ++ change_entry cmp back k next

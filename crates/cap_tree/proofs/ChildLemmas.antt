@@ -1,6 +1,6 @@
 -- Children as their parent sees them.
 use Rattle.std.proofs.Common.{◌≡◌, ℕ, zero, suc, add-one, ◌+◌, ◌-◌, ◌<◌, ◌≤◌, List, [], ◌∷◌, ◌++◌, length, take, drop, get_or, set, refl, sym, ap, subst, ◌∙◌, arith, length-append}
-use Rattle.std.proofs.lemmas.List.{append-nil, take_more, map-append, map-set, get_or-map, length-map}
+use Rattle.std.proofs.lemmas.List.{append-nil, nil_from_length, take_more, map-append, map-set, get_or-map, length-map}
 use Rattle.std.proofs.lemmas.Option.{get_or_from_slice_get}
 use Rattle.std.specs.Prelude.{Some, slice_get, ◌≢◌}
 use Rattle.std.specs.declared.cmp.Ordering.{Ordering}
@@ -32,6 +32,9 @@ module _ {K V Z : Type 0} where
 
   pub length_branches : (children : List (Child K V Z)) → length (branches children) ≡ length children
   length_branches children = rw length-map refl
+
+  pub no_entries : (children : List (Child K V Z)) → length children ≡ 0 → entries_of (branches children) ≡ []
+  no_entries children none = rw (nil_from_length children none) refl
 
   -- the first child gets another least key
   pub lowered : (children : List (Child K V Z)) (d x : Child K V Z) (k : K) → 0 < length children → d ≡ get_or children 0 d → x.least ≡ k → x.node.value ≡ d.node.value → branches (set children 0 x) ≡ set (branches children) 0 (k, (get_or (branches children) 0 (d.least, d.node.value)).1)
@@ -82,19 +85,10 @@ module _ {K V Z : Type 0} where
     place_end (p ∷ ps) zero past = absurd (omega arith)
     place_end (p ∷ ps) (suc i) past = place_end ps i (omega arith)
 
-  -- a node with children is no leaf
-  pub high : (cmp : K → K → Ordering) (height : ℕ) (children : List (Child K V Z)) → 0 < length children → AreChildren cmp height (branches children) → 0 < height
-  high cmp height [] some h = absurd (omega arith)
-  high cmp height (p ∷ ps) some h = omega (arith, h.0.0)
-
 -- the only child of a node: it has all entries of the node, and is fit
 module _ {K V Z : Type 0} (all rest : List (Child K V Z)) (p : Child K V Z) (is : all ≡ rest ++ p ∷ []) (few : length all ≤ 1) where
   none_else : rest ≡ []
-  none_else = no_more rest (omega (arith, few, ap length is, length-append rest (p ∷ [])))
-    where
-      no_more : (l : List (Child K V Z)) → length l ≤ 0 → l ≡ []
-      no_more [] h = refl
-      no_more (x ∷ xs) h = absurd (omega (arith, h))
+  none_else = nil_from_length rest (omega (arith, few, ap length is, length-append rest (p ∷ [])))
 
   alone : all ≡ p ∷ []
   alone = is ∙ ap (λ l. l ++ p ∷ []) none_else

@@ -1,10 +1,19 @@
 -- How many entries a node has at its height.
-use Rattle.std.proofs.Common.{◌≡◌, ℕ, ◌+◌, ◌*◌, ◌^◌, ◌<◌, ◌≤◌, List, [], ◌∷◌, length, length-append, sym, ap, ◌∙◌, arith, lit<}
+use Rattle.std.proofs.Common.{◌≡◌, ℕ, ◌+◌, ◌*◌, ◌^◌, ◌<◌, ◌≤◌, List, [], ◌∷◌, length, length-append, sym, ap, ◌∙◌, arith, lit<, inl, inr}
 use Rattle.std.specs.declared.cmp.Ordering.{Ordering}
 use Rattle.std.proofs.Math.Nat.{mul-le-mul_right, pow-le-pow_right}
 use Rattle.std.proofs.lemmas.Grind.{pow_more}
+use Rattle.std.proofs.lemmas.Bool.{cases_lt}
+use Rattle.std.proofs.lemmas.List.{nil_from_length}
 use Rattle.cap_tree.specs.Shape.{entries_of, IsFilled, IsFit, AreFit, AreChildren}
 use Rattle.cap_tree.specs.Subtree.{Subtree, Branch}
+
+-- the lesser power has the lesser exponent
+pub less_power : (b h n : ℕ) → 0 < b → b ^ h < b ^ n → h < n
+less_power b h n some less = elim (cases_lt h n) [
+  | inl lt ↦ lt
+  | inr le ↦ let more : b ^ n ≤ b ^ h = pow-le-pow_right some {i = n} {j = h} le in absurd (omega (arith, less, more))
+]
 
 module _ {K V : Type 0} where
   -- a child of a node at this height
@@ -24,6 +33,10 @@ module _ {K V : Type 0} where
       let one : 4 ^ 0 ≤ 4 ^ c.height = pow-le-pow_right (lit< tt) {i = 0} {j = c.height} (omega arith) in
       let low : 1 * 4 ^ c.height ≤ c.items * 4 ^ c.height = mul-le-mul_right (4 ^ c.height) some in
       omega (arith, one, low, filled.0)
+
+  -- and one that has none has none
+  pub none_filled : (c : Subtree K V) → c.items ≡ 0 → IsFilled c → c.entries ≡ []
+  none_filled c none filled = nil_from_length c.entries (let most : length c.entries ≤ 0 * 16 ^ c.height = rw none at filled.1 in omega (arith, most))
 
   module _ (cmp : K → K → Ordering) where
     pub children_filled : (height : ℕ) (ps : List (Branch K V)) → AreChildren cmp height ps → AreFit ps → (length ps * 4 ^ height ≤ length (entries_of ps)) × (length (entries_of ps) ≤ length ps * 16 ^ height)

@@ -1,30 +1,20 @@
 -- A path with the children of one more node at its end.
 use Rattle.std.proofs.Common.{◌≡◌, ℕ, ◌+◌, ◌-◌, ◌<◌, ◌≤◌, suc, zero, List, [], ◌∷◌, ◌++◌, length, drop, Bor, refl, ap, ◌∙◌, sym, subst, append_assoc, length-append, get_or, cond, true, false, add-one, ◌*◌, ◌^◌, arith, lit<}
-use Rattle.std.proofs.lemmas.List.{append-nil}
+use Rattle.std.proofs.lemmas.List.{append-nil, nil_from_length}
 use Rattle.std.specs.declared.cmp.Ordering.{Ordering}
 use Rattle.std.specs.Ordering.{is_le}
 use Rattle.std.specs.BTreeMap.Range.{entries_from}
 use Rattle.std.specs.Cmp.{IsTotalOrder}
 use Rattle.cap_tree.specs.declared.node.Child.{Child}
-use Rattle.std.proofs.Math.Nat.{mul-le-mul_right, pow-le-pow_right, pow-suc}
+use Rattle.std.proofs.Math.Nat.{mul-le-mul_right}
 use Rattle.cap_tree.specs.declared.node.Link.{Link}
 use Rattle.cap_tree.specs.declared.node.Link.TheVariants.{Leaf, Inner}
-use Rattle.cap_tree.proofs.HeightLemmas.{children_filled}
+use Rattle.cap_tree.proofs.HeightLemmas.{children_filled, less_power}
 use Rattle.cap_tree.proofs.ChildLemmas.{length_branches}
 use Rattle.cap_tree.specs.Subtree.{Subtree}
 use Rattle.cap_tree.specs.Path.{pending, FitInto, IsPath}
 use Rattle.cap_tree.specs.Shape.{branches, shape, entries_of, IsNode, AreChildren, place}
 use Rattle.cap_tree.proofs.WayLemmas.{child_and_rest, from_child}
-
--- the lesser power has the lesser exponent
-lower : (h n : ℕ) → 4 ^ h < 4 ^ n → h < n
-lower h zero less =
-    let one : 4 ^ 0 ≤ 4 ^ h = pow-le-pow_right (lit< tt) {i = 0} {j = h} (omega arith) in
-    absurd (omega (arith, one, less))
-lower zero (suc n) less = omega arith
-lower (suc h) (suc n) less =
-    let below = lower h n (omega (arith, less, pow-suc 4 h, pow-suc 4 n)) in
-    omega (arith, below)
 
 -- the entries from a key on are no more than all
 pub length-entries_from : {K V : Type 0} (compare : K → Ordering) (es : List (K × V)) → length (entries_from compare es) ≤ length es
@@ -107,11 +97,7 @@ module _ {K V Z : Type 0} where
     next_path = path_front 32 path children here
 
     pub next_none : length children.now ≡ 0 → pending path ≡ pending whole
-    next_none none = sym (ap pending is ∙ pending-push path children ∙ rw (none_left children.now none))
-      where
-        none_left : (xs : List (Child K V Z)) → length xs ≡ 0 → xs ≡ []
-        none_left [] e = refl
-        none_left (x ∷ xs) e = absurd (omega arith)
+    next_none none = sym (ap pending is ∙ pending-push path children ∙ rw (nil_from_length children.now none))
 
     module _ (child : Child K V Z) (rest : Bor (List (Child K V Z))) (first : children.now ≡ child ∷ rest.now) where
       fit : FitInto (32 - length path) (child ∷ rest.now)
@@ -134,13 +120,14 @@ module _ {K V Z : Type 0} where
 
   -- ---- how high a node is whose entries can be counted
 
-  pub is_low : (cmp : K → K → Ordering) (link : Link K V Z) (node : Subtree K V) → shape link ≡ node → IsNode cmp link → length node.entries < 2 ^ 64 → node.height < 32
-  is_low cmp (Leaf entries) node is h fits = rw (← is) (lit< tt)
-  is_low cmp (Inner height count children) node is h fits =
+  pub is_low : (cmp : K → K → Ordering) (link : Link K V Z) (node : Subtree K V) → shape link ≡ node → IsNode cmp link → length node.entries < 2 ^ 64 → (0 < node.height → 0 < node.items) → node.height < 32
+  is_low cmp (Leaf entries) node is h fits top = rw (← is) (lit< tt)
+  is_low cmp (Inner height count children) node is h fits top =
       let filled = (children_filled cmp height (branches children.items) h.children h.fit).0 in
-      let some : 1 * 4 ^ height ≤ length (branches children.items) * 4 ^ height = mul-le-mul_right (4 ^ height) (omega (arith, h.some, children.ok.0, length_branches children.items)) in
+      let items = top (omega (arith, h.high, ap (λ n. n.height) is)) in
+      let some : 1 * 4 ^ height ≤ length (branches children.items) * 4 ^ height = mul-le-mul_right (4 ^ height) (omega (arith, items, ap (λ n. n.items) is, children.ok.0, length_branches children.items)) in
       let all : length (entries_of (branches children.items)) < 2 ^ 64 = rw (← ap (λ n. n.entries) is) at fits in
-      let low : height < 32 = lower height 32 (omega (arith, filled, some, all)) in
+      let low : height < 32 = less_power 4 height 32 (lit< tt) (omega (arith, filled, some, all)) in
       rw (← ap (λ n. n.height) is) low
 
   -- the entries to come from the item at i on are its own and those of the items behind it

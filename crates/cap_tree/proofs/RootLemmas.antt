@@ -1,18 +1,9 @@
 -- How high a root is that has so many entries.
 use Rattle.std.proofs.Common.{◌≡◌, ℕ, zero, suc, ◌+◌, ◌*◌, ◌^◌, ◌<◌, ◌≤◌, length, refl, arith, lit<, lit≤}
-use Rattle.std.proofs.Math.Nat.{mul-le-mul_right, pow-le-pow_left, pow-le-pow_right, pow-suc}
+use Rattle.std.proofs.Math.Nat.{mul-le-mul_right, pow-le-pow_left, pow-suc}
 use Rattle.cap_tree.specs.Subtree.{Subtree}
 use Rattle.cap_tree.specs.Shape.{IsFilled}
-
--- the lesser power has the lesser exponent
-less_power : (h n : ℕ) → 2 ^ h < 2 ^ n → h < n
-less_power h zero less =
-    let one : 2 ^ 0 ≤ 2 ^ h = pow-le-pow_right (lit< tt) {i = 0} {j = h} (omega arith) in
-    absurd (omega (arith, one, less))
-less_power zero (suc n) less = omega arith
-less_power (suc h) (suc n) less =
-    let below = less_power h n (omega (arith, less, pow-suc 2 h, pow-suc 2 n)) in
-    omega (arith, below)
+use Rattle.cap_tree.proofs.HeightLemmas.{less_power}
 
 module _ {K V : Type 0} (node : Subtree K V) (filled : IsFilled node) (root : 0 < node.height → 2 ≤ node.items) where
   -- an inner root has two children, and each node below it four items at least
@@ -30,5 +21,5 @@ module _ {K V : Type 0} (node : Subtree K V) (filled : IsFilled node) (root : 0 
       by_height (suc h) high =
           let least = least_by (omega arith) in
           let less : 2 ^ node.height ≤ 4 ^ node.height = pow-le-pow_left (lit≤ tt) node.height in
-          let more = less_power node.height digits (omega (arith, least, less, fits, pow-suc 2 digits)) in
+          let more = less_power 2 node.height digits (lit< tt) (omega (arith, least, less, fits, pow-suc 2 digits)) in
           omega (arith, more)

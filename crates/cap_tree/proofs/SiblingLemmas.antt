@@ -1,6 +1,6 @@
 -- The children of a node, around one that is looked at or changed, or around two neighbours.
 use Rattle.std.proofs.Common.{◌≡◌, ℕ, zero, suc, ◌+◌, ◌<◌, ◌≤◌, List, [], ◌∷◌, ◌++◌, length, take, drop, get_or, set, refl, sym, ap, subst, ◌∙◌, arith, length-append, inl, inr}
-use Rattle.std.specs.Prelude.{◌⊎◌, ◌≢◌, Result, Ok, Err, IfOk}
+use Rattle.std.specs.Prelude.{◌≢◌, Result, Ok, Err, IfOk, Some}
 use Rattle.std.specs.declared.cmp.Ordering.{Ordering}
 use Rattle.std.specs.declared.cmp.Ordering.TheVariants.{Less, Equal, Greater}
 use Rattle.std.specs.Cmp.{IsTotalOrder}
@@ -10,12 +10,13 @@ use Rattle.cap_tree.specs.declared.node.Child.{Child}
 use Rattle.cap_tree.specs.Subtree.{Subtree, Branch}
 use Rattle.cap_tree.specs.Tree.{IsOrdered}
 use Rattle.cap_tree.specs.Shape.{branches, entries_of, items_at, IsChild, AreChildren, IsFit, AreFit, place}
-use Rattle.cap_tree.specs.Siblings.{AreSiblings, IsRearrangement, HasItems, HaveItems}
+use Rattle.cap_tree.specs.Siblings.{AreSiblings, IsRearrangement, HasItems, IsReady}
 use Rattle.cap_tree.specs.Cut.{AreNeighbours, IsCut}
 use Rattle.cap_tree.proofs.EntryLemmas.{ordered_front, ordered_rest}
-use Rattle.cap_tree.proofs.BranchLemmas.{around, set_around, insert_around, two_around, remove_around, redo_around, read_at, all_left, all_right, all_append, entries_append, count_append, children_right, IsGap, one_entries, one_children, two_entries, two_children, place_first, place_second}
-use Rattle.cap_tree.proofs.PlaceLemmas.{is_not_less}
+use Rattle.cap_tree.proofs.BranchLemmas.{around, set_around, insert_around, two_around, remove_around, redo_around, read_at, all_left, all_right, all_append, entries_append, count_append, children_right, IsGap, gap_at, one_entries, one_children, two_entries, two_children, place_first, place_second}
+use Rattle.cap_tree.proofs.PlaceLemmas.{is_not_less, place_within}
 use Rattle.cap_tree.proofs.HeightLemmas.{fed}
+use Rattle.cap_tree.proofs.ChildLemmas.{length_branches}
 
 module _ {K V Z : Type 0} where
   pub cut : (whole front rest : List (Child K V Z)) → whole ≡ front ++ rest → branches whole ≡ branches front ++ branches rest
@@ -27,9 +28,6 @@ module _ {K V Z : Type 0} where
   pub cut_at : (xs : List (Child K V Z)) (j : ℕ) (d : Child K V Z) → j < length xs → d ≡ get_or xs j d → branches xs ≡ branches (take j xs) ++ (d.least, d.node.value) ∷ branches (drop (suc j) xs)
   cut_at xs j d within is = cut xs (take j xs) (d ∷ drop (suc j) xs) (around xs j d within is)
 
-  pub cut_two : (xs : List (Child K V Z)) (j : ℕ) (d e : Child K V Z) → j + 1 < length xs → d ≡ get_or (remove xs (j + 1)) j d → e ≡ get_or xs (j + 1) e → branches xs ≡ branches (take j xs) ++ (d.least, d.node.value) ∷ (e.least, e.node.value) ∷ branches (drop (suc (suc j)) xs)
-  cut_two xs j d e within is_d is_e = cut xs (take j xs) (d ∷ e ∷ drop (suc (suc j)) xs) (two_around xs j d e within is_d is_e)
-
   -- x stands where d stood, and has its least key
   module _ (xs : List (Child K V Z)) (j : ℕ) (d x : Child K V Z) (least : x.least ≡ d.least) where
     pub cut_set : j < length xs → branches (set xs j x) ≡ branches (take j xs) ++ (d.least, x.node.value) ∷ branches (drop (suc j) xs)
@@ -38,11 +36,18 @@ module _ {K V Z : Type 0} where
     pub cut_insert : (y : Child K V Z) → j < length xs → branches (insert (set xs j x) (j + 1) y) ≡ branches (take j xs) ++ (d.least, x.node.value) ∷ (y.least, y.node.value) ∷ branches (drop (suc j) xs)
     cut_insert y within = rw (← least) (cut (insert (set xs j x) (j + 1) y) (take j xs) (x ∷ y ∷ drop (suc j) xs) (insert_around xs j x y within))
 
-    pub cut_remove : j + 1 < length xs → branches (set (remove xs (j + 1)) j x) ≡ branches (take j xs) ++ (d.least, x.node.value) ∷ branches (drop (suc (suc j)) xs)
-    cut_remove within = rw (← least) (cut (set (remove xs (j + 1)) j x) (take j xs) (x ∷ drop (suc (suc j)) xs) (remove_around xs j x within))
+  -- d and e stand one behind the other, and e is taken out
+  module _ (xs : List (Child K V Z)) (j : ℕ) (d e : Child K V Z) (within : j + 1 < length xs) (is_d : d ≡ get_or (remove xs (j + 1)) j d) (is_e : e ≡ get_or xs (j + 1) e) where
+    pub cut_two : branches xs ≡ branches (take j xs) ++ (d.least, d.node.value) ∷ (e.least, e.node.value) ∷ branches (drop (suc (suc j)) xs)
+    cut_two = cut xs (take j xs) (d ∷ e ∷ drop (suc (suc j)) xs) (two_around xs j d e within is_d is_e)
 
-    pub cut_redo : (y : Child K V Z) → j + 1 < length xs → branches (insert (set (remove xs (j + 1)) j x) (j + 1) y) ≡ branches (take j xs) ++ (d.least, x.node.value) ∷ (y.least, y.node.value) ∷ branches (drop (suc (suc j)) xs)
-    cut_redo y within = rw (← least) (cut (insert (set (remove xs (j + 1)) j x) (j + 1) y) (take j xs) (x ∷ y ∷ drop (suc (suc j)) xs) (redo_around xs j x y within))
+    module _ (x : Child K V Z) (least : x.least ≡ d.least) where
+      pub cut_remove : branches (set (remove xs (j + 1)) j x) ≡ branches (take j xs) ++ (d.least, x.node.value) ∷ branches (drop (suc (suc j)) xs)
+      cut_remove = rw (← least) (cut (set (remove xs (j + 1)) j x) (take j xs) (x ∷ drop (suc (suc j)) xs) (remove_around xs j x within))
+
+      -- and y stands in its place
+      pub cut_redo : (y : Child K V Z) → branches (insert (set (remove xs (j + 1)) j x) (j + 1) y) ≡ branches (take j xs) ++ (d.least, x.node.value) ∷ (y.least, y.node.value) ∷ branches (drop (suc (suc j)) xs)
+      cut_redo y = rw (← least) (cut (insert (set (remove xs (j + 1)) j x) (j + 1) y) (take j xs) (x ∷ y ∷ drop (suc (suc j)) xs) (redo_around xs j x y within))
 
 -- what an answer has, it has by what follows from it
 pub if_turn : {A E : Type 0} (P Q : A → Type 0) → ((x : A) → P x → Q x) → (r : Result A E) → IfOk r P → IfOk r Q
@@ -78,17 +83,14 @@ module _ {K V : Type 0} (cmp : K → K → Ordering) where
     pub has_child : (P : ℕ → Type 0) (j : ℕ) → j ≡ length front → P p.1.items → HasItems P j whole
     has_child P j at h d = subst P (sym (child_at j at d)) h
 
+    pub ready_at : (P : ℕ → Type 0) (j : ℕ) → j ≡ length front → (key : K) → place cmp key whole ≡ j + 1 → P p.1.items → IsReady cmp key P whole j
+    ready_at P j at key there h = record { within = omega (arith, at, ap length is, length-append front (p ∷ back)); place = there; items = has_child P j at h }
+
   -- ---- what is known of two neighbours
 
   module _ (whole front back : List (Branch K V)) (p q : Branch K V) (is : whole ≡ front ++ p ∷ q ∷ back) where
-    second : whole ≡ (front ++ p ∷ []) ++ q ∷ back
+    pub second : whole ≡ (front ++ p ∷ []) ++ q ∷ back
     second = is ∙ sym (append_assoc front (p ∷ []) (q ∷ back))
-
-    pub second_at : (j : ℕ) → j ≡ length front → (d : Branch K V) → items_at (j + 1) d whole ≡ q.1.items
-    second_at j at d = child_at whole (front ++ p ∷ []) back q second (j + 1) (omega (arith, at, length-append front (p ∷ []))) d
-
-    pub second_fit : AreFit whole → IsFit q.1
-    second_fit h = child_fit whole (front ++ p ∷ []) back q second h
 
     pub neighbours : (height : ℕ) → AreSiblings cmp height whole → AreNeighbours cmp p.1 q.1 q.0
     neighbours height s =
@@ -98,12 +100,9 @@ module _ {K V : Type 0} (cmp : K → K → Ordering) where
           level = omega (arith, pair.0.0, pair.3.0.0);
           fits = omega (arith, s.fits, count_is whole front (q ∷ back) p is, length-append q.1.entries (entries_of back));
           ordered = ordered_front cmp (p.1.entries ++ q.1.entries) (entries_of back) (subst (IsOrdered cmp) (sym (append_assoc p.1.entries q.1.entries (entries_of back))) order);
-          below = pair.2.0;
+          below = λ some. pair.2.0;
           not_below = pair.3.1;
         }
-
-    pub have_items : (P : ℕ → ℕ → Type 0) (j : ℕ) → j ≡ length front → HaveItems P j whole → P p.1.items q.1.items
-    have_items P j at h = subst (λ n. P p.1.items n) (second_at j at p) (subst (λ m. P m (items_at (j + 1) p whole)) (child_at whole front (q ∷ back) p is j at p) (h p))
 
   -- ---- other children with the same entries
 
@@ -119,6 +118,19 @@ module _ {K V : Type 0} (cmp : K → K → Ordering) where
   fit_items P f [] i within h d = absurd (omega arith)
   fit_items P f (p ∷ ps) zero within h d = f p.1.items h.0.0 h.0.1
   fit_items P f (p ∷ ps) (suc i) within h d = fit_items P f ps i (omega arith) h.1 d
+
+  -- what the number of items is, it is by what follows from it
+  pub ready_turn : (key : K) (P Q : ℕ → Type 0) → ((n : ℕ) → 4 ≤ n → n ≤ 16 → P n → Q n) → (ps : List (Branch K V)) (i : ℕ) → AreFit ps → IsReady cmp key P ps i → IsReady cmp key Q ps i
+  ready_turn key P Q f ps i fit r = record { within = r.within; place = r.place; items = λ d. fit_items (λ n. P n → Q n) f ps i r.within fit d (r.items d) }
+
+  pub ready_fit : IsTotalOrder cmp → (key : K) (ps : List (Branch K V)) (i : ℕ) → place cmp key ps ≡ i + 1 → AreFit ps → IsReady cmp key (λ n. n ≤ 16) ps i
+  ready_fit o key ps i there fit = let within : i < length ps = omega (arith, there, place_within cmp o key ps) in record { within = within; place = there; items = fit_items (λ n. n ≤ 16) (λ n low high. high) ps i within fit }
+
+  -- the child at i is d
+  pub ready_by : {Z : Type 0} (key : K) (P Q : ℕ → Type 0) (xs : List (Child K V Z)) (i : ℕ) (d : Child K V Z) → IsReady cmp key P (branches xs) i → d ≡ get_or xs i d → Q d.node.value.items → IsReady cmp key Q (branches xs) i
+  ready_by key P Q xs i d r is h =
+      let within : i < length xs = omega (arith, r.within, length_branches xs) in
+      record { within = r.within; place = r.place; items = has_child (branches xs) (branches (take i xs)) (branches (drop (suc i) xs)) (d.least, d.node.value) (cut_at xs i d within is) Q i (front_length xs i within) h }
 
   pub rearranged : (height : ℕ) (old new : List (Branch K V)) → new ≡ old → AreSiblings cmp height old → IsRearrangement cmp height old new
   rearranged height old new is s = rw is (record { entries = refl; children = s.children; fit = s.fit })
@@ -149,27 +161,50 @@ module _ {K V : Type 0} (cmp : K → K → Ordering) (o : IsTotalOrder cmp) (hei
       })
 
   -- two, cut at k
-  module _ (at : ℕ) (whole a b : Subtree K V) (k : K) (cut : IsCut cmp at whole a b k) (level : whole.height + 1 ≡ height) (same : whole.entries ≡ entries_of (p ∷ rest)) (fit_a : IsFit a) (fit_b : IsFit b) (new : List (Branch K V)) (now : new ≡ front ++ (p.0, a) ∷ (k, b) ∷ back) where
+  module _ (at : ℕ) (whole a b : Subtree K V) (k : K) (cut : IsCut cmp at whole a b (Some k)) (level : whole.height + 1 ≡ height) (same : whole.entries ≡ entries_of (p ∷ rest)) (fit_a : IsFit a) (fit_b : IsFit b) (new : List (Branch K V)) (now : new ≡ front ++ (p.0, a) ∷ (k, b) ∷ back) where
     pub two_instead : IsRearrangement cmp height old new
     two_instead =
         let child_a : IsChild height a = (omega (arith, level, cut.height), fed a (omega (arith, fit_a.0)) fit_a.2) in
         let child_b : IsChild height b = (omega (arith, level, cut.back_height), fed b (omega (arith, fit_b.0)) fit_b.2) in
         rw (now, is) (record {
-          entries = two_entries cmp o height front p rest back children k a b child_a child_b cut.below cut.not_below (sym cut.entries ∙ same);
-          children = two_children cmp o height front p rest back children k a b child_a child_b cut.below cut.not_below (sym cut.entries ∙ same);
+          entries = two_entries cmp o height front p rest back children k a b child_a child_b cut.parted.1 cut.parted.2 (sym cut.entries ∙ same);
+          children = two_children cmp o height front p rest back children k a b child_a child_b cut.parted.1 cut.parted.2 (sym cut.entries ∙ same);
           fit = all_append (λ q. IsFit q.1) front ((p.0, a) ∷ (k, b) ∷ back) fit_front (fit_a, (fit_b, fit_back));
         })
 
-    module _ (j i : ℕ) (first : j ≡ length front) where
-      pub two_place : (key : K) → IsGap cmp key front p.0 back → (cmp key k ≡ Less → i ≡ j) → (cmp key k ≢ Less → i ≡ j + 1) → place cmp key new ≡ i + 1
-      two_place key gap less not =
-          let second = λ (n : cmp key k ≢ Less). place_second cmp o key front p.0 back gap a b k n in
-          rw now (elim (cmp key k) as (λ r. cmp key k ≡ r → place cmp key (front ++ (p.0, a) ∷ (k, b) ∷ back) ≡ i + 1) [
-            | Less ↦ λ e. place_first cmp o key front p.0 back gap a b k e ∙ omega (arith, first, less e)
-            | Equal ↦ λ e. let n = is_not_less (cmp key k) (inl e) in second n ∙ omega (arith, first, not n)
-            | Greater ↦ λ e. let n = is_not_less (cmp key k) (inr e) in second n ∙ omega (arith, first, not n)
-          ] refl)
+    -- the key is below k, and belongs to the first of them, or it belongs to the second
+    module _ (P : ℕ → Type 0) (j i : ℕ) (first : j ≡ length front) (key : K) (gap : IsGap cmp key front p.0 back) (less : cmp key k ≡ Less → i ≡ j) (not : cmp key k ≢ Less → i ≡ j + 1) (items_a : P a.items) (items_b : P b.items) where
+      in_second : cmp key k ≢ Less → IsReady cmp key P new i
+      in_second n = rw not (ready_at cmp new (front ++ (p.0, a) ∷ []) back (k, b) (second cmp new front back (p.0, a) (k, b) now) P (j + 1) (omega (arith, first, length-append front ((p.0, a) ∷ []))) key (rw now (place_second cmp o key front p.0 back gap a b k n ∙ omega (arith, first))) items_b)
 
-      pub two_items : (P : ℕ → Type 0) → (i ≡ j) ⊎ (i ≡ j + 1) → P a.items → P b.items → HasItems P i new
-      two_items P (inl e) ha hb d = subst P (sym (child_at cmp new front ((k, b) ∷ back) (p.0, a) now i (omega (arith, first, e)) d)) ha
-      two_items P (inr e) ha hb d = subst P (sym (ap (λ n. items_at n d new) e ∙ second_at cmp new front back (p.0, a) (k, b) now j first d)) hb
+      pub two_ready : IsReady cmp key P new i
+      two_ready = elim (cmp key k) as (λ r. cmp key k ≡ r → IsReady cmp key P new i) [
+        | Less ↦ λ e. rw less (ready_at cmp new front ((k, b) ∷ back) (p.0, a) now P j first key (rw now (place_first cmp o key front p.0 back gap a b k e ∙ omega (arith, first))) items_a)
+        | Equal ↦ λ e. in_second (is_not_less (cmp key k) (inl e))
+        | Greater ↦ λ e. in_second (is_not_less (cmp key k) (inr e))
+      ] refl
+
+-- ---- the child d at j, to which the key belongs, between those in front of it and those behind it
+
+pub record IsWay {K V : Type 0} (cmp : K → K → Ordering) (height : ℕ) (key : K) (P : ℕ → Type 0) (whole front : List (Branch K V)) (p : Branch K V) (back : List (Branch K V)) : Type 0 where
+  pub is : whole ≡ front ++ p ∷ back
+  pub children : AreChildren cmp height (front ++ p ∷ back)
+  pub gap : IsGap cmp key front p.0 back
+  pub has : P p.1.items
+
+pub way_to : {K V Z : Type 0} (cmp : K → K → Ordering) → IsTotalOrder cmp → (height : ℕ) (key : K) (P : ℕ → Type 0) (xs : List (Child K V Z)) (j : ℕ) (d : Child K V Z) → AreChildren cmp height (branches xs) → IsReady cmp key P (branches xs) j → d ≡ get_or xs j d → (j < length xs) × IsWay cmp height key P (branches xs) (branches (take j xs)) (d.least, d.node.value) (branches (drop (suc j) xs))
+way_to {K = K} {V = V} cmp o height key P xs j d h ready is =
+    let within : j < length xs = omega (arith, ready.within, length_branches xs) in
+    let first = front_length xs j within in
+    let p : Branch K V = (d.least, d.node.value) in
+    let front = branches (take j xs) in
+    let back = branches (drop (suc j) xs) in
+    let whole = cut_at xs j d within is in (
+      within,
+      record {
+        is = whole;
+        children = subst (AreChildren cmp height) whole h;
+        gap = gap_at cmp o key front p back j (subst (λ l. place cmp key l ≡ j + 1) whole ready.place) first;
+        has = child_has cmp (branches xs) front back p whole P j first ready.items;
+      },
+    )

@@ -63,9 +63,9 @@ module _ {K V Z : Type 0} where
   abbrev pub branches : List (Child K V Z) → List (Branch K V)
   branches children = map (λ p. (p.least, p.node.value)) children
 
-  -- the children of a node at this height: one to sixteen, and count entries
+  -- the children of a node at this height: up to sixteen, and count entries
   pub record IsInner (cmp : K → K → Ordering) (h n : ℕ) (items : Vec (Child K V Z) Z) : Type 0 where
-    pub some : 0 < vec_len items
+    pub high : 0 < h
     pub most : vec_len items ≤ 16
     pub children : AreChildren cmp h (branches items.items)
     pub fit : AreFit (branches items.items)

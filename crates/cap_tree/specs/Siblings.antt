@@ -1,9 +1,9 @@
--- The children of a node while they are split, merged or refilled.
+-- The children of a node while they are split or refilled.
 use Rattle.std.specs.Prelude.{◌≡◌, ℕ, ◌+◌, ◌^◌, ◌<◌, List, length}
 use Rattle.std.specs.declared.cmp.Ordering.{Ordering}
 use Rattle.cap_tree.specs.Subtree.{Branch}
 use Rattle.cap_tree.specs.Tree.{IsOrdered}
-use Rattle.cap_tree.specs.Shape.{entries_of, items_at, AreChildren, AreFit}
+use Rattle.cap_tree.specs.Shape.{entries_of, items_at, place, AreChildren, AreFit}
 
 module _ {K V : Type 0} where
   -- what holds of the children of each node
@@ -24,6 +24,9 @@ module _ {K V : Type 0} where
   abbrev pub HasItems : (ℕ → Type 0) → ℕ → List (Branch K V) → Type 0
   HasItems P i ps = (d : Branch K V) → P (items_at i d ps)
 
-  -- the numbers of items of the child at i and of the one behind it
-  abbrev pub HaveItems : (ℕ → ℕ → Type 0) → ℕ → List (Branch K V) → Type 0
-  HaveItems P i ps = (d : Branch K V) → P (items_at i d ps) (items_at (i + 1) d ps)
+  -- the key belongs to the child at i, and its number of items is right
+  pub record IsReady (cmp : K → K → Ordering) (key : K) (P : ℕ → Type 0) (ps : List (Branch K V))
+      (i : ℕ) : Type 0 where
+    pub within : i < length ps
+    pub place : place cmp key ps ≡ i + 1
+    pub items : HasItems P i ps

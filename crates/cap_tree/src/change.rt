@@ -1,16 +1,16 @@
 //! A put or a removal in place, with a hook.
 ghost use Rattle.std.specs.Prelude.{Option, ◌≡◌, ◌+◌, ◌<◌, ◌≤◌, ◌^◌, length, vec_len, None};
-ghost use Rattle.std.specs.Prelude.{Ok, Err, OnOk, IfOk, IfErr};
+ghost use Rattle.std.specs.Prelude.{Ok, Err, OnOk, OnErr, IfOk, IfErr};
 ghost use Rattle.std.specs.Arc.{arc_value};
 ghost use Rattle.cap_value.specs.Memory.{MatchFault};
 ghost use Rattle.cap_tree.specs.Tree.{IsOrdered, get};
 ghost use Rattle.cap_tree.specs.Change.{gain, loss, Changes};
 ghost use Rattle.cap_tree.specs.Root.{IsTop};
-ghost use Rattle.cap_tree.specs.Shape.{branches, place, IsFit};
-ghost use Rattle.cap_tree.specs.Siblings.{AreSiblings, IsRearrangement, HasItems};
+ghost use Rattle.cap_tree.specs.Shape.{branches, IsFit};
+ghost use Rattle.cap_tree.specs.Siblings.{AreSiblings, IsRearrangement, IsReady};
 
 use crate::child::child_index_for;
-use crate::grow::grow;
+use crate::grow::raise;
 use crate::hook::{Hook, ask_of_absent, ask_of_present};
 use crate::leaf::search;
 use crate::node::{Child, Link, MOST, Node};
@@ -28,7 +28,8 @@ pub(crate) trait Change<K: Ord + Exact + Drop, V: Exact + Drop>: Drop {
     // The value that the key has afterwards.
     ghost next_of: { Self → Option V };
 
-    // Sees to it that a root node can gain an item, where the change may put one. A full node is split.
+    // Sees to it that a root node can gain an item, where the change may put one. A full node becomes the
+    // only child of a new one.
     fn make_root_ready<A: AllocHandle>(
         &self,
         node: &mut Node<K, V, A>,
@@ -37,7 +38,8 @@ pub(crate) trait Change<K: Ord + Exact + Drop, V: Exact + Drop>: Drop {
         requires ordered { IsOrdered K.cmp node.old.entries }
         requires top { IsTop node.old }
         ensures entries { node.new.entries ≡ node.old.entries }
-        ensures top { IsTop node.new }
+        ensures top { OnErr result (IsTop node.new) }
+        ensures items { OnOk result (0 < node.new.height → loss (next_of self.now) < node.new.items) }
         ensures room { OnOk result (node.new.items + gain (next_of self.now) ≤ 16) }
         ensures fits { OnOk result (length node.new.entries + gain (next_of self.now) < 2 ^ 64) };
 
@@ -54,11 +56,8 @@ pub(crate) trait Change<K: Ord + Exact + Drop, V: Exact + Drop>: Drop {
             (branches children.new.items) }
         ensures most { vec_len children.new ≤ vec_len children.old + gain (next_of self.now) }
         ensures least { vec_len children.old ≤ vec_len children.new + loss (next_of self.now) }
-        ensures within { IfOk result (λ i. i < vec_len children.new) }
-        ensures place { IfOk result (λ i. place K.cmp (key_of self.now) (branches children.new.items) ≡ i + 1) }
-        ensures room { IfOk result (λ i. HasItems (λ n. n + gain (next_of self.now) ≤ 16) i
-            (branches children.new.items)) }
-        ensures spare { IfOk result (λ i. HasItems (λ n. 4 + loss (next_of self.now) ≤ n) i
+        ensures ready { IfOk result (IsReady K.cmp (key_of self.now)
+            (λ n. (n + gain (next_of self.now) ≤ 16) × (4 + loss (next_of self.now) ≤ n))
             (branches children.new.items)) };
 
     // Changes the key in a leaf. `hook` is asked once there is room for an entry more, and is shown what has
@@ -107,8 +106,7 @@ impl<K: Ord + Exact + Drop, V: Exact + Drop> Change<K, V> for Put<K, V> {
             return Err(OutOfMemory);
         }
         if items == MOST {
-            let at = node.cut_for(&self.key);
-            return grow(node, alloc, at);
+            return raise(node, alloc);
         }
         Ok(())
     }

@@ -3,7 +3,7 @@ ghost use Rattle.std.specs.Prelude.{◌≡◌, ◌≢◌, ℕ, ◌+◌, ◌<◌,
 ghost use Rattle.std.specs.Arc.{arc_value};
 ghost use Rattle.std.specs.List.{AllByRecursion};
 ghost use Rattle.std.specs.declared.cmp.Ordering.TheVariants.{Less, Greater};
-ghost use Rattle.cap_tree.specs.Siblings.{AreSiblings, IsRearrangement};
+ghost use Rattle.cap_tree.specs.Siblings.{AreSiblings, IsRearrangement, IsReady};
 ghost use Rattle.cap_tree.specs.Shape.{branches, entries_of, place, AreChildren, AreFit, NoneBelow};
 
 use crate::node::{Child, MOST};
@@ -97,8 +97,7 @@ pub(crate) fn child_index_for<K: Ord + Exact + Drop, V: Drop, A: AllocHandle>(
     requires siblings { AreSiblings K.cmp height (branches children.old.items) }
     ensures len { vec_len children.new ≡ vec_len children.old }
     ensures same { IsRearrangement K.cmp height (branches children.old.items) (branches children.new.items) }
-    ensures place { IfOk result (λ i. place K.cmp key.now (branches children.new.items) ≡ i + 1) }
-    ensures within { IfOk result (λ i. i < vec_len children.new) }
+    ensures ready { IfOk result (IsReady K.cmp key.now (λ n. n ≤ 16) (branches children.new.items)) }
 {
     let at = count_up_to(children.as_slice(), key);
     if at == 0 {
@@ -108,22 +107,25 @@ pub(crate) fn child_index_for<K: Ord + Exact + Drop, V: Drop, A: AllocHandle>(
     Ok(at - 1)
 }
 
-// Gives the first child this least key, which none of the entries is below.
+// Gives the first child, if there is one, this least key, which none of the entries is below.
 pub(crate) fn rename_first<K: Ord + Exact + Drop, V: Drop, A: AllocHandle>(
     children: &mut Vec<Child<K, V, A>, A>,
     height: u64,
     least: &K,
 ) -> Result<(), OutOfMemory>
-    requires some { 0 < vec_len children.old }
     requires children { AreChildren K.cmp height (branches children.old.items) }
     requires fit { AreFit (branches children.old.items) }
     requires not_below { NoneBelow K.cmp least.now (entries_of (branches children.old.items)) }
     ensures len { vec_len children.new ≡ vec_len children.old }
     ensures same { IsRearrangement K.cmp height (branches children.old.items) (branches children.new.items) }
-    ensures place { OnOk result (place K.cmp least.now (branches children.new.items) ≡ 1) }
+    ensures place { OnOk result
+        (0 < vec_len children.old → place K.cmp least.now (branches children.new.items) ≡ 1) }
     ensures leasts { OnOk result
         (AllByRecursion (λ q. K.cmp least.now q.0 ≢ Greater) (branches children.new.items)) }
 {
+    if children.is_empty() {
+        return Ok(());
+    }
     let renamed = least.clone()?;
     let first = &mut children[0];
     first.least = renamed;

@@ -1,5 +1,6 @@
 //! Looking a key up.
-ghost use Rattle.std.specs.Prelude.{◌≡◌, ℕ, ◌-◌, ◌<◌, [], ◌∷◌, drop, length, Some, slice_get, IfNone, IfSome};
+ghost use Rattle.std.specs.Prelude.{◌≡◌, ℕ, ◌-◌, [], ◌∷◌, drop, length, Some, slice_get, IfNone, IfSome};
+ghost use Rattle.std.specs.Prelude.{MatchOption};
 ghost use Rattle.std.specs.Option.{option_copied};
 ghost use Rattle.cap_tree.specs.Tree.{IsOrdered, get};
 ghost use Rattle.cap_tree.specs.Shape.{branches, place, AreChildren};
@@ -10,21 +11,19 @@ use crate::node::{Child, Link, Node};
 use cap_value::AllocHandle;
 
 // The child among whose entries the key belongs, and the children behind it. It is the first one where all
-// entries are above the key.
+// entries are above the key, and there is none where there are no children.
 #[inline]
 pub(crate) fn child_for<'a, K: Ord, V, A: AllocHandle>(
     children: &'a [Child<K, V, A>],
     key: &K,
-) -> (&'a Child<K, V, A>, &'a [Child<K, V, A>])
-    requires { 0 < length children.now }
-    ensures { (h : ℕ) → AreChildren K.cmp h (branches children.now)
-        → drop (place K.cmp key.now (branches children.now) - 1) children.now ≡ result.0.now ∷ result.1.now }
+) -> Option<(&'a Child<K, V, A>, &'a [Child<K, V, A>])>
+    ensures { MatchOption result (length children.now ≡ 0) (λ r. (h : ℕ)
+        → AreChildren K.cmp h (branches children.now)
+        → drop (place K.cmp key.now (branches children.now) - 1) children.now ≡ r.0.now ∷ r.1.now) }
 {
     let (_, from) = children.split_at(count_up_to(children, key).saturating_sub(1));
-    let Some((child, rest)) = from.split_first() else {
-        unreachable!()
-    };
-    (child, rest)
+    let (child, rest) = from.split_first()?;
+    Some((child, rest))
 }
 
 // The value at the key.
@@ -38,7 +37,7 @@ pub(crate) fn find<'a, K: Ord, V, A: AllocHandle>(node: &'a Node<K, V, A>, key: 
             Err(_) => return None,
         },
         Link::Inner(_, _, children) => {
-            let (child, _) = child_for(children.as_slice(), key);
+            let (child, _) = child_for(children.as_slice(), key)?;
             return find(&child.node, key);
         }
     }

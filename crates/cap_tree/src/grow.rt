@@ -1,8 +1,6 @@
-//! A full root is split into two nodes below a new root.
-ghost use Rattle.std.specs.Prelude.{◌≡◌, ◌<◌, ◌≤◌, OnOk, OnErr, IfOk, length};
-ghost use Rattle.std.specs.Arc.{arc_value};
-ghost use Rattle.cap_tree.specs.Shape.{NoneBelow, IsFilled};
-ghost use Rattle.cap_tree.specs.Cut.{IsCut};
+//! A full root becomes the only child of a new root.
+ghost use Rattle.std.specs.Prelude.{◌≡◌, ◌<◌, OnOk, OnErr, IfOk};
+ghost use Rattle.cap_tree.specs.Shape.{NoneBelow};
 ghost use Rattle.cap_tree.specs.Tree.{IsOrdered};
 
 use crate::node::{Child, Link, MOST, Node};
@@ -32,57 +30,31 @@ impl<K: Ord + Exact, V, A: AllocHandle> Node<K, V, A> {
     }
 }
 
-// Splits a full node, and answers the two as children. The first of them has `at` items.
-fn halves<K: Ord + Exact + Drop, V: Drop, A: AllocHandle>(
+// Makes the full root the only child of a new root.
+pub(crate) fn raise<K: Ord + Exact + Drop, V: Drop, A: AllocHandle>(
     node: &mut Node<K, V, A>,
     alloc: A,
-    at: usize,
-) -> Result<(Child<K, V, A>, Child<K, V, A>), OutOfMemory>
-    requires front { 0 < at }
-    requires back { at < node.old.items }
-    requires ordered { IsOrdered K.cmp node.old.entries }
-    ensures err { OnErr result (node.new ≡ node.old) }
-    ensures least { IfOk result (λ r. NoneBelow K.cmp r.0.least node.old.entries) }
-    ensures cut { IfOk result
-        (λ r. IsCut K.cmp at node.old (arc_value r.0.node) (arc_value r.1.node) r.1.least) }
-    ensures filled { IfOk result (λ r. IsFilled (arc_value r.0.node)) }
-    ensures back_filled { IfOk result (λ r. IsFilled (arc_value r.1.node)) }
-{
-    let least = node.least()?;
-    let mut front = Arc::new(alloc, Node::empty(alloc))?;
-    let Some(empty) = Arc::get_mut(&mut front) else {
-        return Err(OutOfMemory);
-    };
-    let back = node.split(at)?;
-    mem::swap(empty, node);
-    // The lengths show how many entries there are.
-    let _lengths = (front.len(), back.node.len());
-    Ok((Child { least, node: front }, back))
-}
-
-// Splits a full node, and replaces it by a node over the two. The first of them has `at` items.
-pub(crate) fn grow<K: Ord + Exact + Drop, V: Exact + Drop, A: AllocHandle>(
-    node: &mut Node<K, V, A>,
-    alloc: A,
-    at: usize,
 ) -> Result<(), OutOfMemory>
     requires full { node.old.items ≡ 16 }
-    requires front { 4 ≤ at }
-    requires back { at ≤ 12 }
     requires ordered { IsOrdered K.cmp node.old.entries }
+    ensures err { OnErr result (node.new ≡ node.old) }
     ensures entries { node.new.entries ≡ node.old.entries }
-    ensures two { 2 ≤ node.new.items }
-    ensures room { OnOk result (node.new.items < 16) }
+    ensures one { OnOk result (node.new.items ≡ 1) }
 {
     let count = node.count();
     let height = depth(node) + 1;
+    let _length = node.len();
+    let least = node.least()?;
     let mut children = Vec::with_capacity(alloc, MOST)?;
-    let (front, back) = halves(node, alloc, at)?;
-    insert_in_room(&mut children, 0, back);
-    insert_in_room(&mut children, 0, front);
-    let whole = Node {
+    let mut below = Arc::new(alloc, Node::empty(alloc))?;
+    let Some(empty) = Arc::get_mut(&mut below) else {
+        return Err(OutOfMemory);
+    };
+    mem::swap(empty, node);
+    insert_in_room(&mut children, 0, Child { least, node: below });
+    let root = Node {
         link: Link::Inner(height, count, children),
     };
-    *node = whole;
+    *node = root;
     Ok(())
 }

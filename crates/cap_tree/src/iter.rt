@@ -3,7 +3,7 @@ ghost use Rattle.std.specs.Prelude.{◌≡◌, ◌<◌, ◌^◌, ◌++◌, [], l
 ghost use Rattle.std.specs.Iterator.{at_most, UpTo};
 ghost use Rattle.std.specs.Iterator.SizeHint.{IsWithinCount};
 ghost use Rattle.std.specs.BTreeMap.Range.{entries_from};
-ghost use Rattle.cap_tree.specs.Root.{root_entries};
+ghost use Rattle.cap_tree.specs.Root.{root_entries, IsRoot};
 ghost use Rattle.cap_tree.specs.Tree.{IsOrdered};
 ghost use Rattle.std.specs.Map.Iter.{TakesFirst, deref_pair};
 
@@ -38,6 +38,7 @@ impl<'a, K: Ord, V, A: AllocHandle> Model for Iter<'a, K, V, A> {
 impl<'a, K: Ord, V, A: AllocHandle> Iter<'a, K, V, A> {
     // All entries of the root.
     pub(crate) fn over(root: &'a Option<Arc<Node<K, V, A>, A>>) -> Self
+        requires { IsRoot root.now }
         ensures { result ≡ root_entries root.now }
     {
         let mut path = start();
@@ -51,7 +52,8 @@ impl<'a, K: Ord, V, A: AllocHandle> Iter<'a, K, V, A> {
 
     // The entries of the root from the first whose key is not below this one.
     pub(crate) fn from_key(root: &'a Option<Arc<Node<K, V, A>, A>>, key: &K) -> Self
-        requires { IsOrdered K.cmp (root_entries root.now) }
+        requires root { IsRoot root.now }
+        requires ordered { IsOrdered K.cmp (root_entries root.now) }
         ensures { result ≡ entries_from (K.cmp key.now) (root_entries root.now) }
     {
         let mut path = start();

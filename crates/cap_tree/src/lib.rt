@@ -5,6 +5,7 @@
 
 mod change;
 mod child;
+mod divide;
 mod find;
 mod grow;
 mod hook;

@@ -20,6 +20,7 @@ pub(crate) type Path<'a, K, V, A> = ArrayVec<&'a [Child<K, V, A>], ROOM>;
 
 // How many levels there are below the node: fewer than a path has room for.
 pub(crate) fn depth<K: Ord, V, A: AllocHandle>(node: &Node<K, V, A>) -> u64
+    requires { 0 < node.now.height → 0 < node.now.items }
     ensures value { result ≡ node.now.height }
     ensures low { node.now.height < ROOM }
     ensures fits { length node.now.entries < 2 ^ 64 }
@@ -52,7 +53,7 @@ pub(crate) fn descend<'a, K: Ord, V, A: AllocHandle>(
         Link::Leaf(entries) => return entries.as_slice(),
         Link::Inner(_, _, children) => {
             let Some((child, rest)) = children.as_slice().split_first() else {
-                unreachable!()
+                return &[];
             };
             path.push(rest);
             return descend(path, &child.node);
@@ -109,7 +110,9 @@ pub(crate) fn seek<'a, K: Ord, V, A: AllocHandle>(
     match &node.link {
         Link::Leaf(entries) => return entries_not_below(entries.as_slice(), key),
         Link::Inner(_, _, children) => {
-            let (child, rest) = child_for(children.as_slice(), key);
+            let Some((child, rest)) = child_for(children.as_slice(), key) else {
+                return &[];
+            };
             path.push(rest);
             return seek(path, &child.node, key);
         }

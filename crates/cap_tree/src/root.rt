@@ -35,10 +35,11 @@ fn node_of<K: Ord + Drop, V: Drop, A: AllocHandle>(child: Child<K, V, A>) -> Arc
     node
 }
 
-// The only child of a node that has no other, which leaves an empty node behind.
+// The only child of a node that has no other, which leaves a node without children behind.
 fn lone_child<K: Ord + Drop, V: Drop, A: AllocHandle>(
     node: &mut Node<K, V, A>,
 ) -> Option<Arc<Node<K, V, A>, A>>
+    requires { 0 < node.old.height → 0 < node.old.items }
     ensures none { IfNone result (node.new ≡ node.old) }
     ensures top { IfNone result (IsTop node.new) }
     ensures subtree { IfSome result (λ n. (arc_value n).entries ≡ node.old.entries) }
@@ -46,15 +47,14 @@ fn lone_child<K: Ord + Drop, V: Drop, A: AllocHandle>(
 {
     match &mut node.link {
         Link::Leaf(_) => return None,
-        Link::Inner(_, _, children) => {
+        Link::Inner(_, count, children) => {
             if children.len() > 1 {
                 return None;
             }
-            let alloc = *children.allocator();
             let Some(only) = children.pop() else {
                 unreachable!()
             };
-            *node = Node::empty(alloc);
+            *count = 0;
             return Some(node_of(only));
         }
     }

@@ -1,6 +1,6 @@
 //! Items that move between two vectors, of which one goes on where the other ends.
-ghost use Rattle.std.specs.Prelude.{◌≡◌, ◌+◌, ◌<◌, ◌≤◌, ◌++◌, length, vec_len, take, drop, slice_index_or};
-ghost use Rattle.std.specs.Prelude.{OnOk, OnErr, IfOk};
+ghost use Rattle.std.specs.Prelude.{◌≡◌, ◌+◌, ◌<◌, ◌≤◌, ◌^◌, ◌++◌, length, vec_len, take, drop};
+ghost use Rattle.std.specs.Prelude.{slice_index_or, OnOk, OnErr, IfOk, MatchOption};
 ghost use Rattle.std.specs.Vec.{vec_capacity};
 
 use crate::node::Child;
@@ -121,30 +121,48 @@ fn item_at<'a, T>(front: &'a [T], back: &'a [T], at: usize) -> &'a T
     &back[at - front.len()]
 }
 
-// Redistributes the items of two nodes of one height, so that the front one has `at` of them, and answers the
-// first key of the back one.
+// The first key of the item that is at `at` where the back ones go on behind the front ones, if one is there.
+fn key_at<T: Item<K>, K: Exact + Drop>(
+    front: &[T],
+    back: &[T],
+    at: usize,
+) -> Result<Option<K>, OutOfMemory>
+    requires small { length front.now + length back.now < 2 ^ 64 }
+    requires within { at ≤ length front.now + length back.now }
+    ensures { IfOk result (λ o. MatchOption o (at ≡ length front.now + length back.now)
+        (λ k. (at < length front.now + length back.now)
+        × ((d : T) × ((d ≡ slice_index_or (front.now ++ back.now) at d) × (k ≡ T.first_key d))))) }
+{
+    if at == front.len() + back.len() {
+        return Ok(None);
+    }
+    let key = item_at(front, back, at).first_key().clone()?;
+    Ok(Some(key))
+}
+
+// Divides the items of both anew, so that the front one has `at` of them, and answers the first key of the
+// back one, if it has any items.
 pub(crate) fn cut_items<T: Item<K> + Drop, K: Exact + Drop, A: AllocHandle>(
     front: &mut Vec<T, A>,
     back: &mut Vec<T, A>,
     at: usize,
-) -> Result<K, OutOfMemory>
+) -> Result<Option<K>, OutOfMemory>
     requires front_small { vec_len front.old ≤ 16 }
     requires back_small { vec_len back.old ≤ 16 }
-    requires within { at < vec_len front.old + vec_len back.old }
+    requires within { at ≤ vec_len front.old + vec_len back.old }
     ensures err { OnErr result (front.new.items ≡ front.old.items) }
     ensures err_len { OnErr result (vec_len front.new ≡ vec_len front.old) }
     ensures back_err { OnErr result (back.new.items ≡ back.old.items) }
     ensures back_err_len { OnErr result (vec_len back.new ≡ vec_len back.old) }
-    ensures key { IfOk result (λ k. (d : T)
-        × ((d ≡ slice_index_or (front.old.items ++ back.old.items) at d) × (k ≡ T.first_key d))) }
+    ensures key { IfOk result (λ o. MatchOption o (at ≡ vec_len front.old + vec_len back.old)
+        (λ k. (at < vec_len front.old + vec_len back.old) × ((d : T)
+        × ((d ≡ slice_index_or (front.old.items ++ back.old.items) at d) × (k ≡ T.first_key d))))) }
     ensures front { OnOk result (front.new.items ≡ take at (front.old.items ++ back.old.items)) }
     ensures front_len { OnOk result (vec_len front.new ≡ at) }
     ensures back { OnOk result (back.new.items ≡ drop at (front.old.items ++ back.old.items)) }
     ensures back_len { OnOk result (vec_len back.new + at ≡ vec_len front.old + vec_len back.old) }
 {
-    let key = item_at(front.as_slice(), back.as_slice(), at)
-        .first_key()
-        .clone()?;
+    let key = key_at(front.as_slice(), back.as_slice(), at)?;
     reserve_for(front, back, at)?;
     divide(front, back, at);
     Ok(key)

@@ -1,13 +1,10 @@
-use Rattle.std.proofs.Common.{◌≡◌, ◌+◌, ◌*◌, ◌<◌, ◌≤◌, ◌^◌, length, take, drop, suc, arith, rules, refl, sym, ap, subst, ◌∙◌}
+use Rattle.std.proofs.Common.{◌≡◌, ◌+◌, ◌*◌, ◌<◌, ◌≤◌, ◌^◌, length, arith, rules, refl, sym, ap, subst, ◌∙◌}
 use Rattle.cap_tree.specs.Tree.{IsOrdered, get}
 use Rattle.cap_tree.specs.Change.{gain, loss}
-use Rattle.cap_tree.specs.Subtree.{Branch}
-use Rattle.cap_tree.specs.Shape.{branches, entries_of, place, AreChildren, AreFit, IsFit, IsChild}
+use Rattle.cap_tree.specs.Shape.{branches, entries_of, AreFit, IsFit, IsChild}
 use Rattle.cap_tree.proofs.HeightLemmas.{fed}
-use Rattle.cap_tree.proofs.ChildLemmas.{high}
-use Rattle.cap_tree.proofs.BranchLemmas.{gap_at}
 use Rattle.cap_tree.proofs.ChangeLemmas.{either_way, changes_of, changes_keeps, changes_length, changes_none, changes_there, children_there, get_there}
-use Rattle.cap_tree.proofs.SiblingLemmas.{front_length, cut_at, cut_set, child_is, child_fit, child_ordered, child_has, count_is, fit_set}
+use Rattle.cap_tree.proofs.SiblingLemmas.{cut_set, child_is, child_fit, child_ordered, count_is, fit_set, way_to}
 use Rattle.cap_tree.proofs.change.+change.Goals as goal
 
 pub change_in_node-make_ready-requires : goal.change_in_node-make_ready-requires
@@ -15,8 +12,7 @@ change_in_node-make_ready-requires g t c =
     let n = rw c.in-Inner.is at c.node.invariant in
     let view = rw c.in-Inner.is at c.node.view_is in
     let range = rw c.in-Inner.is at c.node.ranges in
-    let up = high g.K.Ord.cmp c.in-Inner.height c.in-Inner.children.items (omega (arith, n.some, c.in-Inner.children.ok.0)) n.children in
-    let two = c.requires.two (omega (arith, up, ap (λ n. n.height) view)) in
+    let two = c.requires.two (omega (arith, n.high, ap (λ n. n.height) view)) in
     record {
       some = omega (arith, two, ap (λ n. n.items) view);
       siblings = record { children = n.children; fit = n.fit; ordered = rw (ap (λ n. n.entries) view) c.requires.ordered; fits = omega (arith, n.count, range) };
@@ -29,27 +25,21 @@ change_in_node-change_in_child-requires g t c =
     let items = c.make_ready.new.children.items in
     let at = c.in_ok-at-in-Inner.at in
     let key = g.C.Change.key_of c.args.change in
+    let next = g.C.Change.next_of c.args.change in
     let child = c.index_mut.result.now in
-    let p : Branch _ _ = (child.least, child.node.value) in
     let e = c.make_ready.ensures in
-    let at_is = c.in_ok-at-in-Inner.ensures in
-    let within : at < length items = omega (arith, at_is.within, c.make_ready.new.children.ok.0) in
-    let first = front_length items at within in
-    let front = branches (take at items) in
-    let back = branches (drop (suc at) items) in
-    let whole = cut_at items at child within c.index_mut.ensures.value in
+    let to = way_to g.K.Ord.cmp g.met.K.Ord.total c.in-Inner.height key (λ n. (n + gain next ≤ 16) × (4 + loss next ≤ n)) items at child e.same.children c.in_ok-at-in-Inner.ensures.ready c.index_mut.ensures.value in
+    let way = to.1 in
     let entries : entries_of (branches items) ≡ c.args.node.now.entries = e.same.entries ∙ ap (λ n. n.entries) view in
-    let children = subst (AreChildren g.K.Ord.cmp c.in-Inner.height) whole e.same.children in
-    let gap = gap_at g.K.Ord.cmp g.met.K.Ord.total key front p back at (subst (λ l. place g.K.Ord.cmp key l ≡ at + 1) whole at_is.place) first in
-    let found : get g.K.Ord.cmp c.args.node.now.entries key ≡ get g.K.Ord.cmp child.node.value.entries key = ap (λ l. get g.K.Ord.cmp l key) (sym entries ∙ ap entries_of whole) ∙ get_there g.K.Ord.cmp key g.met.K.Ord.total c.in-Inner.height front p back children gap in
-    let can : g.H.Hook.can_ask c.args.hook.now (get g.K.Ord.cmp child.node.value.entries key) (g.C.Change.next_of c.args.change) = rw (← found) c.requires.can_ask in
-    let ordered : IsOrdered g.K.Ord.cmp child.node.value.entries = child_ordered g.K.Ord.cmp _ front back p whole (rw entries c.requires.ordered) in
-    let fit : IsFit child.node.value = child_fit g.K.Ord.cmp _ front back p whole e.same.fit in
-    let room : child.node.value.items + gain (g.C.Change.next_of c.args.change) ≤ 16 = child_has g.K.Ord.cmp _ front back p whole (λ n. n + gain (g.C.Change.next_of c.args.change) ≤ 16) at first at_is.room in
-    let spare : 4 + loss (g.C.Change.next_of c.args.change) ≤ child.node.value.items = child_has g.K.Ord.cmp _ front back p whole (λ n. 4 + loss (g.C.Change.next_of c.args.change) ≤ n) at first at_is.spare in
-    let counted : length child.node.value.entries ≤ c.in-Inner.count = omega (arith, n.count, ap length e.same.entries, count_is g.K.Ord.cmp _ front back p whole) in
-    let fits : c.in-Inner.count + gain (g.C.Change.next_of c.args.change) < 2 ^ 64 = omega (arith, n.count, ap (λ n. length n.entries) view, c.requires.fits) in
-    let level : 2 * child.node.value.height + 1 < 2 * c.args.node.now.height = omega (arith, (child_is g.K.Ord.cmp _ front back p whole c.in-Inner.height e.same.children).0, ap (λ n. n.height) view) in
+    let found : get g.K.Ord.cmp c.args.node.now.entries key ≡ get g.K.Ord.cmp child.node.value.entries key = ap (λ l. get g.K.Ord.cmp l key) (sym entries ∙ ap entries_of way.is) ∙ get_there g.K.Ord.cmp key g.met.K.Ord.total c.in-Inner.height _ _ _ way.children way.gap in
+    let can : g.H.Hook.can_ask c.args.hook.now (get g.K.Ord.cmp child.node.value.entries key) next = rw (← found) c.requires.can_ask in
+    let ordered : IsOrdered g.K.Ord.cmp child.node.value.entries = child_ordered g.K.Ord.cmp _ _ _ _ way.is (rw entries c.requires.ordered) in
+    let fit : IsFit child.node.value = child_fit g.K.Ord.cmp _ _ _ _ way.is e.same.fit in
+    let room : child.node.value.items + gain next ≤ 16 = way.has.0 in
+    let spare : 4 + loss next ≤ child.node.value.items = way.has.1 in
+    let counted : length child.node.value.entries ≤ c.in-Inner.count = omega (arith, n.count, ap length e.same.entries, count_is g.K.Ord.cmp _ _ _ _ way.is) in
+    let fits : c.in-Inner.count + gain next < 2 ^ 64 = omega (arith, n.count, ap (λ n. length n.entries) view, c.requires.fits) in
+    let level : 2 * child.node.value.height + 1 < 2 * c.args.node.now.height = omega (arith, (child_is g.K.Ord.cmp _ _ _ _ way.is c.in-Inner.height e.same.children).0, ap (λ n. n.height) view) in
     λ κs h. search rules
 
 pub change_in_node-invariant_of-node-in-Inner : goal.change_in_node-invariant_of-node-in-Inner
@@ -59,57 +49,42 @@ change_in_node-invariant_of-node-in-Inner g t c =
     let items = c.make_ready.new.children.items in
     let at = c.in_ok-at-in-Inner.at in
     let key = g.C.Change.key_of c.args.change in
+    let next = g.C.Change.next_of c.args.change in
     let child = c.index_mut.result.now in
-    let p : Branch _ _ = (child.least, child.node.value) in
     let e = c.make_ready.ensures in
-    let at_is = c.in_ok-at-in-Inner.ensures in
-    let within : at < length items = omega (arith, at_is.within, c.make_ready.new.children.ok.0) in
-    let first = front_length items at within in
-    let front = branches (take at items) in
-    let back = branches (drop (suc at) items) in
-    let whole = cut_at items at child within c.index_mut.ensures.value in
+    let to = way_to g.K.Ord.cmp g.met.K.Ord.total c.in-Inner.height key (λ n. (n + gain next ≤ 16) × (4 + loss next ≤ n)) items at child e.same.children c.in_ok-at-in-Inner.ensures.ready c.index_mut.ensures.value in
+    let way = to.1 in
     let entries : entries_of (branches items) ≡ c.args.node.now.entries = e.same.entries ∙ ap (λ n. n.entries) view in
-    let children = subst (AreChildren g.K.Ord.cmp c.in-Inner.height) whole e.same.children in
-    let gap = gap_at g.K.Ord.cmp g.met.K.Ord.total key front p back at (subst (λ l. place g.K.Ord.cmp key l ≡ at + 1) whole at_is.place) first in
     let x = c.change_in_child.new.child in
     let w = c.change_in_child.ensures in
-    let r = c.change_in_child.result in
-    let new = cut_set items at child x w.least within in
-    let level = (child_is g.K.Ord.cmp _ front back p whole c.in-Inner.height e.same.children).0 in
+    let new = cut_set items at child x w.least to.0 in
+    let level = (child_is g.K.Ord.cmp _ _ _ _ way.is c.in-Inner.height e.same.children).0 in
     let subtree : IsChild c.in-Inner.height x.node.value = (omega (arith, level, w.height), fed x.node.value (omega (arith, w.fit.0)) w.fit.2) in
     record {
-      some = omega (arith, at_is.within);
+      high = n.high;
       most = omega (arith, ap (λ n. n.items) view, c.requires.room, e.most);
-      children = rw new (children_there g.K.Ord.cmp key g.met.K.Ord.total c.in-Inner.height front p back children gap x.node.value subtree (changes_keeps g.K.Ord.cmp g.H.Hook.gives key (g.C.Change.next_of c.args.change) c.args.hook.now c.change_in_child.new.hook g.met.K.Ord.total r child.node.value.entries x.node.value.entries w.changes));
-      fit = rw new (fit_set front back p x.node.value (subst AreFit whole e.same.fit) w.fit);
-      count = omega (arith, w.count, n.count, ap length e.same.entries, count_is g.K.Ord.cmp _ front back p whole, count_is g.K.Ord.cmp _ front back (child.least, x.node.value) new);
+      children = rw new (children_there g.K.Ord.cmp key g.met.K.Ord.total c.in-Inner.height _ _ _ way.children way.gap x.node.value subtree (changes_keeps g.K.Ord.cmp g.H.Hook.gives key next c.args.hook.now c.change_in_child.new.hook g.met.K.Ord.total c.change_in_child.result child.node.value.entries x.node.value.entries w.changes));
+      fit = rw new (fit_set _ _ _ x.node.value (subst AreFit way.is e.same.fit) w.fit);
+      count = omega (arith, w.count, n.count, ap length e.same.entries, count_is g.K.Ord.cmp _ _ _ _ way.is, count_is g.K.Ord.cmp _ _ _ (child.least, x.node.value) new);
     }
 
 pub change_in_node-returns-in-Inner : goal.change_in_node-returns-in-Inner
 change_in_node-returns-in-Inner g t c =
-    let n = rw c.in-Inner.is at c.node.invariant in
     let view = rw c.in-Inner.is at c.node.view_is in
     let items = c.make_ready.new.children.items in
     let at = c.in_ok-at-in-Inner.at in
     let key = g.C.Change.key_of c.args.change in
+    let next = g.C.Change.next_of c.args.change in
     let child = c.index_mut.result.now in
-    let p : Branch _ _ = (child.least, child.node.value) in
     let e = c.make_ready.ensures in
-    let at_is = c.in_ok-at-in-Inner.ensures in
-    let within : at < length items = omega (arith, at_is.within, c.make_ready.new.children.ok.0) in
-    let first = front_length items at within in
-    let front = branches (take at items) in
-    let back = branches (drop (suc at) items) in
-    let whole = cut_at items at child within c.index_mut.ensures.value in
+    let to = way_to g.K.Ord.cmp g.met.K.Ord.total c.in-Inner.height key (λ n. (n + gain next ≤ 16) × (4 + loss next ≤ n)) items at child e.same.children c.in_ok-at-in-Inner.ensures.ready c.index_mut.ensures.value in
+    let way = to.1 in
     let entries : entries_of (branches items) ≡ c.args.node.now.entries = e.same.entries ∙ ap (λ n. n.entries) view in
-    let children = subst (AreChildren g.K.Ord.cmp c.in-Inner.height) whole e.same.children in
-    let gap = gap_at g.K.Ord.cmp g.met.K.Ord.total key front p back at (subst (λ l. place g.K.Ord.cmp key l ≡ at + 1) whole at_is.place) first in
     let x = c.change_in_child.new.child in
     let w = c.change_in_child.ensures in
-    let r = c.change_in_child.result in
-    let new = cut_set items at child x w.least within in
+    let new = cut_set items at child x w.least to.0 in
     record {
-      changes = changes_of g.K.Ord.cmp g.H.Hook.gives key (g.C.Change.next_of c.args.change) c.args.hook.now c.change_in_child.new.hook r _ _ _ _ (ap entries_of (sym whole) ∙ entries) (ap entries_of (sym new)) (changes_there g.K.Ord.cmp g.H.Hook.gives key (g.C.Change.next_of c.args.change) c.args.hook.now c.change_in_child.new.hook g.met.K.Ord.total c.in-Inner.height front p back children gap x.node.value r w.changes);
+      changes = changes_of g.K.Ord.cmp g.H.Hook.gives key next c.args.hook.now c.change_in_child.new.hook c.change_in_child.result _ _ _ _ (ap entries_of (sym way.is) ∙ entries) (ap entries_of (sym new)) (changes_there g.K.Ord.cmp g.H.Hook.gives key next c.args.hook.now c.change_in_child.new.hook g.met.K.Ord.total c.in-Inner.height _ _ _ way.children way.gap x.node.value c.change_in_child.result w.changes);
       height = ap (λ n. n.height) view;
       least = omega (arith, ap (λ n. n.items) view, e.least);
     }
@@ -119,10 +94,8 @@ change_in_node-invariant_of-node-in_err-at-in-Inner g t c =
     let n = rw c.in-Inner.is at c.node.invariant in
     let view = rw c.in-Inner.is at c.node.view_is in
     let e = c.make_ready.ensures in
-    let up = high g.K.Ord.cmp c.in-Inner.height c.in-Inner.children.items (omega (arith, n.some, c.in-Inner.children.ok.0)) n.children in
-    let two = c.requires.two (omega (arith, up, ap (λ n. n.height) view)) in
     record {
-      some = omega (arith, two, ap (λ n. n.items) view, e.least);
+      high = n.high;
       most = omega (arith, ap (λ n. n.items) view, c.requires.room, e.most);
       children = e.same.children;
       fit = e.same.fit;

@@ -1,10 +1,9 @@
 use Rattle.std.proofs.Common.{◌≡◌, ◌≢◌, arith, refl, sym, ◌∙◌}
 use Rattle.std.specs.declared.cmp.Ordering.TheVariants.{Less, Greater}
 use Rattle.cap_tree.specs.Shape.{branches, entries_of}
-use Rattle.cap_tree.proofs.ChildLemmas.{length_branches}
 use Rattle.cap_tree.proofs.EntryLemmas.{each_turn}
-use Rattle.cap_tree.proofs.PlaceLemmas.{below_children, below_entries, less_not_greater, place_within}
-use Rattle.cap_tree.proofs.SiblingLemmas.{rearranged}
+use Rattle.cap_tree.proofs.PlaceLemmas.{below_children, below_entries, less_not_greater}
+use Rattle.cap_tree.proofs.SiblingLemmas.{rearranged, ready_fit}
 use Rattle.cap_tree.proofs.child.child_index_for.Goals as goal
 
 pub rename_first-requires : goal.rename_first-requires
@@ -16,7 +15,12 @@ rename_first-requires g c =
     let total = g.met.K.Ord.total in
     let count = rw c.as_slice.ensures.value at (c.count_up_to-at.ensures.place c.args.height (rw c.as_slice.ensures.value s.children)) in
     let below = below_entries cmp total key c.args.height ps s.children (below_children cmp total key c.args.height ps s.children (sym count ∙ c.if-at-eq0.true)) in
-    record { some = c.requires.some; children = s.children; fit = s.fit; not_below = each_turn cmp (λ y. cmp key y ≡ Less) (λ y. cmp key y ≢ Greater) (λ y. less_not_greater cmp total key y) (entries_of ps) below }
+    record { children = s.children; fit = s.fit; not_below = each_turn cmp (λ y. cmp key y ≡ Less) (λ y. cmp key y ≢ Greater) (λ y. less_not_greater cmp total key y) (entries_of ps) below }
+
+pub returns-then-at-eq0-clause-ready : goal.returns-then-at-eq0-clause-ready
+returns-then-at-eq0-clause-ready g c =
+    let e = c.in_ok-rename_first.ensures in
+    ready_fit g.K.Ord.cmp g.met.K.Ord.total c.args.key.now (branches c.rename_first.new.children.items) 0 (omega (arith, e.place c.requires.some)) e.same.fit
 
 pub returns : goal.returns
 returns g c =
@@ -26,6 +30,5 @@ returns g c =
     record {
       len = refl;
       same = rearranged g.K.Ord.cmp c.args.height _ _ refl s;
-      place = omega (arith, count, c.if-at-eq0.false);
-      within = omega (arith, place_within g.K.Ord.cmp g.met.K.Ord.total c.args.key.now (branches items), length_branches items, count);
+      ready = ready_fit g.K.Ord.cmp g.met.K.Ord.total c.args.key.now (branches items) _ (omega (arith, count, c.if-at-eq0.false)) s.fit;
     }

@@ -9,7 +9,8 @@ pub returns : goal.returns
 returns g c =
     let items = c.args.children.now.items in
     let k = g.met.K.Exact.exact _ _ c.in_ok-renamed.ensures.cases in
-    let within : 0 < length items = omega (arith, c.requires.some, c.args.children.now.ok.0) in
+    let filled = c.if-is_empty.ensures in
+    let within : 0 < length items = grind (arith, filled, c.args.children.now.ok.0) in
     let e = lowered items _ record { least = c.in_ok-renamed.renamed; node = c.index_mut-first.result.now.node } c.args.least.now within c.index_mut-first.ensures.value k refl in
     record {
       len = refl;
@@ -18,7 +19,7 @@ returns g c =
         children = children_renamed g.K.Ord.cmp g.met.K.Ord.total c.args.least.now _ (branches items) _ c.requires.children c.requires.not_below;
         fit = fit_renamed (branches items) _ c.args.least.now c.requires.fit;
       });
-      place = rw e (place_renamed g.K.Ord.cmp g.met.K.Ord.total c.args.least.now c.args.height (branches items) _ (omega (arith, within, length_branches items)) c.requires.children c.requires.not_below);
+      place = λ _. rw e (place_renamed g.K.Ord.cmp g.met.K.Ord.total c.args.least.now c.args.height (branches items) _ (omega (arith, within, length_branches items)) c.requires.children c.requires.not_below);
       leasts = rw e (leasts_renamed g.K.Ord.cmp g.met.K.Ord.total c.args.least.now c.args.height (branches items) _ c.requires.children c.requires.not_below);
     }
 

@@ -3,11 +3,6 @@ use Rattle.cap_tree.specs.Path.{IsPath}
 use Rattle.cap_tree.proofs.PathLemmas.{down_lower, down_room, down_path, down_fits, down_some, down_first}
 use Rattle.cap_tree.proofs.path.+descend.Goals as goal
 
-pub unreachable-requires : goal.unreachable-requires
-unreachable-requires g t c =
-    let n = rw c.in-Inner.is at c.node.invariant in
-    omega (arith, n.some, c.in_default.ensures.cases, c.as_slice-in-Inner.ensures.len, c.in-Inner.children.ok.0)
-
 pub push-requires : goal.push-requires
 push-requires g t c =
     let n = rw c.in-Inner.is at c.node.invariant in

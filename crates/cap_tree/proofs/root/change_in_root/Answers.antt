@@ -1,5 +1,5 @@
 use Rattle.std.proofs.Common.{refl, arith, ap, ◌∙◌, sym}
-use Rattle.cap_tree.proofs.ChangeLemmas.{either_way, changes_of, one_lost}
+use Rattle.cap_tree.proofs.ChangeLemmas.{either_way, changes_of}
 use Rattle.cap_tree.proofs.root.change_in_root.Goals as goal
 
 pub make_root_ready-requires : goal.make_root_ready-requires
@@ -15,9 +15,12 @@ change_in_node-answer-requires g c =
       can_ask = rw (e.entries, same) c.requires.can_ask;
       ordered = rw (e.entries, same) c.requires.ordered;
       room = e.room;
-      two = λ up. omega (arith, e.top up, one_lost (g.C.Change.next_of c.args.change));
+      two = e.items;
       fits = e.fits;
     }
+
+pub lone_child-requires : goal.lone_child-requires
+lone_child-requires g c = λ up. omega (arith, c.in_ok-make_root_ready.ensures.items (omega (arith, up, c.change_in_node-answer.ensures.height)), c.change_in_node-answer.ensures.least)
 
 pub returns-in-None : goal.returns-in-None
 returns-in-None g c =

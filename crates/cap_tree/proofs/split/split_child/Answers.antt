@@ -1,69 +1,99 @@
-use Rattle.std.proofs.Common.{◌≡◌, ◌+◌, ◌<◌, [], length, take, drop, suc, arith, rules, sym, ap, subst, ◌∙◌}
-use Rattle.std.proofs.lemmas.List.{append-nil}
-use Rattle.cap_tree.specs.Shape.{branches, place, IsFit}
-use Rattle.cap_tree.proofs.BranchLemmas.{gap_at}
+use Rattle.std.proofs.Common.{◌≡◌, ◌+◌, ◌<◌, ◌^◌, [], ◌++◌, length, take, drop, suc, arith, rules, refl, sym, ap, ◌∙◌}
+use Rattle.std.proofs.lemmas.List.{append-nil, get_or_default}
+use Rattle.std.specs.declared.cmp.Ordering.{Ordering}
+use Rattle.cap_tree.specs.Subtree.{Subtree, Branch}
+use Rattle.cap_tree.specs.Tree.{IsOrdered}
+use Rattle.cap_tree.specs.Shape.{branches, IsFit}
+use Rattle.cap_tree.specs.Cut.{AreNeighbours, merged}
 use Rattle.cap_tree.proofs.ChangeLemmas.{at_err}
-use Rattle.cap_tree.proofs.SiblingLemmas.{front_length, cut_at, cut_set, cut_insert, child_is, child_ordered, child_has, rearranged, two_instead, two_place, two_items}
+use Rattle.cap_tree.proofs.SiblingLemmas.{cut_set, cut_insert, child_is, child_ordered, count_is, front_length, rearranged, two_instead, two_ready, way_to}
 use Rattle.cap_tree.proofs.split.split_child.Goals as goal
 
-pub split_sibling-requires : goal.split_sibling-requires
-split_sibling-requires g c =
+-- a node with no items goes on behind each node of its height
+beside : {K V : Type 0} (cmp : K → K → Ordering) (c e : Subtree K V) (k : K) → e ≡ record { entries = []; height = c.height; items = 0 } → length c.entries < 2 ^ 64 → IsOrdered cmp c.entries → AreNeighbours cmp c e k
+beside cmp c e k is fits ordered = rw is (record { level = refl; fits = omega (arith, fits); ordered = rw append-nil ordered; below = λ some. absurd (omega arith); not_below = tt })
+
+pub divide-requires : goal.divide-requires
+divide-requires g c =
+    let old = c.requires.siblings in
+    let same = c.in_ok-try_reserve.ensures.items in
     let items = c.try_reserve.new.self.items in
     let at = c.args.at in
     let child = c.index_mut-child.result.now in
-    let within : at < length items = omega (arith, c.requires.within, c.in_ok-try_reserve.ensures.len, c.try_reserve.new.self.ok.0) in
-    let whole = ap branches (sym c.in_ok-try_reserve.ensures.items) ∙ cut_at items at child within c.index_mut-child.ensures.value in
-    let full : child.node.value.items ≡ 16 = child_has g.K.Ord.cmp _ _ _ (child.least, child.node.value) whole (λ n. n ≡ 16) at (front_length items at within) c.requires.full in
+    let s = rw (← same) at old in
+    let to = way_to g.K.Ord.cmp g.met.K.Ord.total c.args.height c.args.key.now (λ n. n ≡ 16) items at child s.children (rw (← same) at c.requires.ready) c.index_mut-child.ensures.value in
+    let way = to.1 in
+    let there = c.deref.ensures ∙ ap (λ p. p.node.value) (c.index.ensures ∙ get_or_default items at _ child to.0 ∙ sym c.index_mut-child.ensures.value) in
+    let empty = rw there at (c.in_ok-node.ensures.ok ∙ c.in_ok-empty.ensures) in
     record {
-      front = omega (arith, c.requires.front);
-      back = omega (arith, full, c.requires.back);
-      ordered = child_ordered g.K.Ord.cmp _ _ _ (child.least, child.node.value) whole c.requires.siblings.ordered;
+      pair = beside g.K.Ord.cmp child.node.value _ child.least empty (omega (arith, s.fits, count_is g.K.Ord.cmp _ _ _ _ way.is)) (child_ordered g.K.Ord.cmp _ _ _ _ way.is s.ordered);
+      share = record { most = omega (arith, c.requires.back); within = omega (arith, ap (λ n. n.items) empty, way.has, c.requires.back); back_most = omega (arith, ap (λ n. n.items) empty, way.has, c.requires.front) };
     }
 
-pub returns-in_err-next : goal.returns-in_err-next
-returns-in_err-next g c =
+pub unreachable-requires : goal.unreachable-requires
+unreachable-requires g c =
+    let old = c.requires.siblings in
+    let same = c.in_ok-try_reserve.ensures.items in
     let items = c.try_reserve.new.self.items in
     let at = c.args.at in
     let child = c.index_mut-child.result.now in
-    let within : at < length items = omega (arith, c.requires.within, c.in_ok-try_reserve.ensures.len, c.try_reserve.new.self.ok.0) in
-    let whole = ap branches (sym c.in_ok-try_reserve.ensures.items) ∙ cut_at items at child within c.index_mut-child.ensures.value in
-    let x = c.split_sibling.new.child in
-    let kept : x.node.value ≡ child.node.value = at_err c.split_sibling.result _ c.in_err-next.was c.split_sibling.ensures.err in
-    let new = cut_set items at child x c.split_sibling.ensures.least within in
+    let s = rw (← same) at old in
+    let to = way_to g.K.Ord.cmp g.met.K.Ord.total c.args.height c.args.key.now (λ n. n ≡ 16) items at child s.children (rw (← same) at c.requires.ready) c.index_mut-child.ensures.value in
+    let way = to.1 in
+    let there = c.deref.ensures ∙ ap (λ p. p.node.value) (c.index.ensures ∙ get_or_default items at _ child to.0 ∙ sym c.index_mut-child.ensures.value) in
+    let empty = rw there at (c.in_ok-node.ensures.ok ∙ c.in_ok-empty.ensures) in
+    let cut = rw c.in_default.is at c.in_ok-split.ensures.cut in
+    absurd (omega (arith, cut.back_len, cut.parted, way.has, ap (λ n. n.items) empty, c.requires.back))
+
+pub returns-in_err-split : goal.returns-in_err-split
+returns-in_err-split g c =
+    let old = c.requires.siblings in
+    let same = c.in_ok-try_reserve.ensures.items in
+    let items = c.try_reserve.new.self.items in
+    let at = c.args.at in
+    let child = c.index_mut-child.result.now in
+    let s = rw (← same) at old in
+    let to = way_to g.K.Ord.cmp g.met.K.Ord.total c.args.height c.args.key.now (λ n. n ≡ 16) items at child s.children (rw (← same) at c.requires.ready) c.index_mut-child.ensures.value in
+    let way = to.1 in
+    let kept = at_err c.divide.result _ c.in_err-split.was c.divide.ensures.err in
+    let new = cut_set items at child record { least = child.least; node = c.divide.new.front } refl to.0 in
     record {
-      same = rearranged g.K.Ord.cmp c.args.height _ _ (new ∙ rw kept (sym whole)) c.requires.siblings;
+      same = rearranged g.K.Ord.cmp c.args.height _ _ (new ∙ rw kept (sym way.is) ∙ ap branches same) old;
       not_less = omega (arith, c.in_ok-try_reserve.ensures.len);
       one_more = omega (arith, c.in_ok-try_reserve.ensures.len);
-      within = search rules;
-      place = search rules;
-      room = search rules;
+      ready = search rules;
     }
 
 pub returns : goal.returns
 returns g c =
+    let old = c.requires.siblings in
+    let same = c.in_ok-try_reserve.ensures.items in
     let items = c.try_reserve.new.self.items in
     let at = c.args.at in
     let child = c.index_mut-child.result.now in
-    let within : at < length items = omega (arith, c.requires.within, c.in_ok-try_reserve.ensures.len, c.try_reserve.new.self.ok.0) in
-    let first = front_length items at within in
-    let whole = ap branches (sym c.in_ok-try_reserve.ensures.items) ∙ cut_at items at child within c.index_mut-child.ensures.value in
-    let full : child.node.value.items ≡ 16 = child_has g.K.Ord.cmp _ _ _ (child.least, child.node.value) whole (λ n. n ≡ 16) at first c.requires.full in
-    let level = (child_is g.K.Ord.cmp _ _ _ (child.least, child.node.value) whole c.args.height c.requires.siblings.children).0 in
-    let x = c.split_sibling.new.child in
-    let y = c.in_ok-next.next in
-    let e = c.in_ok-next.ensures in
-    let fit_x : IsFit x.node.value = (omega (arith, e.cut.len, c.requires.front), omega (arith, e.cut.len, c.requires.back), e.filled) in
-    let fit_y : IsFit y.node.value = (omega (arith, e.cut.back_len, full, c.requires.back), omega (arith, e.cut.back_len, full), e.back_filled) in
-    let new = ap branches c.insert_in_room.ensures.items ∙ cut_insert items at child x e.least y within in
+    let s = rw (← same) at old in
+    let to = way_to g.K.Ord.cmp g.met.K.Ord.total c.args.height c.args.key.now (λ n. n ≡ 16) items at child s.children (rw (← same) at c.requires.ready) c.index_mut-child.ensures.value in
+    let way = to.1 in
+    let there = c.deref.ensures ∙ ap (λ p. p.node.value) (c.index.ensures ∙ get_or_default items at _ child to.0 ∙ sym c.index_mut-child.ensures.value) in
+    let empty = rw there at (c.in_ok-node.ensures.ok ∙ c.in_ok-empty.ensures) in
+    let e = c.in_ok-split.ensures in
+    let cut = rw c.in-Some.is at e.cut in
+    let p : Branch _ _ = (child.least, child.node.value) in
     let front = branches (take at items) in
     let back = branches (drop (suc at) items) in
-    let gap = gap_at g.K.Ord.cmp g.met.K.Ord.total c.args.key.now front (child.least, child.node.value) back at (subst (λ l. place g.K.Ord.cmp c.args.key.now l ≡ at + 1) whole c.requires.place) first in
-    let same = sym (append-nil child.node.value.entries) in
+    let whole = merged child.node.value c.in_ok-node.node.value in
+    let x = c.divide.new.front.value in
+    let y = c.divide.new.back.value in
+    let level = (child_is g.K.Ord.cmp _ front back p way.is c.args.height s.children).0 in
+    let rest : y.items + c.args.cut ≡ 16 = omega (arith, cut.back_len, way.has, ap (λ n. n.items) empty) in
+    let fit_x : IsFit x = (omega (arith, cut.len, c.requires.front), omega (arith, cut.len, c.requires.back), e.filled) in
+    let fit_y : IsFit y = (omega (arith, rest, c.requires.back), omega (arith, rest), e.back_filled) in
+    let entries = ap (λ n. child.node.value.entries ++ n.entries) empty in
+    let new = ap branches c.insert_in_room.ensures.items ∙ cut_insert items at child record { least = child.least; node = c.divide.new.front } refl record { least = c.in-Some.least; node = c.divide.new.back } to.0 in
+    let apart = two_instead g.K.Ord.cmp g.met.K.Ord.total c.args.height _ front p [] back way.is s _ whole x y c.in-Some.least cut level entries fit_x fit_y _ new in
     record {
-      same = two_instead g.K.Ord.cmp g.met.K.Ord.total c.args.height _ front (child.least, child.node.value) [] back whole c.requires.siblings c.args.cut child.node.value x.node.value y.node.value y.least e.cut level same fit_x fit_y _ new;
+      same = rw (← same) apart;
       not_less = omega (arith, c.insert_in_room.ensures.len, c.in_ok-try_reserve.ensures.len);
       one_more = omega (arith, c.insert_in_room.ensures.len, c.in_ok-try_reserve.ensures.len);
-      within = omega (arith, c.insert_in_room.ensures.len, c.in_ok-try_reserve.ensures.len, c.requires.within, c.side_of-side.ensures.either);
-      place = two_place g.K.Ord.cmp g.met.K.Ord.total c.args.height _ front (child.least, child.node.value) [] back whole c.requires.siblings c.args.cut child.node.value x.node.value y.node.value y.least e.cut level same fit_x fit_y _ new at c.side_of-side.result first c.args.key.now gap c.side_of-side.ensures.less c.side_of-side.ensures.not_less;
-      room = two_items g.K.Ord.cmp g.met.K.Ord.total c.args.height _ front (child.least, child.node.value) [] back whole c.requires.siblings c.args.cut child.node.value x.node.value y.node.value y.least e.cut level same fit_x fit_y _ new at c.side_of-side.result first (λ n. n < 16) c.side_of-side.ensures.either (omega (arith, e.cut.len, c.requires.back)) (omega (arith, e.cut.back_len, full, c.requires.front));
+      ready = two_ready g.K.Ord.cmp g.met.K.Ord.total c.args.height _ front p [] back way.is s _ whole x y c.in-Some.least cut level entries fit_x fit_y _ new (λ n. n < 16) at c.side_of-side.result (front_length items at to.0) c.args.key.now way.gap c.side_of-side.ensures.less c.side_of-side.ensures.not_less (omega (arith, cut.len, c.requires.back)) (omega (arith, rest, c.requires.front));
     }

@@ -1,32 +1,25 @@
-use Rattle.std.proofs.Common.{ℕ, ◌+◌, ◌<◌, ◌≤◌, arith, length, vec_len}
+use Rattle.std.proofs.Common.{◌+◌, ◌<◌, ◌≤◌, arith}
 use Rattle.cap_tree.specs.Shape.{branches}
-use Rattle.cap_tree.specs.Siblings.{HasItems}
-use Rattle.cap_tree.proofs.ChildLemmas.{length_branches}
-use Rattle.cap_tree.proofs.SiblingLemmas.{still, twice, fit_items, if_turn}
+use Rattle.cap_tree.specs.Siblings.{IsReady}
+use Rattle.cap_tree.proofs.SiblingLemmas.{still, twice, ready_turn, if_turn}
 use Rattle.cap_tree.proofs.change.TakeChange.make_ready.Goals as goal
 
 pub make_spare-requires : goal.make_spare-requires
 make_spare-requires g c =
     let e = c.in_ok-at.ensures in
     record {
-      within = e.within;
       two = omega (arith, c.requires.some, e.len);
       siblings = still g.K.Ord.cmp c.args.height _ _ e.same c.requires.siblings;
-      place = e.place;
+      ready = e.ready;
     }
 
 pub returns : goal.returns
 returns g c =
     let e = c.in_ok-at.ensures in
     let r = c.make_spare.ensures in
-    let new = c.make_spare.new.children in
-    let inside : (i : ℕ) → i < vec_len new → i < length (branches new.items) = λ i h. omega (arith, h, length_branches new.items, new.ok.0) in
     record {
       same = twice g.K.Ord.cmp c.args.height _ _ e.same _ r.same;
       most = omega (arith, r.not_more, e.len);
       least = omega (arith, r.one_less, e.len);
-      room = if_turn (λ i. i < vec_len new) (λ i. HasItems (λ n. n + 0 ≤ 16) i (branches new.items)) (λ i h. fit_items g.K.Ord.cmp (λ n. n + 0 ≤ 16) (λ n low high. omega (arith, high)) (branches new.items) i (inside i h) r.same.fit) c.make_spare.result r.within;
-      spare = if_turn (λ i. HasItems (λ n. 4 < n) i (branches new.items)) (λ i. HasItems (λ n. 4 + 1 ≤ n) i (branches new.items)) (λ i h d. omega (arith, h d)) c.make_spare.result r.spare;
-      within = r.within;
-      place = r.place;
+      ready = if_turn (IsReady g.K.Ord.cmp c.args.self.now.key.now (λ n. 4 < n) (branches c.make_spare.new.children.items)) _ (λ i. ready_turn g.K.Ord.cmp _ (λ n. 4 < n) (λ n. (n + 0 ≤ 16) × (4 + 1 ≤ n)) (λ n low high more. (omega arith, omega arith)) _ i r.same.fit) c.make_spare.result r.ready;
     }

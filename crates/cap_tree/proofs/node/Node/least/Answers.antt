@@ -13,6 +13,6 @@ pub returns-in-Inner : goal.returns-in-Inner
 returns-in-Inner g c =
     let n = rw c.in-Inner.is at c.self.invariant in
     let view = rw c.in-Inner.is at c.self.view_is in
-    let within : 0 < length c.in-Inner.children.items = omega (arith, c.in-Inner.children.ok.0, n.some) in
+    let within : 0 < length c.in-Inner.children.items = omega (arith, c.in-Inner.children.ok.0, ap (λ n. n.items) view, c.requires.some) in
     let least = g.met.K.Exact.exact _ _ c.in_ok-least-in-Inner.ensures.cases in
-    rw (← ap (λ n. n.entries) view, least) (inner_above g.K.Ord.cmp g.met.K.Ord.total _ c.in-Inner.children.items 0 n.children c.index-in-Inner.result.now within c.index-in-Inner.ensures)
+    rw (← ap (λ n. n.entries) view, least) (inner_above g.K.Ord.cmp g.met.K.Ord.total _ c.in-Inner.children.items 0 c.index-in-Inner.result.now n.children within c.index-in-Inner.ensures)

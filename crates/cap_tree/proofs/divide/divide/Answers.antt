@@ -1,9 +1,9 @@
 use Rattle.std.proofs.Common.{refl}
 use Rattle.cap_tree.proofs.ChangeLemmas.{either_way}
-use Rattle.cap_tree.proofs.rebalance.redistribute_pair.Goals as goal
+use Rattle.cap_tree.proofs.divide.divide.Goals as goal
 
-pub redistribute-requires : goal.redistribute-requires
-redistribute-requires g c =
+pub divide_items-requires : goal.divide_items-requires
+divide_items-requires g c =
     let front = either_way c.in_ok-node.ensures.value in
     let back = either_way c.in_ok-next.ensures.value in
     rw (front, back) (record { pair = c.requires.pair; share = c.requires.share })
@@ -12,11 +12,9 @@ pub returns : goal.returns
 returns g c =
     let front = either_way c.in_ok-node.ensures.value in
     let back = either_way c.in_ok-next.ensures.value in
-    let kept = c.make_mut.follows.holds c.redistribute.new.front (rw c.in_ok-node.was refl) in
-    let kept_back = c.make_mut-2.follows.holds c.redistribute.new.back (rw c.in_ok-next.was refl) in
+    let kept = c.make_mut.follows.holds c.divide_items.new.front (rw c.in_ok-node.was refl) in
+    let kept_back = c.make_mut-2.follows.holds c.divide_items.new.back (rw c.in_ok-next.was refl) in
     record {
-      least = refl;
-      back_least = tt;
       err = tt;
       back_err = tt;
       cut = rw (kept, kept_back, ← front, ← back) c.in_ok-least.ensures.cut;
