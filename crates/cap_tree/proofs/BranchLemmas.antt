@@ -1,12 +1,13 @@
 -- The branches of a node, cut where some of them change: those in front, those that change, and those behind.
-use Rattle.std.proofs.Common.{◌≡◌, ℕ, zero, suc, ◌+◌, ◌<◌, ◌≢◌, List, [], ◌∷◌, ◌++◌, length, take, drop, get_or, set, refl, sym, ap, ◌∙◌, arith, add-one, length-append, inl, inr}
+use Rattle.std.proofs.Common.{◌≡◌, ℕ, zero, suc, ◌+◌, ◌<◌, ◌≢◌, List, [], ◌∷◌, ◌++◌, length, take, drop, get_or, set, refl, sym, ap, ap₂, ◌∙◌, arith, add-one, length-append, inl, inr}
 use Rattle.std.specs.Prelude.{◌⊎◌}
 use Rattle.std.specs.declared.cmp.Ordering.{Ordering}
 use Rattle.std.specs.declared.cmp.Ordering.TheVariants.{Less, Greater}
 use Rattle.std.specs.List.{AllByRecursion, insert, remove}
 use Rattle.std.specs.Cmp.{IsTotalOrder}
 use Rattle.std.specs.Map.{keys_of}
-use Rattle.std.proofs.lemmas.List.{append_assoc, append-nil, take-append-drop}
+use Rattle.std.proofs.lemmas.List.{append_assoc, append-nil, take-append-drop, take_more_set, drop-set-lt}
+use Rattle.std.proofs.Math.Seq.{drop-cons}
 use Rattle.cap_tree.specs.Subtree.{Subtree, Branch}
 use Rattle.cap_tree.specs.Shape.{entries_of, IsChild, NoneBelow, EachBelow, AreChildren, place}
 use Rattle.cap_tree.proofs.EntryLemmas.{Each, each_turn}
@@ -16,25 +17,13 @@ module _ {X : Type 0} where
   -- ---- the items around one that changes, and around two
 
   pub rest_at : (xs : List X) (i : ℕ) (d : X) → i < length xs → d ≡ get_or xs i d → drop i xs ≡ d ∷ drop (suc i) xs
-  rest_at [] i d within is = absurd (omega arith)
-  rest_at (x ∷ xs) zero d within is = ap (λ t. t ∷ xs) (sym is)
-  rest_at (x ∷ xs) (suc i) d within is = rest_at xs i d (omega arith) is
+  rest_at xs i d within is = drop-cons xs i d within ∙ ap (λ x. x ∷ drop (suc i) xs) (sym is)
 
   pub around : (xs : List X) (i : ℕ) (d : X) → i < length xs → d ≡ get_or xs i d → xs ≡ take i xs ++ d ∷ drop (suc i) xs
   around xs i d within is = sym (take-append-drop i xs) ∙ ap (λ t. take i xs ++ t) (rest_at xs i d within is)
 
-  pub set_around : (xs : List X) (i : ℕ) (x : X) → i < length xs → set xs i x ≡ take i xs ++ x ∷ drop (suc i) xs
-  set_around [] i x within = absurd (omega arith)
-  set_around (y ∷ ys) zero x within = refl
-  set_around (y ∷ ys) (suc i) x within = ap (λ t. y ∷ t) (set_around ys i x (omega arith))
-
   pub insert_around : (xs : List X) (i : ℕ) (x y : X) → i < length xs → insert (set xs i x) (i + 1) y ≡ take i xs ++ x ∷ y ∷ drop (suc i) xs
-  insert_around xs i x y within = rw add-one (step xs i within)
-    where
-      step : (xs : List X) (i : ℕ) → i < length xs → insert (set xs i x) (suc i) y ≡ take i xs ++ x ∷ y ∷ drop (suc i) xs
-      step [] i within = absurd (omega arith)
-      step (z ∷ zs) zero within = refl
-      step (z ∷ zs) (suc i) within = ap (λ t. z ∷ t) (step zs i (omega arith))
+  insert_around xs i x y within = ap₂ (λ l r. l ++ y ∷ r) (take_more_set xs i x within) (drop-set-lt (i + 1) xs i x (omega arith)) ∙ append_assoc (take i xs) (x ∷ []) (y ∷ drop (i + 1) xs) ∙ rw add-one refl
 
   pub two_around : (xs : List X) (i : ℕ) (d e : X) → i + 1 < length xs → d ≡ get_or (remove xs (i + 1)) i d → e ≡ get_or xs (i + 1) e → xs ≡ take i xs ++ d ∷ e ∷ drop (suc (suc i)) xs
   two_around xs i d e within = rw add-one (step xs i (omega arith))

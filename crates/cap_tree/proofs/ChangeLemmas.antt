@@ -1,6 +1,6 @@
 -- One key is changed in a list of entries and below a child.
 use Rattle.std.proofs.Common.{◌≡◌, ℕ, ◌+◌, ◌≤◌, ◌≢◌, Bool, true, false, cond, List, [], ◌∷◌, ◌++◌, length, sym, ap, ◌∙◌, arith, inl, inr, Ok, Err, Result}
-use Rattle.std.specs.Prelude.{Option, Some, None, OnOk, OnErr, IfOk, IfErr, IsErr, IsErrAnd, ◌⊎◌}
+use Rattle.std.specs.Prelude.{Option, Some, None, OnErr, IsErr, IsErrAnd, ◌⊎◌}
 use Rattle.std.specs.Option.{is_some}
 use Rattle.std.specs.declared.cmp.Ordering.{Ordering}
 use Rattle.std.specs.declared.cmp.Ordering.TheVariants.{Less, Greater}
@@ -10,7 +10,6 @@ use Rattle.std.specs.BTreeMap.Range.{entries_from}
 use Rattle.std.specs.Cmp.{IsTotalOrder}
 use Rattle.cap_value.specs.declared.memory.Fault.{Fault}
 use Rattle.cap_value.specs.declared.memory.Fault.TheVariants.{Refused, OutOfMemory}
-use Rattle.cap_value.specs.Memory.{MatchFault}
 use Rattle.cap_tree.specs.Subtree.{Subtree, Branch}
 use Rattle.cap_tree.specs.Tree.{IsOrdered, get}
 use Rattle.cap_tree.specs.Change.{gain, change_entry, Changes}
@@ -26,10 +25,6 @@ either_way (inr p) = p
 pub at_err : {P A E : Type 0} (r : Result A E) (e : E) → r ≡ Err e → OnErr r P → P
 at_err (Ok a) e is h = cc
 at_err (Err x) e is h = h
-
-pub at_ok : {P A E : Type 0} (r : Result A E) (a : A) → r ≡ Ok a → OnOk r P → P
-at_ok (Ok x) a is h = h
-at_ok (Err e) a is h = cc
 
 -- what holds of k and of each key before holds of each key after
 abbrev pub Keeps : {K V : Type 0} → K → List (K × V) → List (K × V) → Type 1
@@ -141,28 +136,3 @@ module _ {K V E S : Type 0} (cmp : K → K → Ordering) (gives : S → Option V
       (w.0 ∙ sym there, change_there cmp k o height front p back h gap next c w.1, rw there w.2)
   changes_there o height front p back h gap c (Err OutOfMemory) w = (keep_there cmp k o height front p back h gap c w.0, w.1)
   changes_there o height front p back h gap c (Err (Refused why)) w = (keep_there cmp k o height front p back h gap c w.0, rw (get_there cmp k o height front p back h gap) w.1)
-
-  -- ---- clause by clause
-
-  module _ (before after : List (K × V)) where
-    pub changes_allowed : (r : Result (Option V) (Fault E)) → Changes cmp gives r before k next after s t → OnOk r (gives s (get cmp before k) next (Ok tt) t)
-    changes_allowed (Ok was) h = h.2
-    changes_allowed (Err e) h = tt
-
-    pub changes_refused : (r : Result (Option V) (Fault E)) → Changes cmp gives r before k next after s t → IfErr r (λ fault. MatchFault fault (t ≡ s) (λ why. gives s (get cmp before k) next (Err why) t))
-    changes_refused (Ok was) h = tt
-    changes_refused (Err OutOfMemory) h = h.1
-    changes_refused (Err (Refused why)) h = h.1
-
-    pub changes_err : (r : Result (Option V) (Fault E)) → Changes cmp gives r before k next after s t → OnErr r (after ≡ before)
-    changes_err (Ok was) h = tt
-    changes_err (Err OutOfMemory) h = h.0
-    changes_err (Err (Refused why)) h = h.0
-
-    pub changes_ok : (r : Result (Option V) (Fault E)) → Changes cmp gives r before k next after s t → OnOk r (after ≡ change_entry cmp before k next)
-    changes_ok (Ok was) h = h.1
-    changes_ok (Err e) h = tt
-
-    pub changes_was : (r : Result (Option V) (Fault E)) → Changes cmp gives r before k next after s t → IfOk r (λ o. o ≡ get cmp before k)
-    changes_was (Ok was) h = h.0
-    changes_was (Err e) h = tt

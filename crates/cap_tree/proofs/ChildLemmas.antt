@@ -33,9 +33,6 @@ module _ {K V Z : Type 0} where
   pub length_branches : (children : List (Child K V Z)) → length (branches children) ≡ length children
   length_branches children = rw length-map refl
 
-  pub no_entries : (children : List (Child K V Z)) → length children ≡ 0 → entries_of (branches children) ≡ []
-  no_entries children none = rw (nil_from_length children none) refl
-
   -- the first child gets another least key
   pub lowered : (children : List (Child K V Z)) (d x : Child K V Z) (k : K) → 0 < length children → d ≡ get_or children 0 d → x.least ≡ k → x.node.value ≡ d.node.value → branches (set children 0 x) ≡ set (branches children) 0 (k, (get_or (branches children) 0 (d.least, d.node.value)).1)
   lowered children d x k some is least node = rw (branches_set, at_branches children 0 d some is, least, node)

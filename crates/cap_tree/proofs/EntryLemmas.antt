@@ -34,7 +34,6 @@ pub sorted_nil : {K : Type 0} (cmp : K → K → Ordering) → IsStrictlySortedB
 unfolding IsStrictlySortedBy
 sorted_nil cmp = tt
 
--- an answer that is no Less is not Less
 -- where a test chooses twice
 cond_twice : {X : Type 0} (b : Bool) (x y z : X) → cond b x z ≡ cond b x (cond b y z)
 cond_twice true x y z = refl

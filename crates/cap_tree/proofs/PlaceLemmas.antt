@@ -18,14 +18,8 @@ all_turn P Q f (x ∷ xs) h = (f x h.0, all_turn P Q f xs h.1)
 
 -- an answer that is not Less
 pub is_not_less : (r : Ordering) → (r ≡ Equal) ⊎ (r ≡ Greater) → r ≢ Less
-is_not_less r (inl e) h = distinct (sym e ∙ h)
-  where
-    distinct : Equal ≡ Less → ⊥
-    distinct q = cc
-is_not_less r (inr e) h = distinct (sym e ∙ h)
-  where
-    distinct : Greater ≡ Less → ⊥
-    distinct q = cc
+is_not_less r (inl e) h = cc
+is_not_less r (inr e) h = cc
 
 module _ {K : Type 0} (cmp : K → K → Ordering) (o : IsTotalOrder cmp) where
   -- k < a and a ≤ y
@@ -54,22 +48,13 @@ module _ {K : Type 0} (cmp : K → K → Ordering) (o : IsTotalOrder cmp) where
   turn_not_less k a not above = not (reversed o a k Greater above)
 
   pub not_less_self : (k : K) → cmp k k ≢ Less
-  not_less_self k h = distinct (sym h ∙ reversed o k k Less h)
-    where
-      distinct : Less ≡ Greater → ⊥
-      distinct e = cc
+  not_less_self k h = cc (reversed o k k Less h)
 
   pub not_greater_self : (k : K) → cmp k k ≢ Greater
-  not_greater_self k h = distinct (sym h ∙ reversed o k k Greater h)
-    where
-      distinct : Greater ≡ Less → ⊥
-      distinct e = cc
+  not_greater_self k h = cc (reversed o k k Greater h)
 
   pub less_not_greater : (a b : K) → cmp a b ≡ Less → cmp a b ≢ Greater
-  less_not_greater a b h e = distinct (sym h ∙ e)
-    where
-      distinct : Less ≡ Greater → ⊥
-      distinct q = cc
+  less_not_greater a b h e = cc
 
   -- l ≤ e and e < s
   pub least_below : (l e s : K) → cmp l e ≢ Greater → cmp s e ≡ Greater → cmp l s ≡ Less

@@ -5,7 +5,7 @@ use Rattle.std.specs.declared.cmp.Ordering.{Ordering}
 use Rattle.std.specs.declared.cmp.Ordering.TheVariants.{Less, Equal, Greater}
 use Rattle.std.specs.Cmp.{IsTotalOrder}
 use Rattle.std.specs.List.{insert, remove}
-use Rattle.std.proofs.lemmas.List.{append_assoc, map-append, length-map, length-take-le}
+use Rattle.std.proofs.lemmas.List.{append_assoc, map-append, length-map, length-take-le, set_split}
 use Rattle.cap_tree.specs.declared.node.Child.{Child}
 use Rattle.cap_tree.specs.Subtree.{Subtree, Branch}
 use Rattle.cap_tree.specs.Tree.{IsOrdered}
@@ -13,7 +13,7 @@ use Rattle.cap_tree.specs.Shape.{branches, entries_of, items_at, IsChild, AreChi
 use Rattle.cap_tree.specs.Siblings.{AreSiblings, IsRearrangement, HasItems, IsReady}
 use Rattle.cap_tree.specs.Cut.{AreNeighbours, IsCut}
 use Rattle.cap_tree.proofs.EntryLemmas.{ordered_front, ordered_rest}
-use Rattle.cap_tree.proofs.BranchLemmas.{around, set_around, insert_around, two_around, remove_around, redo_around, read_at, all_left, all_right, all_append, entries_append, count_append, children_right, IsGap, gap_at, one_entries, one_children, two_entries, two_children, place_first, place_second}
+use Rattle.cap_tree.proofs.BranchLemmas.{around, insert_around, two_around, remove_around, redo_around, read_at, all_left, all_right, all_append, entries_append, count_append, children_right, IsGap, gap_at, one_entries, one_children, two_entries, two_children, place_first, place_second}
 use Rattle.cap_tree.proofs.PlaceLemmas.{is_not_less, place_within}
 use Rattle.cap_tree.proofs.HeightLemmas.{fed}
 use Rattle.cap_tree.proofs.ChildLemmas.{length_branches}
@@ -31,7 +31,7 @@ module _ {K V Z : Type 0} where
   -- x stands where d stood, and has its least key
   module _ (xs : List (Child K V Z)) (j : ℕ) (d x : Child K V Z) (least : x.least ≡ d.least) where
     pub cut_set : j < length xs → branches (set xs j x) ≡ branches (take j xs) ++ (d.least, x.node.value) ∷ branches (drop (suc j) xs)
-    cut_set within = rw (← least) (cut (set xs j x) (take j xs) (x ∷ drop (suc j) xs) (set_around xs j x within))
+    cut_set within = rw (← least) (cut (set xs j x) (take j xs) (x ∷ drop (suc j) xs) (set_split xs j x within))
 
     pub cut_insert : (y : Child K V Z) → j < length xs → branches (insert (set xs j x) (j + 1) y) ≡ branches (take j xs) ++ (d.least, x.node.value) ∷ (y.least, y.node.value) ∷ branches (drop (suc j) xs)
     cut_insert y within = rw (← least) (cut (insert (set xs j x) (j + 1) y) (take j xs) (x ∷ y ∷ drop (suc j) xs) (insert_around xs j x y within))

@@ -11,7 +11,7 @@ ghost use Rattle.cap_tree.specs.Siblings.{AreSiblings, IsRearrangement, IsReady}
 
 use crate::child::child_index_for;
 use crate::grow::raise;
-use crate::hook::{Hook, ask_of_absent, ask_of_present};
+use crate::hook::{Hook, ask};
 use crate::leaf::search;
 use crate::node::{Child, Link, MOST, Node};
 use crate::rebalance::make_spare;
@@ -128,15 +128,16 @@ impl<K: Ord + Exact + Drop, V: Exact + Drop> Change<K, V> for Put<K, V> {
         let Put { key, value } = self;
         match search(entries.as_slice(), &key) {
             Ok(at) => {
-                ask_of_present(hook, &entries[at].1, Some(&value))?;
+                ask(hook, Some(&entries[at].1), Some(&value))?;
                 let (_, replaced) = mem::replace(&mut entries[at], (key, value));
                 Ok(Some(replaced))
             }
             Err(at) => {
                 entries.try_reserve(1)?;
-                ask_of_absent(hook, Some(&value))?;
+                let nothing: Option<V> = None;
+                ask(hook, nothing.as_ref(), Some(&value))?;
                 insert_in_room(entries, at, (key, value));
-                Ok(None)
+                Ok(nothing)
             }
         }
     }
@@ -176,7 +177,7 @@ impl<'a, K: Ord + Exact + Drop, V: Exact + Drop> Change<K, V> for Take<'a, K> {
         match search(entries.as_slice(), self.key) {
             Ok(at) => {
                 let nothing: Option<V> = None;
-                ask_of_present(hook, &entries[at].1, nothing.as_ref())?;
+                ask(hook, Some(&entries[at].1), nothing.as_ref())?;
                 let (_, removed) = entries.remove(at);
                 Ok(Some(removed))
             }
@@ -196,7 +197,7 @@ pub(crate) fn ask_for_none<V: Drop, H: Hook<V>>(
     ensures none { IfOk result (λ o. o ≡ None) }
 {
     let nothing: Option<V> = None;
-    ask_of_absent(hook, nothing.as_ref())?;
+    ask(hook, nothing.as_ref(), nothing.as_ref())?;
     Ok(nothing)
 }
 

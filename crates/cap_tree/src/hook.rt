@@ -1,5 +1,5 @@
 //! Hooks that are shown what a change replaces.
-ghost use Rattle.std.specs.Prelude.{Option, Result, ◌≡◌, Some, None, Ok, Err, IfErr, OnOk};
+ghost use Rattle.std.specs.Prelude.{Option, Result, ◌≡◌, Ok, Err, IfErr, OnOk};
 ghost use Rattle.std.specs.Option.{option_copied};
 ghost use Rattle.cap_value.specs.Memory.{MatchFault};
 
@@ -25,36 +25,19 @@ pub trait Hook<V> {
         ensures { gives self.old (option_copied present.entry) (option_copied next.entry) result self.new };
 }
 
-// Asks the hook where the key has a value.
-pub(crate) fn ask_of_present<V, H: Hook<V>>(
+// Asks the hook.
+pub(crate) fn ask<V, H: Hook<V>>(
     hook: &mut H,
-    present: &V,
+    present: Option<&V>,
     next: Option<&V>,
 ) -> Result<(), Fault<H::Refusal>>
-    requires { H.can_ask hook.old (Some present.now) (option_copied next) }
+    requires { H.can_ask hook.old (option_copied present) (option_copied next) }
     ensures allowed { OnOk result
-        (H.gives hook.old (Some present.now) (option_copied next.entry) (Ok tt) hook.new) }
-    ensures refused { IfErr result (λ fault. MatchFault fault (hook.new ≡ hook.old)
-        (λ why. H.gives hook.old (Some present.now) (option_copied next.entry) (Err why) hook.new)) }
+        (H.gives hook.old (option_copied present.entry) (option_copied next.entry) (Ok tt) hook.new) }
+    ensures refused { IfErr result (λ fault. MatchFault fault (hook.new ≡ hook.old) (λ why.
+        H.gives hook.old (option_copied present.entry) (option_copied next.entry) (Err why) hook.new)) }
 {
-    match hook.before_change(Some(present), next) {
-        Ok(()) => Ok(()),
-        Err(why) => Err(Fault::Refused(why)),
-    }
-}
-
-// Asks the hook where the key has no value.
-pub(crate) fn ask_of_absent<V: Drop, H: Hook<V>>(
-    hook: &mut H,
-    next: Option<&V>,
-) -> Result<(), Fault<H::Refusal>>
-    requires { H.can_ask hook.old None (option_copied next) }
-    ensures allowed { OnOk result (H.gives hook.old None (option_copied next.entry) (Ok tt) hook.new) }
-    ensures refused { IfErr result (λ fault. MatchFault fault (hook.new ≡ hook.old)
-        (λ why. H.gives hook.old None (option_copied next.entry) (Err why) hook.new)) }
-{
-    let nothing: Option<V> = None;
-    match hook.before_change(nothing.as_ref(), next) {
+    match hook.before_change(present, next) {
         Ok(()) => Ok(()),
         Err(why) => Err(Fault::Refused(why)),
     }

@@ -1,7 +1,7 @@
 use Rattle.std.proofs.Common.{Some}
 use Rattle.cap_tree.specs.Tree.{IsOrdered}
 use Rattle.cap_tree.proofs.EntryLemmas.{sorted_nil}
-use Rattle.cap_tree.proofs.ChangeLemmas.{changes_ordered, changes_allowed, changes_refused, changes_err, changes_ok, changes_was}
+use Rattle.cap_tree.proofs.ChangeLemmas.{changes_ordered}
 use Rattle.cap_tree.proofs.tree.Tree.insert_hooked.Goals as goal
 
 pub invariant_of-self-in-None : goal.invariant_of-self-in-None
@@ -13,16 +13,3 @@ pub invariant_of-self-in-Some : goal.invariant_of-self-in-Some
 invariant_of-self-in-Some g c =
     let before = rw c.in-Some.is at c.self.invariant in
     (c.change_in_root-in-Some.ensures.top, changes_ordered g.K.Ord.cmp g.H.Hook.gives c.args.key (Some c.args.value) c.args.hook.now c.change_in_root-in-Some.new.hook g.met.K.Ord.total c.change_in_root-in-Some.result c.in-Some.node.value.entries c.change_in_root-in-Some.new.root.value.entries before.1 c.change_in_root-in-Some.ensures.changes)
-
-pub returns-in-Some : goal.returns-in-Some
-returns-in-Some g c =
-    let view = rw c.in-Some.is at c.self.view_is in
-    let r = c.change_in_root-in-Some.result in
-    let w = rw view at c.change_in_root-in-Some.ensures.changes in
-    record {
-      allowed = changes_allowed g.K.Ord.cmp g.H.Hook.gives c.args.key (Some c.args.value) c.args.hook.now c.change_in_root-in-Some.new.hook c.args.self.now c.change_in_root-in-Some.new.root.value.entries r w;
-      refused = changes_refused g.K.Ord.cmp g.H.Hook.gives c.args.key (Some c.args.value) c.args.hook.now c.change_in_root-in-Some.new.hook c.args.self.now c.change_in_root-in-Some.new.root.value.entries r w;
-      err = changes_err g.K.Ord.cmp g.H.Hook.gives c.args.key (Some c.args.value) c.args.hook.now c.change_in_root-in-Some.new.hook c.args.self.now c.change_in_root-in-Some.new.root.value.entries r w;
-      ok = changes_ok g.K.Ord.cmp g.H.Hook.gives c.args.key (Some c.args.value) c.args.hook.now c.change_in_root-in-Some.new.hook c.args.self.now c.change_in_root-in-Some.new.root.value.entries r w;
-      replaced = changes_was g.K.Ord.cmp g.H.Hook.gives c.args.key (Some c.args.value) c.args.hook.now c.change_in_root-in-Some.new.hook c.args.self.now c.change_in_root-in-Some.new.root.value.entries r w;
-    }
