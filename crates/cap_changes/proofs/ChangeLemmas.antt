@@ -1,8 +1,8 @@
 -- The change of a touched key fits its table.
 use Rattle.std.proofs.Common.{◌≡◌, List, [], ◌∷◌, length, Bool, true, false, not, ◌&&◌, ◌||◌, Some, None, is_some, cond, refl, nat_le}
-use Rattle.std.proofs.lemmas.Bool.{and_from}
+use Rattle.std.proofs.lemmas.Bool.{and_from, or_parts, not_from_false, true_from_ne_false}
 use Rattle.std.specs.declared.cmp.Ordering.{Ordering}
-use Rattle.std.specs.declared.cmp.Ordering.TheVariants.{Less, Equal, Greater}
+use Rattle.std.specs.declared.cmp.Ordering.TheVariants.{Equal}
 use Rattle.std.specs.Ordering.{is_eq}
 use Rattle.std.specs.List.{list_any}
 use Rattle.cap_value.specs.declared.value.Value.{Value}
@@ -17,27 +17,13 @@ use Rattle.cap_changes.specs.declared.row_change.RowChange.TheVariants.{Update}
 use Rattle.cap_changes.specs.declared.record_kind.RecordKind.TheVariants as record_kinds
 
 kept_if : {X : Type 0} (some_key has_null : Bool) (x : X) → is_some (cond (some_key && not has_null) (Some x) None) ≡ true → has_null ≡ false
-kept_if true true x e = cc
 kept_if true false x e = refl
-kept_if false true x e = cc
 kept_if false false x e = refl
+kept_if some_key has_null x e = cc
 
 pub other_order : (order : Ordering) → (order ≡ Equal → ⊥) → is_eq order ≡ false
-other_order Less other = refl
 other_order Equal other = absurd (other refl)
-other_order Greater other = refl
-
-true_unless : (b : Bool) → (b ≡ false → ⊥) → b ≡ true
-true_unless true other = refl
-true_unless false other = absurd (other refl)
-
-full_field_from : (null rest_null rest : Bool) → (null || rest_null) ≡ false → rest ≡ true → (not null && rest) ≡ true
-full_field_from true rest_null rest e h = cc
-full_field_from false rest_null rest e h = h
-
-rest_from : (null rest_null : Bool) → (null || rest_null) ≡ false → rest_null ≡ false
-rest_from true rest_null e = cc
-rest_from false rest_null e = e
+other_order order other = refl
 
 module _ {A : Type 0} where
   no_null_key : (flags : List Bool) (row : Fields A) → is_some (key_of flags row) ≡ true → list_any is_null (key_fields flags row) ≡ false
@@ -46,12 +32,11 @@ module _ {A : Type 0} where
   full_fits_from : (flags : List Bool) (row : Fields A) → length row ≡ length flags → list_any is_null (key_fields flags row) ≡ false →
       satisfy (requirements record_kinds.Full flags) (full_record row) ≡ true
   full_fits_from [] [] wide keyed = refl
-  full_fits_from [] (value ∷ row) wide keyed = cc
-  full_fits_from (key ∷ flags) [] wide keyed = cc
   full_fits_from (true ∷ flags) (value ∷ row) wide keyed =
-      full_field_from (is_null value) (list_any is_null (key_fields flags row)) _ keyed
-      (full_fits_from flags row (cc) (rest_from (is_null value) _ keyed))
+      let parts = or_parts (is_null value) (list_any is_null (key_fields flags row)) keyed in
+      and_from (not (is_null value)) _ (not_from_false (is_null value) parts.0) (full_fits_from flags row (cc) parts.1)
   full_fits_from (false ∷ flags) (value ∷ row) wide keyed = full_fits_from flags row (cc) keyed
+  full_fits_from flags row wide keyed = cc
 
   pub full_fits : (flags : List Bool) (row : Fields A) → IsKeyedRow flags row → satisfy (requirements record_kinds.Full flags) (full_record row) ≡ true
   full_fits flags row h = full_fits_from flags row h.wide (no_null_key flags row h.keyed)
@@ -59,14 +44,11 @@ module _ {A : Type 0} where
   old_fits_from : (flags : List Bool) (image now : Fields A) → length image ≡ length flags → length now ≡ length flags →
       list_any is_null (key_fields flags image) ≡ false → satisfy (requirements record_kinds.Keyed flags) (by_column old_field flags image now) ≡ true
   old_fits_from [] [] [] wide wide' keyed = refl
-  old_fits_from [] (old ∷ image) now wide wide' keyed = cc
-  old_fits_from [] [] (new ∷ now) wide wide' keyed = cc
-  old_fits_from (key ∷ flags) [] now wide wide' keyed = cc
-  old_fits_from (key ∷ flags) (old ∷ image) [] wide wide' keyed = cc
   old_fits_from (true ∷ flags) (old ∷ image) (new ∷ now) wide wide' keyed =
-      full_field_from (is_null old) (list_any is_null (key_fields flags image)) _ keyed
-      (old_fits_from flags image now (cc) (cc) (rest_from (is_null old) _ keyed))
+      let parts = or_parts (is_null old) (list_any is_null (key_fields flags image)) keyed in
+      and_from (not (is_null old)) _ (not_from_false (is_null old) parts.0) (old_fits_from flags image now (cc) (cc) parts.1)
   old_fits_from (false ∷ flags) (old ∷ image) (new ∷ now) wide wide' keyed = old_fits_from flags image now (cc) (cc) keyed
+  old_fits_from flags image now wide wide' keyed = cc
 
   other_field_fits : (same : Bool) (old new : Value A) {rest : Bool} → rest ≡ true →
       (satisfies (new_requirement (false, cond (not same) (Some old) None)) (cond (not same) (Some new) None) && rest) ≡ true
@@ -76,13 +58,10 @@ module _ {A : Type 0} where
   new_fits_from : (flags : List Bool) (image now : Fields A) → length image ≡ length flags → length now ≡ length flags →
       satisfy (new_requirements flags (by_column old_field flags image now)) (by_column new_field flags image now) ≡ true
   new_fits_from [] [] [] wide wide' = refl
-  new_fits_from [] (old ∷ image) now wide wide' = cc
-  new_fits_from [] [] (new ∷ now) wide wide' = cc
-  new_fits_from (key ∷ flags) [] now wide wide' = cc
-  new_fits_from (key ∷ flags) (old ∷ image) [] wide wide' = cc
   new_fits_from (true ∷ flags) (old ∷ image) (new ∷ now) wide wide' = new_fits_from flags image now (cc) (cc)
   new_fits_from (false ∷ flags) (old ∷ image) (new ∷ now) wide wide' =
       other_field_fits (value_eq old new) old new (new_fits_from flags image now (cc) (cc))
+  new_fits_from flags image now wide wide' = cc
 
   pub update_fits : (flags : List Bool) (indirect : Bool) (image now : Fields A) → IsKeyedRow flags image → IsKeyedRow flags now →
       change_fits flags (Update indirect (by_column old_field flags image now) (by_column new_field flags image now)) ≡ true
@@ -112,10 +91,6 @@ module _ {A : Type 0} where
   same_from_unmodified : (flags : List Bool) (image now : Fields A) → length image ≡ length flags → length now ≡ length flags →
       key_fields flags image ≡ key_fields flags now → list_any is_some (by_column new_field flags image now) ≡ false → image ≡ now
   same_from_unmodified [] [] [] wide wide' keys none = refl
-  same_from_unmodified [] (old ∷ image) now wide wide' keys none = cc
-  same_from_unmodified [] [] (new ∷ now) wide wide' keys none = cc
-  same_from_unmodified (key ∷ flags) [] now wide wide' keys none = cc
-  same_from_unmodified (key ∷ flags) (old ∷ image) [] wide wide' keys none = cc
   same_from_unmodified (true ∷ flags) (old ∷ image) (new ∷ now) wide wide' keys none =
       let firsts : (old ≡ new) × (key_fields flags image ≡ key_fields flags now) = same_first keys in
       λ i. firsts.0 i ∷ same_from_unmodified flags image now (cc) (cc) firsts.1 none i
@@ -123,6 +98,7 @@ module _ {A : Type 0} where
       let column : (value_eq old new ≡ true) × (list_any is_some (by_column new_field flags image now) ≡ false) =
       other_column (value_eq old new) new (list_any is_some (by_column new_field flags image now)) none in
       λ i. (value_eq_decides old new).0 column.0 i ∷ same_from_unmodified flags image now (cc) (cc) keys column.1 i
+  same_from_unmodified flags image now wide wide' keys none = cc
 
   kept_key : (some_key other_key : Bool) (x y : Fields A) → is_some (cond some_key (Some x) None) ≡ true →
       cond some_key (Some x) None ≡ cond other_key (Some y) None → x ≡ y
@@ -133,6 +109,6 @@ module _ {A : Type 0} where
   pub update_modifies : (flags : List Bool) (image now : Fields A) → IsKeyedRow flags image → IsKeyedRow flags now →
       key_of flags image ≡ key_of flags now → (image ≡ now → ⊥) → list_any is_some (by_column new_field flags image now) ≡ true
   update_modifies flags image now h h' keys other =
-      true_unless (list_any is_some (by_column new_field flags image now))
+      true_from_ne_false (list_any is_some (by_column new_field flags image now))
       (λ none. other (same_from_unmodified flags image now h.wide h'.wide
       (kept_key (is_key (key_fields flags image)) (is_key (key_fields flags now)) _ _ h.keyed keys) none))

@@ -10,48 +10,6 @@ use Rattle.cap_changes.specs.Stored.{IsEntry, IsPassed, normal}
 use Rattle.cap_changes.proofs.PassLemmas.{fault_of}
 use Rattle.cap_row.proofs.EncodingLemmas.{before_rest}
 
--- ---- the changes of a group, of which at most `most` are left to read
-
-module _ {X G : Type 0} (one_at : ℕ → List Bool → ℕ → List ℕ → Result (X × List ℕ) BlobFault) where
-  -- a group that was read so far, and what is still read
-  abbrev pub with_group : (List X → G) → Result (List X × List ℕ) BlobFault → Result (G × List ℕ) BlobFault
-  with_group make read = read >>= λ x. Ok (make x.0, x.1)
-
-  abbrev pub ChangesFrom : (List X → G) → ℕ → List Bool → List ℕ → Result (G × List ℕ) BlobFault → Type 0
-  ChangesFrom make total flags rest all = (most : ℕ) × (length rest ≤ most) × (with_group make (changes_at one_at most total flags rest) ≡ all)
-
-  put_first : (make : List X → G) (x : X) (read : Result (List X × List ℕ) BlobFault) → with_group make (read >>= λ y. Ok (x ∷ y.0, y.1)) ≡ with_group (λ xs. make (x ∷ xs)) read
-  put_first make x (Ok y) = refl
-  put_first make x (Err f) = refl
-
-  pub change_goes_on : (make : List X → G) (total : ℕ) (flags : List Bool) (op : ℕ) (behind after : List ℕ) (x : X) (all : Result (G × List ℕ) BlobFault)
-      → is_operation op ≡ true → one_at total flags op behind ≡ Ok (x, after) → length after ≤ length behind
-      → ChangesFrom make total flags (op ∷ behind) all → ChangesFrom (λ xs. make (x ∷ xs)) total flags after all
-  unfolding changes_at
-  change_goes_on make total flags op behind after x all operation read shorter (zero, le, e) = absurd (omega arith)
-  change_goes_on make total flags op behind after x all operation read shorter (suc most, le, e) =
-      let one : with_group make (changes_at one_at (suc most) total flags (op ∷ behind)) ≡ with_group (λ xs. make (x ∷ xs)) (changes_at one_at most total flags after) = rw (operation, read) (put_first make x (changes_at one_at most total flags after)) in
-      (most, omega arith, sym one ∙ e)
-
-  pub change_fails : (make : List X → G) (total : ℕ) (flags : List Bool) (op : ℕ) (behind : List ℕ) (f : BlobFault) (all : Result (G × List ℕ) BlobFault)
-      → is_operation op ≡ true → one_at total flags op behind ≡ Err f → ChangesFrom make total flags (op ∷ behind) all → all ≡ Err f
-  unfolding changes_at
-  change_fails make total flags op behind f all operation read (zero, le, e) = absurd (omega arith)
-  change_fails make total flags op behind f all operation read (suc most, le, e) =
-      let one : with_group make (changes_at one_at (suc most) total flags (op ∷ behind)) ≡ Err f = rw (operation, read) refl in sym e ∙ one
-
-  pub reading_stops : (make : List X → G) (total : ℕ) (flags : List Bool) (op : ℕ) (behind : List ℕ) (all : Result (G × List ℕ) BlobFault)
-      → is_operation op ≡ false → ChangesFrom make total flags (op ∷ behind) all → all ≡ Ok (make [], op ∷ behind)
-  unfolding changes_at
-  reading_stops make total flags op behind all operation (zero, le, e) = absurd (omega arith)
-  reading_stops make total flags op behind all operation (suc most, le, e) =
-      let one : with_group make (changes_at one_at (suc most) total flags (op ∷ behind)) ≡ Ok (make [], op ∷ behind) = rw operation refl in sym e ∙ one
-
-  pub reading_ends : (make : List X → G) (total : ℕ) (flags : List Bool) (all : Result (G × List ℕ) BlobFault) → ChangesFrom make total flags [] all → all ≡ Ok (make [], [])
-  unfolding changes_at
-  reading_ends make total flags all (zero, le, e) = sym e
-  reading_ends make total flags all (suc most, le, e) = sym e
-
 -- the bytes behind the first, as a pattern gives them
 abbrev pub behind_of : List ℕ → List ℕ
 behind_of rest = take (length rest - 1) (drop 1 rest)
@@ -60,51 +18,50 @@ pub behind-is : (op : ℕ) (bs : List ℕ) → behind_of (op ∷ bs) ≡ bs
 behind-is op bs = take_all (length (op ∷ bs) - 1) bs (omega arith)
 
 module _ {X : Type 0} (one_at : ℕ → List Bool → ℕ → List ℕ → Result (X × List ℕ) BlobFault) where
-  pub add_changes : TableEntries X → List X → TableEntries X
-  add_changes group more = record group { changes = group.changes ++ more }
-
-  -- `all` is this group, and the changes that are read from these bytes
+  -- `all` is this group, and the changes that are read from these bytes, at most `most` of them
   unfoldable pub ChangesLeft : TableEntries X → ℕ → List ℕ → Result (TableEntries X × List ℕ) BlobFault → Type 0
-  ChangesLeft group total rest all = ChangesFrom one_at (add_changes group) total group.schema rest all
+  ChangesLeft group total rest all = (most : ℕ) × (length rest ≤ most) × (with_changes group (changes_at one_at most total group.schema rest) ≡ all)
 
   pub changes_start : (group : TableEntries X) (total : ℕ) (bytes : List ℕ) → ChangesLeft group total bytes (with_changes group (changes_at one_at (length bytes) total group.schema bytes))
-  unfolding ChangesLeft add_changes
+  unfolding ChangesLeft
   changes_start group total bytes = (length bytes, omega arith, refl)
 
-  add_changes-more : (group : TableEntries X) (x : X) (more : List X) → add_changes group (x ∷ more) ≡ add_changes (record group { changes = group.changes ++ x ∷ [] }) more
-  unfolding add_changes
-  add_changes-more group x more = ap (λ (xs : List X). record group { changes = xs }) (sym (append_assoc group.changes (x ∷ []) more))
+  put_first : (group : TableEntries X) (x : X) (read : Result (List X × List ℕ) BlobFault) → with_changes group (read >>= λ y. Ok (x ∷ y.0, y.1)) ≡ with_changes (record group { changes = group.changes ++ x ∷ [] }) read
+  put_first group x (Ok y) = ap (λ (xs : List X). Ok (record group { changes = xs }, y.1)) (sym (append_assoc group.changes (x ∷ []) y.0))
+  put_first group x (Err f) = refl
 
   pub changes_go_on : (group : TableEntries X) (total : ℕ) (rest after : List ℕ) (x : X) (all : Result (TableEntries X × List ℕ) BlobFault) → 1 ≤ length rest → is_operation (get_or rest 0 0) ≡ true
       → one_at total group.schema (get_or rest 0 0) (behind_of rest) ≡ Ok (x, after) → length after ≤ length (behind_of rest)
       → ChangesLeft group total rest all → ChangesLeft (record group { changes = group.changes ++ x ∷ [] }) total after all
-  unfolding ChangesLeft
-  changes_go_on group total [] after x all some operation read shorter left = absurd (omega arith)
-  changes_go_on group total (op ∷ behind) after x all some operation read shorter left =
-      subst (λ (make : List X → TableEntries X). ChangesFrom one_at make total group.schema after all) (λ i more. add_changes-more group x more i)
-      (change_goes_on one_at (add_changes group) total group.schema op behind after x all operation (subst (λ (b : List ℕ). one_at total group.schema op b ≡ Ok (x, after)) (behind-is op behind) read) (subst (λ (b : List ℕ). length after ≤ length b) (behind-is op behind) shorter) left)
+  unfolding ChangesLeft changes_at
+  changes_go_on group total (op ∷ behind) after x all some operation read shorter (suc most, le, e) =
+      let one : with_changes group (changes_at one_at (suc most) total group.schema (op ∷ behind)) ≡ with_changes (record group { changes = group.changes ++ x ∷ [] }) (changes_at one_at most total group.schema after) =
+      rw (operation, ← behind-is op behind, read) (put_first group x (changes_at one_at most total group.schema after)) in
+      (most, omega (arith, shorter, ap length (behind-is op behind), le), sym one ∙ e)
+  changes_go_on group total rest after x all some operation read shorter (most, le, e) = absurd (omega (arith, some, le))
 
   pub changes_fail : (group : TableEntries X) (total : ℕ) (rest : List ℕ) (f : BlobFault) (all : Result (TableEntries X × List ℕ) BlobFault) → 1 ≤ length rest → is_operation (get_or rest 0 0) ≡ true
       → one_at total group.schema (get_or rest 0 0) (behind_of rest) ≡ Err f → ChangesLeft group total rest all → all ≡ Err f
-  unfolding ChangesLeft
-  changes_fail group total [] f all some operation read left = absurd (omega arith)
-  changes_fail group total (op ∷ behind) f all some operation read left = change_fails one_at (add_changes group) total group.schema op behind f all operation (subst (λ (b : List ℕ). one_at total group.schema op b ≡ Err f) (behind-is op behind) read) left
+  unfolding ChangesLeft changes_at
+  changes_fail group total (op ∷ behind) f all some operation read (suc most, le, e) =
+      let one : with_changes group (changes_at one_at (suc most) total group.schema (op ∷ behind)) ≡ Err f = rw (operation, ← behind-is op behind, read) refl in sym e ∙ one
+  changes_fail group total rest f all some operation read (most, le, e) = absurd (omega (arith, some, le))
 
-  add_changes-nil : (group : TableEntries X) → add_changes group [] ≡ group
-  unfolding add_changes
-  add_changes-nil group = ap (λ (xs : List X). record group { changes = xs }) (append-nil group.changes)
+  add_none : (group : TableEntries X) → record group { changes = group.changes ++ [] } ≡ group
+  add_none group = ap (λ (xs : List X). record group { changes = xs }) (append-nil group.changes)
 
   pub changes_stop : (group : TableEntries X) (total : ℕ) (rest : List ℕ) (all : Result (TableEntries X × List ℕ) BlobFault) → 1 ≤ length rest → is_operation (get_or rest 0 0) ≡ false
       → ChangesLeft group total rest all → all ≡ Ok (group, rest)
-  unfolding ChangesLeft
-  changes_stop group total [] all some other left = absurd (omega arith)
-  changes_stop group total (op ∷ behind) all some other left =
-      reading_stops one_at (add_changes group) total group.schema op behind all other left ∙ ap (λ (g : TableEntries X). Ok (g, op ∷ behind)) (add_changes-nil group)
+  unfolding ChangesLeft changes_at
+  changes_stop group total (op ∷ behind) all some other (suc most, le, e) =
+      let one : with_changes group (changes_at one_at (suc most) total group.schema (op ∷ behind)) ≡ Ok (group, op ∷ behind) = rw other (ap (λ (g : TableEntries X). Ok (g, op ∷ behind)) (add_none group)) in sym e ∙ one
+  changes_stop group total rest all some other (most, le, e) = absurd (omega (arith, some, le))
 
   pub changes_end : (group : TableEntries X) (total : ℕ) (rest : List ℕ) (all : Result (TableEntries X × List ℕ) BlobFault) → length rest < 1 → ChangesLeft group total rest all → all ≡ Ok (group, rest)
-  unfolding ChangesLeft
-  changes_end group total [] all none left = reading_ends one_at (add_changes group) total group.schema all left ∙ ap (λ (g : TableEntries X). Ok (g, [])) (add_changes-nil group)
+  unfolding ChangesLeft changes_at
   changes_end group total (op ∷ behind) all none left = absurd (omega arith)
+  changes_end group total [] all none (zero, le, e) = sym e ∙ ap (λ (g : TableEntries X). Ok (g, [])) (add_none group)
+  changes_end group total [] all none (suc most, le, e) = sym e ∙ ap (λ (g : TableEntries X). Ok (g, [])) (add_none group)
 
 module _ {C : Type 0} (fits_in : List Bool → C → Bool) (has_values : C → Type 0) (bytes_of : C → List ℕ) (stored : List Bool → List ℕ → C) (one_at : ℕ → List Bool → ℕ → List ℕ → Result (C × List ℕ) BlobFault) where
   -- what was passed of the bytes that are left

@@ -20,21 +20,13 @@ module _ {A : Type 0} where
   type_byte (Some (Blob b)) = 4
 
   is_allowed : (requirement : FieldRequirement) (field : Option (Value A)) → satisfies requirement field ≡ true → allows requirement (type_byte field) ≡ true
-  is_allowed required.Any field met = refl
-  is_allowed required.Undefined None met = refl
   is_allowed required.Undefined (Some value) met = absurd cc
-  is_allowed required.Omitted None met = refl
   is_allowed required.Omitted (Some value) met = absurd cc
   is_allowed required.Defined None met = absurd cc
-  is_allowed required.Defined (Some Null) met = refl
-  is_allowed required.Defined (Some (Int n)) met = refl
-  is_allowed required.Defined (Some (Text t)) met = refl
-  is_allowed required.Defined (Some (Blob b)) met = refl
   is_allowed required.Key None met = absurd cc
   is_allowed required.Key (Some Null) met = absurd cc
-  is_allowed required.Key (Some (Int n)) met = refl
-  is_allowed required.Key (Some (Text t)) met = refl
-  is_allowed required.Key (Some (Blob b)) met = refl
+  is_allowed required.Defined (Some Null) met = refl
+  is_allowed requirement field met = refl
 
   typed_again : (total at : ℕ) (requirement : FieldRequirement) (field : Option (Value A)) (rest : List ℕ) → allows requirement (type_byte field) ≡ true → IfSome field IsValue
       → (byte_at total (field_bytes field ++ rest) >>= (λ kind. typed_at total at requirement kind.0 kind.1)) ≡ Ok (field, rest)
@@ -48,17 +40,11 @@ module _ {A : Type 0} where
   -- the bytes of a field with this requirement
   abbrev pub asked_bytes : FieldRequirement → Option (Value A) → List ℕ
   asked_bytes required.Omitted field = []
-  asked_bytes required.Key field = field_bytes field
-  asked_bytes required.Defined field = field_bytes field
-  asked_bytes required.Any field = field_bytes field
-  asked_bytes required.Undefined field = field_bytes field
+  asked_bytes requirement field = field_bytes field
 
   pub field_again : (total : ℕ) (requirement : FieldRequirement) (field : Option (Value A)) (rest : List ℕ) → satisfies requirement field ≡ true → IfSome field IsValue
       → field_at total requirement (asked_bytes requirement field ++ rest) ≡ Ok (field, rest)
   unfolding field_at
   field_again total required.Omitted None rest met fits = refl
   field_again total required.Omitted (Some value) rest met fits = absurd cc
-  field_again total required.Key field rest met fits = typed_again total (place total (field_bytes field ++ rest)) required.Key field rest (is_allowed required.Key field met) fits
-  field_again total required.Defined field rest met fits = typed_again total (place total (field_bytes field ++ rest)) required.Defined field rest (is_allowed required.Defined field met) fits
-  field_again total required.Any field rest met fits = typed_again total (place total (field_bytes field ++ rest)) required.Any field rest (is_allowed required.Any field met) fits
-  field_again total required.Undefined field rest met fits = typed_again total (place total (field_bytes field ++ rest)) required.Undefined field rest (is_allowed required.Undefined field met) fits
+  field_again total requirement field rest met fits = typed_again total (place total (field_bytes field ++ rest)) requirement field rest (is_allowed requirement field met) fits

@@ -31,10 +31,9 @@ module _ {A : Type 0} where
 
   allowed_some : (requirement : FieldRequirement) (kind : ℕ) (value : Value A) → is_null value ≡ false → allows requirement kind ≡ true → (kind == 0) ≡ false → satisfies requirement (Some value) ≡ true
   allowed_some required.Key kind value known allowed other = rw known refl
-  allowed_some required.Defined kind value known allowed other = refl
-  allowed_some required.Any kind value known allowed other = refl
   allowed_some required.Undefined kind value known allowed other = absurd (cc (allowed, other))
   allowed_some required.Omitted kind value known allowed other = absurd (cc (allowed, other))
+  allowed_some requirement kind value known allowed other = refl
 
   allowed_null : (requirement : FieldRequirement) (kind : ℕ) (field : Option (Value A)) → Some Null ≡ field → allows requirement kind ≡ true → (kind == 0) ≡ false → (kind == 5) ≡ true → satisfies requirement field ≡ true
   allowed_null required.Key kind field is allowed other null_kind = absurd (let e = (and_parts (not (kind == 0)) (not (kind == 5)) allowed).1 in cc (rw null_kind at e))
@@ -77,10 +76,7 @@ module _ {A : Type 0} where
   pub field_meets : (total : ℕ) (requirement : FieldRequirement) (bytes : List ℕ) (x : Option (Value A) × List ℕ) → field_at total requirement bytes ≡ Ok x → satisfies requirement x.0 ≡ true
   unfolding field_at
   field_meets total required.Omitted bytes x e = rw (← ok_is (None, bytes) x e) refl
-  field_meets total required.Key bytes x e = present_meets total required.Key bytes x e
-  field_meets total required.Defined bytes x e = present_meets total required.Defined bytes x e
-  field_meets total required.Any bytes x e = present_meets total required.Any bytes x e
-  field_meets total required.Undefined bytes x e = present_meets total required.Undefined bytes x e
+  field_meets total requirement bytes x e = present_meets total requirement bytes x e
 
   pub record_meets : (total : ℕ) (requirements : List FieldRequirement) (bytes : List ℕ) (x : RecordFields A × List ℕ) → record_at total requirements bytes ≡ Ok x → satisfy requirements x.0 ≡ true
   unfolding record_at
@@ -94,9 +90,8 @@ module _ {A : Type 0} where
   -- a record in which every field is defined has the key fields
   pub full_keyed : (flags : List Bool) (fields : RecordFields A) → satisfy (requirements Full flags) fields ≡ true → satisfy (requirements Keyed flags) fields ≡ true
   full_keyed [] [] met = refl
-  full_keyed [] (field ∷ fields) met = cc
-  full_keyed (flag ∷ flags) [] met = cc
   full_keyed (true ∷ flags) (field ∷ fields) met =
       let parts = and_parts (satisfies required.Key field) (satisfy (requirements Full flags) fields) met in
       and_from (satisfies required.Key field) _ parts.0 (full_keyed flags fields parts.1)
   full_keyed (false ∷ flags) (field ∷ fields) met = full_keyed flags fields (and_parts (satisfies required.Defined field) (satisfy (requirements Full flags) fields) met).1
+  full_keyed flags fields met = cc

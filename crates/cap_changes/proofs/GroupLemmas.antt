@@ -1,5 +1,5 @@
 -- What a group keeps of a change that is written into it.
-use Rattle.std.proofs.Common.{◌≡◌, Bool, true, false, ◌||◌, cond, List, [], ◌∷◌, Option, Some, None, IfSome, IsTrue, refl, sym, ap, subst, ◌∙◌, append-nil}
+use Rattle.std.proofs.Common.{◌≡◌, Bool, true, false, ◌||◌, cond, List, [], ◌∷◌, Option, Some, None, IfSome, IsTrue, refl, sym, ap, ◌∙◌, append-nil}
 use Rattle.std.specs.List.{cons_option, flat_map}
 use Rattle.std.specs.Option.{ForSome}
 use Rattle.cap_value.specs.declared.value.Value.{Value}
@@ -28,17 +28,15 @@ use Rattle.cap_changes.proofs.StoredChange.{change_entry, patch_entry}
 use Rattle.cap_changes.proofs.ValueLemmas.{inverse_values, patch_values, values_of}
 
 module _ {A : Type 0} where
-  pub inverse_entry : (flags flags' : List Bool) (change change' : RowChange A) → flags' ≡ flags → change' ≡ change → IsTrue (change_fits flags change) → HasValues change
-      → (stored_change flags (change_bytes (inverse_of flags' change')) ≡ inverse_of flags change)
-      × IsEntry {C = RowChange A} change_fits HasValues change_bytes flags (stored_change flags (change_bytes (inverse_of flags' change'))) (change_bytes (inverse_of flags' change'))
-  inverse_entry flags flags' change change' same is fits values =
-      rw (same, is) (change_entry flags (inverse_of flags change) (change_bytes (inverse_of flags change)) (inverse_of-fits flags change fits) (inverse_values flags change values) refl)
+  pub inverse_again : (flags : List Bool) (change : RowChange A) → IsTrue (change_fits flags change) → HasValues change
+      → (stored_change flags (change_bytes (inverse_of flags change)) ≡ inverse_of flags change)
+      × IsEntry {C = RowChange A} change_fits HasValues change_bytes flags (stored_change flags (change_bytes (inverse_of flags change))) (change_bytes (inverse_of flags change))
+  inverse_again flags change fits values = change_entry flags (inverse_of flags change) (change_bytes (inverse_of flags change)) (inverse_of-fits flags change fits) (inverse_values flags change values) refl
 
-  pub patched_entry : (flags flags' : List Bool) (change change' : RowChange A) → flags' ≡ flags → change' ≡ change → IsTrue (change_fits flags change) → HasValues change
-      → (stored_patch flags (patch_bytes (patch_of flags' change')) ≡ patch_of flags change)
-      × IsEntry {C = Patch A} patch_fits PatchHasValues patch_bytes flags (stored_patch flags (patch_bytes (patch_of flags' change'))) (patch_bytes (patch_of flags' change'))
-  patched_entry flags flags' change change' same is fits values =
-      rw (same, is) (patch_entry flags (patch_of flags change) (patch_bytes (patch_of flags change)) (patch_of-fits flags change fits) (patch_values flags change values) refl)
+  pub patch_again : (flags : List Bool) (change : RowChange A) → IsTrue (change_fits flags change) → HasValues change
+      → (stored_patch flags (patch_bytes (patch_of flags change)) ≡ patch_of flags change)
+      × IsEntry {C = Patch A} patch_fits PatchHasValues patch_bytes flags (stored_patch flags (patch_bytes (patch_of flags change))) (patch_bytes (patch_of flags change))
+  patch_again flags change fits values = patch_entry flags (patch_of flags change) (patch_bytes (patch_of flags change)) (patch_of-fits flags change fits) (patch_values flags change values) refl
 
   -- ---- the change of a touched key
 
@@ -52,57 +50,33 @@ module _ {A : Type 0} where
 
   column_values : (pick : Bool → Value A → Value A → Option (Value A)) → ((key : Bool) (a b : Value A) → IsValue a → IsValue b → IfSome (pick key a b) IsValue)
       → (flags : List Bool) (image now : Fields A) → AreValues image → AreValues now → AreFields (by_column pick flags image now)
-  column_values pick one [] image now p q = tt
-  column_values pick one (key ∷ flags) [] now p q = tt
-  column_values pick one (key ∷ flags) (a ∷ image) [] p q = tt
   column_values pick one (key ∷ flags) (a ∷ image) (b ∷ now) p q = (one key a b p.0 q.0, column_values pick one flags image now p.1 q.1)
+  column_values pick one flags image now p q = tt
 
-  record Touched (flags : List Bool) (indirect : Bool) (image now : Option (Fields A)) : Type 0 where
-    change : RowChange A
-    is : change_of flags indirect image now ≡ Some change
-    fits : IsTrue (change_fits flags change)
-    values : HasValues change
-
-  touched : (flags : List Bool) (indirect : Bool) (image now : Option (Fields A)) → ForSome image (IsKeyedRow flags) → ForSome now (IsKeyedRow flags) → IsTrue (is_changed image now) → ForSome image AreValues → ForSome now AreValues → Touched flags indirect image now
-  touched flags indirect None None keyed keyed' changed p q = absurd cc
-  touched flags indirect None (Some now) keyed keyed' changed p q = record {
-    change = Insert indirect (full_record now);
-    is = refl;
-    fits = full_fits flags now (keyed' now refl);
-    values = values_of (full_record now) (full_values now (q now refl));
-  }
-  touched flags indirect (Some image) None keyed keyed' changed p q = record {
-    change = Delete indirect (full_record image);
-    is = refl;
-    fits = full_fits flags image (keyed image refl);
-    values = values_of (full_record image) (full_values image (p image refl));
-  }
-  touched flags indirect (Some image) (Some now) keyed keyed' changed p q = record {
-    change = Update indirect (by_column old_field flags image now) (by_column new_field flags image now);
-    is = change_of-other flags indirect image now (λ e. let same : fields_eq image now ≡ true = (fields_eq_decides image now).1 e in cc (rw same at changed));
-    fits = update_fits flags indirect image now (keyed image refl) (keyed' now refl);
-    values = (
-      values_of _ (column_values old_field (λ key a b x y. if_value (key || is_modified key a b) a x) flags image now (p image refl) (q now refl)),
-      values_of _ (column_values new_field (λ key a b x y. if_value (is_modified key a b) b y) flags image now (p image refl) (q now refl)),
-    );
-  }
-
-  pub record TouchedEntry (schema flags : List Bool) (indirect : Bool) (image now : Option (Fields A)) : Type 0 where
+  pub record TouchedEntry (flags : List Bool) (indirect : Bool) (image now : Option (Fields A)) : Type 0 where
     pub change : RowChange A
-    pub same : stored_change schema (flat_map change_bytes (cons_option (change_of schema indirect image now) [])) ≡ change
-    pub is : IsEntry {C = RowChange A} change_fits HasValues change_bytes schema (stored_change schema (flat_map change_bytes (cons_option (change_of schema indirect image now) []))) (flat_map change_bytes (cons_option (change_of schema indirect image now) []))
+    pub same : stored_change flags (flat_map change_bytes (cons_option (change_of flags indirect image now) [])) ≡ change
+    pub is : IsEntry {C = RowChange A} change_fits HasValues change_bytes flags (stored_change flags (flat_map change_bytes (cons_option (change_of flags indirect image now) []))) (flat_map change_bytes (cons_option (change_of flags indirect image now) []))
     pub added : change ∷ [] ≡ cons_option (change_of flags indirect image now) []
 
-  touched_at : (flags : List Bool) (indirect : Bool) (image now : Option (Fields A)) → Touched flags indirect image now → TouchedEntry flags flags indirect image now
-  touched_at flags indirect image now t =
-      let spelled : flat_map change_bytes (cons_option (change_of flags indirect image now) []) ≡ change_bytes t.change = ap (λ (c : Option (RowChange A)). flat_map change_bytes (cons_option c [])) t.is ∙ append-nil (change_bytes t.change) in
-      let e = change_entry flags t.change (flat_map change_bytes (cons_option (change_of flags indirect image now) [])) t.fits t.values spelled in record {
-        change = t.change;
-        same = e.0;
-        is = e.1;
-        added = ap (λ (c : Option (RowChange A)). cons_option c []) (sym t.is);
-      }
+  of_change : (flags : List Bool) (indirect : Bool) (image now : Option (Fields A)) (change : RowChange A) → change_of flags indirect image now ≡ Some change → IsTrue (change_fits flags change) → HasValues change → TouchedEntry flags indirect image now
+  of_change flags indirect image now change is fits values =
+      let bytes = flat_map change_bytes (cons_option (change_of flags indirect image now) []) in
+      let spelled : bytes ≡ change_bytes change = ap (λ (c : Option (RowChange A)). flat_map change_bytes (cons_option c [])) is ∙ append-nil (change_bytes change) in
+      let e = change_entry flags change bytes fits values spelled in
+      record { change = change; same = e.0; is = e.1; added = ap (λ (c : Option (RowChange A)). cons_option c []) (sym is) }
 
-  pub touched_entry : (schema flags : List Bool) (indirect : Bool) (image now : Option (Fields A)) → schema ≡ flags → ForSome image (IsKeyedRow flags) → ForSome now (IsKeyedRow flags) → IsTrue (is_changed image now) → ForSome image AreValues → ForSome now AreValues
-      → TouchedEntry schema flags indirect image now
-  touched_entry schema flags indirect image now same keyed keyed' changed p q = subst (λ (s : List Bool). TouchedEntry s flags indirect image now) (sym same) (touched_at flags indirect image now (touched flags indirect image now keyed keyed' changed p q))
+  pub touched_entry : (flags : List Bool) (indirect : Bool) (image now : Option (Fields A)) → ForSome image (IsKeyedRow flags) → ForSome now (IsKeyedRow flags) → IsTrue (is_changed image now) → ForSome image AreValues → ForSome now AreValues
+      → TouchedEntry flags indirect image now
+  touched_entry flags indirect None None keyed keyed' changed p q = absurd cc
+  touched_entry flags indirect None (Some now) keyed keyed' changed p q =
+      of_change flags indirect None (Some now) (Insert indirect (full_record now)) refl (full_fits flags now (keyed' now refl)) (values_of (full_record now) (full_values now (q now refl)))
+  touched_entry flags indirect (Some image) None keyed keyed' changed p q =
+      of_change flags indirect (Some image) None (Delete indirect (full_record image)) refl (full_fits flags image (keyed image refl)) (values_of (full_record image) (full_values image (p image refl)))
+  touched_entry flags indirect (Some image) (Some now) keyed keyed' changed p q =
+      of_change flags indirect (Some image) (Some now) (Update indirect (by_column old_field flags image now) (by_column new_field flags image now))
+      (change_of-other flags indirect image now (λ e. let same : fields_eq image now ≡ true = (fields_eq_decides image now).1 e in cc (rw same at changed)))
+      (update_fits flags indirect image now (keyed image refl) (keyed' now refl)) (
+        values_of _ (column_values old_field (λ key a b x y. if_value (key || is_modified key a b) a x) flags image now (p image refl) (q now refl)),
+        values_of _ (column_values new_field (λ key a b x y. if_value (is_modified key a b) b y) flags image now (p image refl) (q now refl)),
+      )

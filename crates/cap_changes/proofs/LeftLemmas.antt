@@ -1,14 +1,10 @@
 -- What is left of a list that is gone over.
-use Rattle.std.proofs.Common.{◌≡◌, ℕ, zero, suc, ◌+◌, ◌<◌, ◌≤◌, Bool, List, [], ◌∷◌, ◌++◌, length, map, drop, drop-cons, get_or, slice_get, Option, Some, None, IsTrue, refl, sym, ap, subst, ◌∙◌, append_assoc, arith}
-use Rattle.std.proofs.lemmas.List.{map-append}
+use Rattle.std.proofs.Common.{◌≡◌, ℕ, zero, suc, ◌+◌, ◌<◌, ◌≤◌, Bool, List, [], ◌∷◌, ◌++◌, length, map, drop, get_or, slice_get, Option, Some, None, IsTrue, sym, ap, subst, ◌∙◌, append_assoc, arith}
+use Rattle.std.proofs.lemmas.List.{drop_more}
 use Rattle.std.proofs.lemmas.List.Elements.{All-from_recursion, recursion_from_All}
 use Rattle.cap_changes.specs.Entries.{AllFit}
 use Rattle.cap_changes.specs.FieldRecord.{RecordFields}
-use Rattle.cap_changes.specs.Fits.{change_fits}
-use Rattle.cap_changes.specs.Invert.{inverse_of}
 use Rattle.cap_changes.specs.Record.{stored_fields, IsStored, BeginsWithField}
-use Rattle.cap_changes.specs.declared.row_change.RowChange.{RowChange}
-use Rattle.cap_changes.proofs.InvertLemmas.{inverse_of-back}
 use Rattle.cap_changes.proofs.StoredRecord.{few_fields}
 
 -- one more was taken
@@ -28,14 +24,11 @@ taken (y ∷ xs) (suc passed) x others is =
 -- the one so many places on is the next that is left
 pub next_at : {X : Type 0} (xs : List X) (passed : ℕ) (x : X) (others : List X) → drop passed xs ≡ x ∷ others → slice_get xs passed ≡ Some x
 next_at [] zero x others is = cc
-next_at [] (suc passed) x others is = cc
-next_at (y ∷ xs) zero x others is = cc
 next_at (y ∷ xs) (suc passed) x others is = next_at xs passed x others is
+next_at xs passed x others is = cc
 
 pub drop_here : {X : Type 0} (xs : List X) (i : ℕ) (x : X) → i < length xs → x ≡ get_or xs i x → drop i xs ≡ x ∷ drop (i + 1) xs
-drop_here xs i x within is =
-    let n : suc i ≡ i + 1 = omega arith in
-    drop-cons xs i x within ∙ (λ k. sym is k ∷ drop (n k) xs)
+drop_here xs i x within is = drop_more xs i x within ∙ ap (λ y. y ∷ drop (i + 1) xs) (sym is)
 
 pub none_left : {X : Type 0} (xs : List X) (passed : ℕ) → drop passed xs ≡ [] → length xs ≤ passed
 none_left [] passed is = omega arith
@@ -67,13 +60,3 @@ pub image_made : {X Y : Type 0} (f f' : X → Y) (xs others : List X) (x : X) (m
 image_made {Y = Y} f f' xs others x made made' all is same grown so_far =
     ap (λ (l : List Y). l ++ map f others) grown ∙ append_assoc made (f' x ∷ []) (map f others)
     ∙ ap (λ (y : Y). made ++ y ∷ map f others) same ∙ sym (ap (λ l. made ++ map f l) is) ∙ so_far
-
-module _ {A : Type 0} where
-  pub change_back : (flags flags' : List Bool) (xs others made made' all : List (RowChange A)) (x : RowChange A) → xs ≡ x ∷ others → flags' ≡ flags → AllFit change_fits flags xs → made' ≡ made ++ inverse_of flags' x ∷ []
-      → map (inverse_of flags) made ++ xs ≡ all → map (inverse_of flags) made' ++ others ≡ all
-  change_back flags flags' xs others made made' all x is same fit grown so_far =
-      ap (λ (l : List (RowChange A)). map (inverse_of flags) l ++ others) (grown ∙ ap (λ (f : List Bool). made ++ inverse_of f x ∷ []) same)
-      ∙ ap (λ (l : List (RowChange A)). l ++ others) (map-append (inverse_of flags) made (inverse_of flags x ∷ []))
-      ∙ append_assoc (map (inverse_of flags) made) (inverse_of flags (inverse_of flags x) ∷ []) others
-      ∙ ap (λ (y : RowChange A). map (inverse_of flags) made ++ y ∷ others) (inverse_of-back flags x (first_fits change_fits flags flags xs others x refl is fit))
-      ∙ sym (ap (λ (l : List (RowChange A)). map (inverse_of flags) made ++ l) is) ∙ so_far

@@ -11,8 +11,8 @@ pub mod ChangeLoops
 pub mod TouchedLemmas
 pub mod StoredRecord
 pub mod StoredField
-pub mod SplitLemmas
 pub mod StoredEntries
+pub mod Grammar
 pub mod ChangeAgain
 pub mod ChangeSpelled
 pub mod StoredChange
@@ -21,6 +21,4 @@ pub mod ReadLemmas
 pub mod ValueLemmas
 pub mod WholeLemmas
 pub mod PutLemmas
-pub mod PassChange
 pub mod GroupLemmas
-pub mod PartsLemmas

@@ -1,5 +1,5 @@
 -- Records that are passed over, field by field.
-use Rattle.std.proofs.Common.{◌≡◌, ℕ, ◌+◌, ◌<◌, ◌≤◌, Bool, true, false, List, [], ◌∷◌, ◌++◌, length, drop, get_or, Option, Result, Ok, Err, refl, sym, ap, subst, ◌∙◌, add-one, drop-cons}
+use Rattle.std.proofs.Common.{◌≡◌, ℕ, ◌+◌, ◌<◌, ◌≤◌, Bool, false, List, [], ◌∷◌, ◌++◌, length, drop, get_or, Option, Result, Ok, Err, refl, sym, ap, subst, ◌∙◌, add-one, drop-cons}
 use Rattle.std.specs.Prelude.{IsOk}
 use Rattle.std.proofs.lemmas.List.{drop_all}
 use Rattle.cap_value.specs.declared.value.Value.{Value}
@@ -16,15 +16,17 @@ use Rattle.cap_changes.specs.Requirements.{requirement_of, requirements, new_req
 use Rattle.cap_changes.specs.declared.field_requirement.FieldRequirement.{FieldRequirement}
 use Rattle.cap_changes.specs.declared.field_requirement.FieldRequirement.TheVariants as required
 use Rattle.cap_changes.specs.declared.record_kind.RecordKind.TheVariants.{Keyed}
-use Rattle.cap_changes.proofs.FieldAgain.{asked_bytes, field_again}
+use Rattle.cap_changes.proofs.FieldAgain.{field_again}
+use Rattle.cap_changes.proofs.RecordAgain.{of_keyed}
 use Rattle.cap_changes.proofs.Spelled.{field_spelled}
 
 pub ok_of : {X E : Type 0} (read : Result X E) → IsOk read → (x : X) × (read ≡ Ok x)
 ok_of (Ok x) is = (x, refl)
 ok_of (Err e) is = absurd cc
 
-ok_read : {X E : Type 0} (read : Result X E) (x : X) → read ≡ Ok x → IsOk read
-ok_read read x is = rw is refl
+pub behind_made : {X Y : Type 0} (make : X → Y) (read : Result (X × List ℕ) BlobFault) → behind (read >>= (λ x. Ok (make x.0, x.1))) ≡ behind read
+behind_made make (Ok x) = refl
+behind_made make (Err f) = refl
 
 module _ {X : Type 0} where
   pub read_of : (read : Result (X × List ℕ) BlobFault) (rest : List ℕ) → behind read ≡ Ok rest → (x : X) × (read ≡ Ok (x, rest))
@@ -38,14 +40,10 @@ module _ {X : Type 0} where
 module _ (A : Type 0) where
   -- ---- a record
 
-  without : (field : Option (Value A)) (read : Result (RecordFields A × List ℕ) BlobFault) → behind (read >>= (λ others. Ok (field ∷ others.0, others.1))) ≡ behind read
-  without field (Ok x) = refl
-  without field (Err f) = refl
-
   passed : (total : ℕ) (requirement : FieldRequirement) (others : List FieldRequirement) (given after : List ℕ) (field : Option (Value A)) → field_at total requirement given ≡ Ok (field, after)
       → behind (record_at {A = A} total (requirement ∷ others) given) ≡ behind (record_at {A = A} total others after)
   unfolding record_at
-  passed total requirement others given after field read = rw read (without field (record_at total others after))
+  passed total requirement others given after field read = rw read (behind_made (λ (xs : RecordFields A). field ∷ xs) (record_at total others after))
 
   pub pass_goes_on : (total : ℕ) (requirement : FieldRequirement) (requirements others : List FieldRequirement) (given after : List ℕ) (field : Option (Value A)) (all : Result (List ℕ) BlobFault) → requirements ≡ requirement ∷ others
       → field_at total requirement given ≡ Ok (field, after) → behind (record_at {A = A} total requirements given) ≡ all → behind (record_at {A = A} total others after) ≡ all
@@ -74,10 +72,6 @@ module _ (A : Type 0) where
     pub is : old_in A total (key ∷ flags) given ≡ field ∷ old_in A total flags after
     pub low : AreLow after
 
-  keyed_bytes : (key : Bool) (field : Option (Value A)) → asked_bytes (requirement_of Keyed key) field ≡ field_bytes field
-  keyed_bytes true field = refl
-  keyed_bytes false field = refl
-
   old_parts : (total : ℕ) (key : Bool) (flags : List Bool) (given : List ℕ) (field : Option (Value A)) (after : List ℕ) (others : RecordFields A × List ℕ) → field_at total (requirement_of Keyed key) given ≡ Ok (field, after)
       → record_at total (requirements Keyed flags) after ≡ Ok others → old_in A total (key ∷ flags) given ≡ field ∷ old_in A total flags after
   unfolding record_at
@@ -90,12 +84,12 @@ module _ (A : Type 0) where
       let first = bind_ok (field_at {A = A} total (requirement_of Keyed key) given) (λ field. record_at total (requirements Keyed flags) field.1 >>= (λ others. Ok (field.0 ∷ others.0, others.1))) x.0 x.1 in
       let others = bind_ok (record_at {A = A} total (requirements Keyed flags) first.0.1) (λ others. Ok (first.0.0 ∷ others.0, others.1)) x.0 first.2 in
       let spelled = field_spelled total (requirement_of Keyed key) given first.0 low first.1 in
-      let parts : given ≡ field_bytes first.0.0 ++ first.0.1 = spelled.0 ∙ ap (λ (b : List ℕ). b ++ first.0.1) (keyed_bytes key first.0.0) in (
+      let parts : given ≡ field_bytes first.0.0 ++ first.0.1 = spelled.0 ∙ ap (λ (b : List ℕ). b ++ first.0.1) (of_keyed key first.0.0) in (
         first.0.0,
         first.0.1,
         record {
           read = ap (field_at 0 required.Any) parts ∙ field_again 0 required.Any first.0.0 first.0.1 refl spelled.1;
-          left = ok_read (record_at total (requirements Keyed flags) first.0.1) others.0 others.1;
+          left = rw others.1 refl;
           is = old_parts total key flags given first.0.0 first.0.1 others.0 first.1 others.1;
           low = low_behind given (field_bytes first.0.0) first.0.1 parts low;
         },

@@ -14,10 +14,6 @@ module _ {A : Type 0} where
   pub update_fits : (flags : List Bool) (old new : RecordFields A) → satisfy (requirements record_kinds.Keyed flags) old ≡ true → satisfy (new_requirements flags old) new ≡ true →
       satisfy (requirements record_kinds.Keyed flags) (update_record flags old new) ≡ true
   update_fits [] [] [] met met' = refl
-  update_fits [] [] (field ∷ new) met met' = cc
-  update_fits [] (field ∷ old) new met met' = cc
-  update_fits (key ∷ flags) [] new met met' = cc
-  update_fits (key ∷ flags) (before ∷ old) [] met met' = cc
   update_fits (true ∷ flags) (before ∷ old) (after ∷ new) met met' =
       let parts = and_parts (satisfies required.Key before) (satisfy (requirements record_kinds.Keyed flags) old) met in
       let others = and_parts (is_none after) (satisfy (new_requirements flags old) new) met' in
@@ -25,17 +21,17 @@ module _ {A : Type 0} where
   update_fits (false ∷ flags) (before ∷ old) (after ∷ new) met met' =
       let others = and_parts (satisfies (new_requirement (false, before)) after) (satisfy (new_requirements flags old) new) met' in
       update_fits flags old new met others.1
+  update_fits flags old new met met' = cc
 
   key_fits : (flags : List Bool) (old : RecordFields A) → satisfy (requirements record_kinds.Full flags) old ≡ true →
       satisfy (requirements record_kinds.KeyAlone flags) (key_record flags old) ≡ true
   key_fits [] [] met = refl
-  key_fits [] (field ∷ old) met = cc
-  key_fits (key ∷ flags) [] met = cc
   key_fits (true ∷ flags) (field ∷ old) met =
       let parts = and_parts (satisfies required.Key field) (satisfy (requirements record_kinds.Full flags) old) met in
       and_from (satisfies required.Key field) _ parts.0 (key_fits flags old parts.1)
   key_fits (false ∷ flags) (field ∷ old) met =
       key_fits flags old (and_parts (satisfies required.Defined field) (satisfy (requirements record_kinds.Full flags) old) met).1
+  key_fits flags old met = cc
 
   pub patch_of-fits : (flags : List Bool) (change : RowChange A) → change_fits flags change ≡ true → patch_fits flags (patch_of flags change) ≡ true
   patch_of-fits flags (Insert indirect new) fit = fit

@@ -4,8 +4,6 @@ use Rattle.std.proofs.lemmas.List.{drop_more}
 use Rattle.cap_value.specs.declared.value.Value.{Value}
 use Rattle.cap_changes.specs.Column.{by_column}
 use Rattle.cap_changes.specs.Field.{field_bytes, record_bytes}
-use Rattle.cap_changes.specs.FieldRecord.{RecordFields}
-use Rattle.cap_changes.specs.Invert.{without_key}
 
 pub put_on : {X : Type 0} (out out' piece rest whole all : List X) → out' ≡ out ++ piece → whole ≡ piece ++ rest → out ++ whole ≡ all → out' ++ rest ≡ all
 put_on {X} out out' piece rest whole all put parts so_far =
@@ -29,9 +27,8 @@ module _ {A X : Type 0} (pick : Bool → X → X → Option (Value A)) where
   no_first (flag ∷ flags) second = refl
 
   no_second : (flags : List Bool) (first : List X) → by_column pick flags first [] ≡ []
-  no_second [] first = refl
   no_second (flag ∷ flags) [] = refl
-  no_second (flag ∷ flags) (a ∷ first) = refl
+  no_second flags first = refl
 
   -- one of them has no column left
   pub first_ends : (flags : List Bool) (first second : List X) (out all : List ℕ) → first ≡ [] → out ++ record_bytes (by_column pick flags first second) ≡ all → out ≡ all
@@ -39,11 +36,3 @@ module _ {A X : Type 0} (pick : Bool → X → X → Option (Value A)) where
 
   pub second_ends : (flags : List Bool) (first second : List X) (out all : List ℕ) → second ≡ [] → out ++ record_bytes (by_column pick flags first second) ≡ all → out ≡ all
   second_ends flags first second out all none so_far = put_all out _ all (ap (λ (l : List X). record_bytes (by_column pick flags first l)) none ∙ ap record_bytes (no_second flags first)) so_far
-
-module _ {A : Type 0} where
-  pub no_others : (flags : List Bool) (old : RecordFields A) (out all : List ℕ) → old ≡ [] → out ++ record_bytes (without_key flags old) ≡ all → out ≡ all
-  no_others flags old out all none so_far = put_all out (record_bytes (without_key flags old)) all (ap (λ (o : RecordFields A). record_bytes (without_key flags o)) none ∙ without_old flags) so_far
-    where
-      without_old : (flags : List Bool) → record_bytes {A = A} (without_key flags []) ≡ []
-      without_old [] = refl
-      without_old (key ∷ flags) = refl

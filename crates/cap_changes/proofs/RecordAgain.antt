@@ -2,7 +2,6 @@
 use Rattle.std.proofs.Common.{◌≡◌, ℕ, Bool, true, false, List, [], ◌∷◌, ◌++◌, Option, Some, None, IfSome, Ok, refl, sym, ap, ◌∙◌, append_assoc}
 use Rattle.std.specs.List.{AllByRecursion}
 use Rattle.std.proofs.lemmas.Bool.{and_parts}
-use Rattle.std.proofs.lemmas.List.Elements.{recursion_from_All}
 use Rattle.cap_value.specs.declared.value.Value.{Value}
 use Rattle.cap_value.specs.Value.{IsValue}
 use Rattle.cap_changes.specs.FieldRecord.{RecordFields}
@@ -14,6 +13,7 @@ use Rattle.cap_changes.specs.Field.{field_bytes, record_bytes, defined_bytes, ke
 use Rattle.cap_changes.specs.RecordReading.{record_at}
 use Rattle.cap_changes.specs.HasValues.{AreValues}
 use Rattle.cap_changes.proofs.FieldAgain.{asked_bytes, field_again}
+use Rattle.cap_changes.proofs.ValueLemmas.{each_of}
 
 module _ {A : Type 0} where
   -- ---- records
@@ -27,22 +27,20 @@ module _ {A : Type 0} where
       → record_at total requirements (asked_record requirements fields ++ rest) ≡ Ok (fields, rest)
   unfolding record_at
   fields_again total [] [] rest met fits = refl
-  fields_again total [] (field ∷ fields) rest met fits = absurd cc
-  fields_again total (requirement ∷ requirements) [] rest met fits = absurd cc
   fields_again total (requirement ∷ requirements) (field ∷ fields) rest met fits =
       let parts = and_parts (satisfies requirement field) (satisfy requirements fields) met in
       ap (record_at total (requirement ∷ requirements)) (append_assoc (asked_bytes requirement field) (asked_record requirements fields) rest)
       ∙ rw (field_again total requirement field (asked_record requirements fields ++ rest) parts.0 fits.0, fields_again total requirements fields rest parts.1 fits.1) refl
+  fields_again total requirements fields rest met fits = absurd cc
 
   -- where no field is left out
   pub all_asked : (record_kind : RecordKind) → ((key : Bool) (field : Option (Value A)) → asked_bytes (requirement_of record_kind key) field ≡ field_bytes field)
       → (flags : List Bool) (fields : RecordFields A) → satisfy (requirements record_kind flags) fields ≡ true → asked_record (requirements record_kind flags) fields ≡ record_bytes fields
-  all_asked record_kind each [] [] met = refl
   all_asked record_kind each [] (field ∷ fields) met = absurd cc
-  all_asked record_kind each (key ∷ flags) [] met = refl
   all_asked record_kind each (key ∷ flags) (field ∷ fields) met =
       let parts = and_parts (satisfies (requirement_of record_kind key) field) (satisfy (requirements record_kind flags) fields) met in
       rw (each key field, all_asked record_kind each flags fields parts.1) refl
+  all_asked record_kind each flags fields met = refl
 
   pub of_full : (key : Bool) (field : Option (Value A)) → asked_bytes (requirement_of record_kinds.Full key) field ≡ field_bytes field
   of_full true field = refl
@@ -53,53 +51,44 @@ module _ {A : Type 0} where
   of_keyed false field = refl
 
   of_key : (key : Bool) (field : Option (Value A)) → satisfies (requirement_of record_kinds.KeyAlone key) field ≡ true → asked_bytes (requirement_of record_kinds.KeyAlone key) field ≡ defined_bytes field
-  of_key true None met = absurd cc
   of_key true (Some value) met = refl
   of_key false None met = refl
-  of_key false (Some value) met = absurd cc
+  of_key key field met = absurd cc
 
   pub keys_asked : (flags : List Bool) (fields : RecordFields A) → satisfy (requirements record_kinds.KeyAlone flags) fields ≡ true → asked_record (requirements record_kinds.KeyAlone flags) fields ≡ key_bytes fields
-  keys_asked [] [] met = refl
   keys_asked [] (field ∷ fields) met = absurd cc
-  keys_asked (key ∷ flags) [] met = refl
   keys_asked (key ∷ flags) (field ∷ fields) met =
       let parts = and_parts (satisfies (requirement_of record_kinds.KeyAlone key) field) (satisfy (requirements record_kinds.KeyAlone flags) fields) met in
       rw (of_key key field parts.0, keys_asked flags fields parts.1) refl
+  keys_asked flags fields met = refl
 
   of_new : (key : Bool) (old field : Option (Value A)) → asked_bytes (new_requirement (key, old)) field ≡ field_bytes field
-  of_new true old field = refl
   of_new false None field = refl
-  of_new false (Some value) field = refl
+  of_new key old field = refl
 
   pub new_asked : (flags : List Bool) (old new : RecordFields A) → satisfy (new_requirements flags old) new ≡ true → asked_record (new_requirements flags old) new ≡ record_bytes new
-  new_asked [] old [] met = refl
   new_asked [] old (field ∷ fields) met = absurd cc
-  new_asked (key ∷ flags) [] [] met = refl
   new_asked (key ∷ flags) [] (field ∷ fields) met = absurd cc
-  new_asked (key ∷ flags) (before ∷ old) [] met = refl
   new_asked (key ∷ flags) (before ∷ old) (field ∷ fields) met =
       let parts = and_parts (satisfies (new_requirement (key, before)) field) (satisfy (new_requirements flags old) fields) met in
       rw (of_new key before field, new_asked flags old fields parts.1) refl
+  new_asked flags old new met = refl
 
-  pub values_each : (fields : RecordFields A) → AreValues fields → AllByRecursion (λ field. IfSome field IsValue) fields
-  values_each fields values = recursion_from_All (λ field. IfSome field IsValue) fields values
+  -- how a record of a kind is written
+  abbrev pub written : RecordKind → RecordFields A → List ℕ
+  written record_kinds.Full fields = record_bytes fields
+  written record_kinds.Keyed fields = record_bytes fields
+  written record_kinds.KeyAlone fields = key_bytes fields
 
-  pub full_again : (total : ℕ) (flags : List Bool) (fields : RecordFields A) (rest : List ℕ) → satisfy (requirements record_kinds.Full flags) fields ≡ true → AreValues fields → record_at total (requirements record_kinds.Full flags) (record_bytes fields ++ rest) ≡ Ok (fields, rest)
-  full_again total flags fields rest met values =
-      ap (λ (bytes : List ℕ). record_at total (requirements record_kinds.Full flags) (bytes ++ rest)) (sym (all_asked record_kinds.Full of_full flags fields met))
-      ∙ fields_again total (requirements record_kinds.Full flags) fields rest met (values_each fields values)
+  pub kind_asked : (record_kind : RecordKind) (flags : List Bool) (fields : RecordFields A) → satisfy (requirements record_kind flags) fields ≡ true → asked_record (requirements record_kind flags) fields ≡ written record_kind fields
+  kind_asked record_kinds.Full flags fields met = all_asked record_kinds.Full of_full flags fields met
+  kind_asked record_kinds.Keyed flags fields met = all_asked record_kinds.Keyed of_keyed flags fields met
+  kind_asked record_kinds.KeyAlone flags fields met = keys_asked flags fields met
+
+  pub asked_again : (total : ℕ) (requirements : List FieldRequirement) (fields : RecordFields A) (bytes rest : List ℕ) → satisfy requirements fields ≡ true → AreValues fields → asked_record requirements fields ≡ bytes
+      → record_at total requirements (bytes ++ rest) ≡ Ok (fields, rest)
+  asked_again total requirements fields bytes rest met values same =
+      ap (λ (b : List ℕ). record_at total requirements (b ++ rest)) (sym same) ∙ fields_again total requirements fields rest met (each_of fields values)
 
   pub keyed_again : (total : ℕ) (flags : List Bool) (fields : RecordFields A) (rest : List ℕ) → satisfy (requirements record_kinds.Keyed flags) fields ≡ true → AreValues fields → record_at total (requirements record_kinds.Keyed flags) (record_bytes fields ++ rest) ≡ Ok (fields, rest)
-  keyed_again total flags fields rest met values =
-      ap (λ (bytes : List ℕ). record_at total (requirements record_kinds.Keyed flags) (bytes ++ rest)) (sym (all_asked record_kinds.Keyed of_keyed flags fields met))
-      ∙ fields_again total (requirements record_kinds.Keyed flags) fields rest met (values_each fields values)
-
-  pub key_again : (total : ℕ) (flags : List Bool) (fields : RecordFields A) (rest : List ℕ) → satisfy (requirements record_kinds.KeyAlone flags) fields ≡ true → AreValues fields → record_at total (requirements record_kinds.KeyAlone flags) (key_bytes fields ++ rest) ≡ Ok (fields, rest)
-  key_again total flags fields rest met values =
-      ap (λ (bytes : List ℕ). record_at total (requirements record_kinds.KeyAlone flags) (bytes ++ rest)) (sym (keys_asked flags fields met))
-      ∙ fields_again total (requirements record_kinds.KeyAlone flags) fields rest met (values_each fields values)
-
-  pub new_again : (total : ℕ) (flags : List Bool) (old new : RecordFields A) (rest : List ℕ) → satisfy (new_requirements flags old) new ≡ true → AreValues new → record_at total (new_requirements flags old) (record_bytes new ++ rest) ≡ Ok (new, rest)
-  new_again total flags old new rest met values =
-      ap (λ (bytes : List ℕ). record_at total (new_requirements flags old) (bytes ++ rest)) (sym (new_asked flags old new met))
-      ∙ fields_again total (new_requirements flags old) new rest met (values_each new values)
+  keyed_again total flags fields rest met values = asked_again total (requirements record_kinds.Keyed flags) fields (record_bytes fields) rest met values (kind_asked record_kinds.Keyed flags fields met)

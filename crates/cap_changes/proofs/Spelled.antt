@@ -12,11 +12,13 @@ use Rattle.cap_field.specs.Reading.{◌>>=◌, place, byte_at}
 use Rattle.cap_changes.specs.Field.{field_bytes}
 use Rattle.cap_field.specs.FieldReading.{number_at, sized_at, text_at}
 use Rattle.cap_changes.specs.FieldReading.{allows, content_at, typed_at, field_at}
+use Rattle.cap_changes.specs.HasValues.{AreValues}
 use Rattle.cap_changes.specs.RecordReading.{record_at}
 use Rattle.cap_field.proofs.Binds.{bind_ok, guard_ok, chosen, ok_is}
 use Rattle.cap_changes.proofs.FitLemmas.{five}
 use Rattle.cap_changes.proofs.FieldAgain.{asked_bytes}
 use Rattle.cap_changes.proofs.RecordAgain.{asked_record}
+use Rattle.cap_changes.proofs.ValueLemmas.{values_of}
 use Rattle.cap_field.proofs.Spelled.{AreLow, low_behind, number_spelled, sized_spelled, text_spelled}
 
 -- ---- fields
@@ -72,10 +74,7 @@ module _ {A : Type 0} where
   pub field_spelled : (total : ℕ) (requirement : FieldRequirement) (bytes : List ℕ) (x : Option (Value A) × List ℕ) → AreLow bytes → field_at total requirement bytes ≡ Ok x → IsAskedField requirement bytes x
   unfolding field_at
   field_spelled total required.Omitted bytes x low e = subst (IsAskedField required.Omitted bytes) (ok_is (None, bytes) x e) (refl, tt)
-  field_spelled total required.Key bytes x low e = present_spelled total required.Key bytes x low e
-  field_spelled total required.Defined bytes x low e = present_spelled total required.Defined bytes x low e
-  field_spelled total required.Any bytes x low e = present_spelled total required.Any bytes x low e
-  field_spelled total required.Undefined bytes x low e = present_spelled total required.Undefined bytes x low e
+  field_spelled total requirement bytes x low e = present_spelled total requirement bytes x low e
 
   -- ---- records
 
@@ -92,3 +91,9 @@ module _ {A : Type 0} where
       let others = record_spelled total requirements b.0.1 c.0 (low_behind bytes (asked_bytes requirement b.0.0) b.0.1 field.0 low) c.1 in
       subst (IsAskedRecord (requirement ∷ requirements) bytes) (ok_is (b.0.0 ∷ c.0.0, c.0.1) x c.2)
       (field.0 ∙ ap (λ (r : List ℕ). asked_bytes requirement b.0.0 ++ r) others.0 ∙ sym (append_assoc (asked_bytes requirement b.0.0) (asked_record requirements c.0.0) c.0.1), (field.1, others.1))
+
+  pub as_values : (total : ℕ) (requirements : List FieldRequirement) (bytes : List ℕ) (x : RecordFields A × List ℕ) (written : List ℕ) → AreLow bytes → record_at total requirements bytes ≡ Ok x
+      → asked_record requirements x.0 ≡ written → AreValues x.0 × (bytes ≡ written ++ x.1)
+  as_values total requirements bytes x written low e same =
+      let asked = record_spelled total requirements bytes x low e in
+      (values_of x.0 asked.1, asked.0 ∙ ap (λ (front : List ℕ). front ++ x.1) same)

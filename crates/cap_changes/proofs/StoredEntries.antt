@@ -6,9 +6,8 @@ use Rattle.std.specs.List.{AllByRecursion, flat_map}
 use Rattle.std.proofs.lemmas.List.{take-append-le, drop-append-le, take-append-drop, drop-drop, take_all, drop_all, length-take-le}
 use Rattle.std.proofs.lemmas.List.Elements.{All-from_recursion}
 use Rattle.std.proofs.Math.Seq.{drop-append_seam, take-append_seam}
-use Rattle.cap_row.specs.Schema.{has_key}
 use Rattle.cap_changes.specs.Entries.{TableEntries}
-use Rattle.cap_changes.specs.Stored.{part, start_of, end_of, IsEntry, entries_of, AreEntries}
+use Rattle.cap_changes.specs.Stored.{part, start_of, end_of, IsEntry, entries_of, AreEntries, IsKept}
 
 pub part_before : (start end : ℕ) (bytes more : List ℕ) → start ≤ end → end ≤ length bytes → part start end (bytes ++ more) ≡ part start end bytes
 part_before start end bytes more le within =
@@ -21,9 +20,6 @@ part_behind bytes piece =
     ap (take (length (bytes ++ piece) - length bytes)) (drop-append_seam bytes piece)
     ∙ take_all (length (bytes ++ piece) - length bytes) piece (omega (arith, length-append bytes piece))
 
-split_at : (n : ℕ) (xs : List ℕ) → xs ≡ take n xs ++ drop n xs
-split_at n xs = sym (take-append-drop n xs)
-
 -- what `extend_from_slice` leaves
 pub extended : {E : Type 0} (result : Result (Unit {0}) E) (old more new : List ℕ) → new ≡ if is_ok result then old ++ more else old → OnOk result (new ≡ old ++ more) × OnErr result (IsPrefix old new)
 extended (Ok u) old more new is = (is, tt)
@@ -32,7 +28,7 @@ extended (Err e) old more new is = (tt, ([], append-nil old ∙ sym is))
 -- a part, and what is behind it
 pub parts_of : (start end : ℕ) (bytes : List ℕ) → start ≤ end → drop start bytes ≡ part start end bytes ++ drop end bytes
 parts_of start end bytes le =
-    split_at (end - start) (drop start bytes) ∙ ap (λ (r : List ℕ). part start end bytes ++ r) (drop-drop (end - start) start bytes ∙ ap (λ (n : ℕ). drop n bytes) (omega arith))
+    sym (take-append-drop (end - start) (drop start bytes)) ∙ ap (λ (r : List ℕ). part start end bytes ++ r) (drop-drop (end - start) start bytes ∙ ap (λ (n : ℕ). drop n bytes) (omega arith))
 
 module _ {C : Type 0} (fits_in : List Bool → C → Bool) (has_values : C → Type 0) (bytes_of : C → List ℕ) (stored : List Bool → List ℕ → C) (flags : List Bool) where
   abbrev Are : List ℕ → ℕ → List ℕ → Type 0
@@ -88,19 +84,15 @@ module _ {C : Type 0} (fits_in : List Bool → C → Bool) (has_values : C → T
 
   -- ---- what is known of each
 
-  fit : (bytes : List ℕ) (start : ℕ) (ends : List ℕ) → Are bytes start ends → AllByRecursion (λ x. IsTrue (fits_in flags x)) (entries_of stored flags bytes start ends)
-  fit bytes start [] are = tt
-  fit bytes start (end ∷ ends) are = (are.2.fits, fit bytes end ends are.3)
+  each : (P : C → Type 0) → ((piece : List ℕ) → Is piece → P (stored flags piece)) → (bytes : List ℕ) (start : ℕ) (ends : List ℕ) → Are bytes start ends → AllByRecursion P (entries_of stored flags bytes start ends)
+  each P one bytes start [] are = tt
+  each P one bytes start (end ∷ ends) are = (one (part start end bytes) are.2, each P one bytes end ends are.3)
 
   pub all_fit : (bytes : List ℕ) (start : ℕ) (ends : List ℕ) → Are bytes start ends → All (λ x. IsTrue (fits_in flags x)) (entries_of stored flags bytes start ends)
-  all_fit bytes start ends are = All-from_recursion (λ x. IsTrue (fits_in flags x)) (entries_of stored flags bytes start ends) (fit bytes start ends are)
-
-  values : (bytes : List ℕ) (start : ℕ) (ends : List ℕ) → Are bytes start ends → AllByRecursion has_values (entries_of stored flags bytes start ends)
-  values bytes start [] are = tt
-  values bytes start (end ∷ ends) are = (are.2.values, values bytes end ends are.3)
+  all_fit bytes start ends are = All-from_recursion (λ x. IsTrue (fits_in flags x)) (entries_of stored flags bytes start ends) (each (λ x. IsTrue (fits_in flags x)) (λ piece is. is.fits) bytes start ends are)
 
   pub all_values : (bytes : List ℕ) (start : ℕ) (ends : List ℕ) → Are bytes start ends → All has_values (entries_of stored flags bytes start ends)
-  all_values bytes start ends are = All-from_recursion has_values (entries_of stored flags bytes start ends) (values bytes start ends are)
+  all_values bytes start ends are = All-from_recursion has_values (entries_of stored flags bytes start ends) (each has_values (λ piece is. is.values) bytes start ends are)
 
   spelled_from : (bytes : List ℕ) (start : ℕ) (ends : List ℕ) → Are bytes start ends → drop start bytes ≡ flat_map bytes_of (entries_of stored flags bytes start ends) ++ drop (end_of start ends) bytes
   spelled_from bytes start [] are = refl
@@ -180,17 +172,17 @@ module _ {C : Type 0} (fits_in : List Bool → C → Bool) (has_values : C → T
     (seen : ◌≡◌ {A = TableEntries C} (record { table = table; schema = schema; changes = entries_of stored schema bytes 0 ends }) old) where
   -- what is left of a group of which the first entries are kept
   pub record Kept (new_bytes new_ends : List ℕ) : Type 0 where
-    pub keeps : IsTrue (has_key schema) × AreEntries fits_in has_values bytes_of stored schema new_bytes 0 new_ends × (end_of 0 new_ends ≡ length new_bytes)
+    pub keeps : IsKept fits_in has_values bytes_of stored schema new_bytes new_ends
     pub is : ◌≡◌ {A = TableEntries C} (record { table = table; schema = schema; changes = entries_of stored schema new_bytes 0 new_ends }) (record { table = old.table; schema = old.schema; changes = take count old.changes })
 
-  pub first_kept : (cut : ℕ) (new_bytes new_ends : List ℕ) → IsTrue (has_key schema) × AreEntries fits_in has_values bytes_of stored schema bytes 0 ends × (end_of 0 ends ≡ length bytes) → count < length ends
+  pub first_kept : (cut : ℕ) (new_bytes new_ends : List ℕ) → IsKept fits_in has_values bytes_of stored schema bytes ends → count < length ends
       → cut ≡ start_of 0 ends count → new_ends ≡ take count ends → new_bytes ≡ take cut bytes → Kept new_bytes new_ends
   first_kept cut new_bytes new_ends stands lt is ends_are bytes_are =
-      let first = are_first fits_in has_values bytes_of stored schema cut count bytes 0 ends stands.1 lt is in
-      let bounds = cut_within fits_in has_values bytes_of stored schema count bytes 0 ends stands.1 lt in
+      let first = are_first fits_in has_values bytes_of stored schema cut count bytes 0 ends stands.each lt is in
+      let bounds = cut_within fits_in has_values bytes_of stored schema count bytes 0 ends stands.each lt in
       let long : length (take cut bytes) ≡ cut = length-take-le cut bytes (omega (arith, is, bounds.1)) in
       subst (λ (e : List ℕ). Kept new_bytes e) (sym ends_are) (subst (λ (b : List ℕ). Kept b (take count ends)) (sym bytes_are) (record {
-        keeps = (stands.0, first.are, first.end ∙ sym long);
+        keeps = record { keyed = stands.keyed; each = first.are; end = first.end ∙ sym long };
         is = (λ i. record { table = table; schema = schema; changes = first.entries i }) ∙ ap (λ (t : TableEntries C). record { table = t.table; schema = t.schema; changes = take count t.changes }) seen;
       }))
 
@@ -218,43 +210,44 @@ module _ {C : Type 0} (fits_in : List Bool → C → Bool) (has_values : C → T
   none_at flags bytes start (end ∷ ends) zero le = absurd (omega arith)
   none_at flags bytes start (end ∷ ends) (suc place) le = none_at flags bytes end ends place (omega arith)
 
-  -- ---- a group
+-- ---- a group
 
-  abbrev pub Seen : List ℕ → List Bool → List ℕ → List ℕ → TableEntries C
-  Seen table schema bytes ends = record { table = table; schema = schema; changes = entries_of stored schema bytes 0 ends }
+abbrev pub Seen : {C : Type 0} → (List Bool → List ℕ → C) → List ℕ → List Bool → List ℕ → List ℕ → TableEntries C
+Seen stored table schema bytes ends = record { table = table; schema = schema; changes = entries_of stored schema bytes 0 ends }
 
-  abbrev pub Keeps : List Bool → List ℕ → List ℕ → Type 0
-  Keeps schema bytes ends = IsTrue (has_key schema) × AreEntries fits_in has_values bytes_of stored schema bytes 0 ends × (end_of 0 ends ≡ length bytes)
-
+module _ {C : Type 0} (fits_in : List Bool → C → Bool) (has_values : C → Type 0) (bytes_of : C → List ℕ) (stored : List Bool → List ℕ → C) where
   -- what a call leaves that appends an entry, or answers an error
   pub record Leaves {E : Type 0} (result : Result (Unit {0}) E) (table : List ℕ) (schema : List Bool) (new new_ends : List ℕ) (before : TableEntries C) (entry : C) : Type 0 where
-    pub keeps : Keeps schema new new_ends
-    pub ok : OnOk result (Seen table schema new new_ends ≡ record before { changes = before.changes ++ entry ∷ [] })
-    pub err : OnErr result (Seen table schema new new_ends ≡ before)
+    pub keeps : IsKept fits_in has_values bytes_of stored schema new new_ends
+    pub ok : OnOk result (Seen stored table schema new new_ends ≡ record before { changes = before.changes ++ entry ∷ [] })
+    pub err : OnErr result (Seen stored table schema new new_ends ≡ before)
 
-  ended_on : {E : Type 0} (result : Result (Unit {0}) E) (table : List ℕ) (schema : List Bool) (old ends piece new new_ends : List ℕ) (before : TableEntries C) (entry : C) → Keeps schema old ends → Seen table schema old ends ≡ before
-      → IsEntry fits_in has_values bytes_of schema (stored schema piece) piece → stored schema piece ≡ entry → new ≡ old ++ piece → new_ends ≡ ends ++ length new ∷ [] → Leaves {E = E} (Ok tt) table schema new new_ends before entry
-  ended_on result table schema old ends piece new new_ends before entry keeps seen is entry_is new_is ends_are =
-      let a = appended fits_in has_values bytes_of stored schema old ends piece new new_ends before.changes entry keeps.1 keeps.2 (ap (λ (t : TableEntries C). t.changes) seen) is entry_is new_is ends_are in record {
-        keeps = (keeps.0, a.are, a.end);
+taken_off : (old mid : List ℕ) (n : ℕ) → n ≡ length old → IsPrefix old mid → take n mid ≡ old
+taken_off old mid n is (rest, so) = rw (is, ← so) (take-append_seam old rest)
+
+module _ {C : Type 0} {fits_in : List Bool → C → Bool} {has_values : C → Type 0} {bytes_of : C → List ℕ} {stored : List Bool → List ℕ → C} where
+  ended_on : (E : Type 0) {table : List ℕ} {schema : List Bool} {old ends piece new new_ends : List ℕ} {before : TableEntries C} {entry : C} → IsKept fits_in has_values bytes_of stored schema old ends → Seen stored table schema old ends ≡ before
+      → IsEntry fits_in has_values bytes_of before.schema (stored before.schema piece) piece → stored before.schema piece ≡ entry → new ≡ old ++ piece → new_ends ≡ ends ++ length new ∷ []
+      → Leaves fits_in has_values bytes_of stored {E = E} (Ok tt) table schema new new_ends before entry
+  ended_on E {table = table} {schema = schema} {old = old} {ends = ends} {piece = piece} {new = new} {new_ends = new_ends} {before = before} {entry = entry} keeps seen is entry_is new_is ends_are =
+      let columns : before.schema ≡ schema = sym (ap (λ (t : TableEntries C). t.schema) seen) in
+      let a = appended fits_in has_values bytes_of stored schema old ends piece new new_ends before.changes entry keeps.each keeps.end (ap (λ (t : TableEntries C). t.changes) seen)
+      (subst (λ (s : List Bool). IsEntry fits_in has_values bytes_of s (stored s piece) piece) columns is) (ap (λ (s : List Bool). stored s piece) (sym columns) ∙ entry_is) new_is ends_are in record {
+        keeps = record { keyed = keeps.keyed; each = a.are; end = a.end };
         ok = ap (λ (xs : List C). record { table = table; schema = schema; changes = xs }) a.entries ∙ ap (λ (t : TableEntries C). record t { changes = before.changes ++ entry ∷ [] }) seen;
         err = tt;
       }
 
-  kept_on : {E : Type 0} (e : E) (table : List ℕ) (schema : List Bool) (old ends new new_ends : List ℕ) (before : TableEntries C) (entry : C) → Keeps schema old ends → Seen table schema old ends ≡ before → new ≡ old → new_ends ≡ ends
-      → Leaves (Err e) table schema new new_ends before entry
-  kept_on e table schema old ends new new_ends before entry keeps seen new_is ends_are = rw (new_is, ends_are) (record { keeps = keeps; ok = tt; err = seen })
+  kept_on : {E : Type 0} (e : E) {table : List ℕ} {schema : List Bool} {old ends new new_ends : List ℕ} {before : TableEntries C} (entry : C) → IsKept fits_in has_values bytes_of stored schema old ends → Seen stored table schema old ends ≡ before
+      → new ≡ old → new_ends ≡ ends → Leaves fits_in has_values bytes_of stored (Err e) table schema new new_ends before entry
+  kept_on e entry keeps seen new_is ends_are = rw (new_is, ends_are) (record { keeps = keeps; ok = tt; err = seen })
 
-  taken_off : (old mid : List ℕ) (n : ℕ) → n ≡ length old → IsPrefix old mid → take n mid ≡ old
-  taken_off old mid n is (rest, so) = rw (is, ← so) (take-append_seam old rest)
-
-  pub leaves : {E : Type 0} (result pushed : Result (Unit {0}) E) (table : List ℕ) (schema : List Bool) (old ends piece mid new new_ends : List ℕ) (n : ℕ) (before : TableEntries C) (entry : C) → Keeps schema old ends → Seen table schema old ends ≡ before
-      → IsEntry fits_in has_values bytes_of schema (stored schema piece) piece → stored schema piece ≡ entry → n ≡ length old → OnOk pushed (mid ≡ old ++ piece) → OnErr pushed (IsPrefix old mid)
-      → OnOk result ((pushed ≡ Ok tt) × (new ≡ mid) × (new_ends ≡ ends ++ length mid ∷ [])) → OnErr result ((new ≡ take n mid) × (new_ends ≡ ends)) → Leaves result table schema new new_ends before entry
-  leaves (Ok u) (Ok v) table schema old ends piece mid new new_ends n before entry keeps seen is entry_is n_is put begun ok err =
-      ended_on (Ok u) table schema old ends piece new new_ends before entry keeps seen is entry_is (ok.1 ∙ put) (ok.2 ∙ ap (λ (b : List ℕ). ends ++ length b ∷ []) (sym ok.1))
-  leaves (Ok u) (Err e) table schema old ends piece mid new new_ends n before entry keeps seen is entry_is n_is put begun ok err = absurd (let wrong = ok.0 in cc)
-  leaves (Err e) (Ok v) table schema old ends piece mid new new_ends n before entry keeps seen is entry_is n_is put begun ok err =
-      kept_on e table schema old ends new new_ends before entry keeps seen (err.0 ∙ taken_off old mid n n_is (piece, sym put)) err.1
-  leaves (Err e) (Err f) table schema old ends piece mid new new_ends n before entry keeps seen is entry_is n_is put begun ok err =
-      kept_on e table schema old ends new new_ends before entry keeps seen (err.0 ∙ taken_off old mid n n_is begun) err.1
+  pub leaves : {E : Type 0} (result pushed : Result (Unit {0}) E) {table : List ℕ} {schema : List Bool} {old ends piece : List ℕ} (mid new new_ends : List ℕ) {n : ℕ} {before : TableEntries C} {entry : C} → IsKept fits_in has_values bytes_of stored schema old ends
+      → Seen stored table schema old ends ≡ before → IsEntry fits_in has_values bytes_of before.schema (stored before.schema piece) piece → stored before.schema piece ≡ entry → n ≡ length old → OnOk pushed (mid ≡ old ++ piece) → OnErr pushed (IsPrefix old mid)
+      → OnOk result ((pushed ≡ Ok tt) × (new ≡ mid) × (new_ends ≡ ends ++ length mid ∷ [])) → OnErr result ((new ≡ take n mid) × (new_ends ≡ ends)) → Leaves fits_in has_values bytes_of stored result table schema new new_ends before entry
+  leaves {E = E} (Ok u) (Ok v) {ends = ends} mid new new_ends keeps seen is entry_is n_is put begun ok err =
+      ended_on E keeps seen is entry_is (ok.1 ∙ put) (ok.2 ∙ ap (λ (b : List ℕ). ends ++ length b ∷ []) (sym ok.1))
+  leaves (Ok u) (Err e) mid new new_ends keeps seen is entry_is n_is put begun ok err = absurd (let wrong = ok.0 in cc)
+  leaves (Err e) (Ok v) {old = old} {piece = piece} mid new new_ends {n = n} {entry = entry} keeps seen is entry_is n_is put begun ok err =
+      kept_on e entry keeps seen (err.0 ∙ taken_off old mid n n_is (piece, sym put)) err.1
+  leaves (Err e) (Err f) {old = old} mid new new_ends {n = n} {entry = entry} keeps seen is entry_is n_is put begun ok err = kept_on e entry keeps seen (err.0 ∙ taken_off old mid n n_is begun) err.1

@@ -10,7 +10,7 @@ use Rattle.cap_field.specs.FieldReading.{value_at}
 use Rattle.cap_field.proofs.FieldAgain.{value_again}
 use Rattle.cap_row.specs.Encoding.{BeginsWith}
 use Rattle.cap_row.specs.Fields.{Fields}
-use Rattle.cap_changes.specs.Change.{full_record, is_modified, old_field, new_field}
+use Rattle.cap_changes.specs.Change.{full_record, is_modified, old_field, new_field, side_record}
 use Rattle.cap_changes.specs.Column.{by_column}
 use Rattle.cap_changes.specs.Field.{record_bytes, field_bytes}
 use Rattle.cap_changes.proofs.PutLemmas.{goes_on}
@@ -43,30 +43,26 @@ module _ {A : Type 0} where
   choose true field = refl
   choose false field = refl
 
-  -- the old and the new field of a column, by the bytes of its fields
-  pub old_by_bytes : (key kept : Bool) (a b : Value A) → IsValue a → IsValue b → kept ≡ (key || (not key && not (bytes_eq (value_bytes a) (value_bytes b)))) → cond kept (value_bytes a) (0 ∷ []) ≡ field_bytes (old_field key a b)
-  old_by_bytes key kept a b p q is =
-      ap (λ (t : Bool). cond t (value_bytes a) (0 ∷ [])) (is ∙ ap (λ (t : Bool). key || t) (modified_by_bytes key a b p q)) ∙ choose (key || is_modified key a b) (Some a)
+  -- the field of a column in the old record, or in the new one
+  abbrev pub side_field : Bool → Bool → Value A → Value A → Option (Value A)
+  side_field true key image now = old_field key image now
+  side_field false key image now = new_field key image now
 
-  pub new_by_bytes : (key modified : Bool) (a b : Value A) → IsValue a → IsValue b → modified ≡ (not key && not (bytes_eq (value_bytes a) (value_bytes b))) → cond modified (value_bytes b) (0 ∷ []) ≡ field_bytes (new_field key a b)
-  new_by_bytes key modified a b p q is =
-      ap (λ (t : Bool). cond t (value_bytes b) (0 ∷ [])) (is ∙ modified_by_bytes key a b p q) ∙ choose (is_modified key a b) (Some b)
+  pub side_is : (old : Bool) (flags : List Bool) (image now : Fields A) → by_column (side_field old) flags image now ≡ side_record old flags image now
+  side_is true flags image now = refl
+  side_is false flags image now = refl
 
-  -- ---- the loop
+  -- by the bytes of its fields
+  side_by_bytes : (old key : Bool) (a b : Value A) → IsValue a → IsValue b
+      → cond ((old && key) || (not key && not (bytes_eq (value_bytes a) (value_bytes b)))) (cond old (value_bytes a) (value_bytes b)) (0 ∷ []) ≡ field_bytes (side_field old key a b)
+  side_by_bytes true key a b p q = ap (λ (t : Bool). cond (key || t) (value_bytes a) (0 ∷ [])) (modified_by_bytes key a b p q) ∙ choose (key || is_modified key a b) (Some a)
+  side_by_bytes false key a b p q = ap (λ (t : Bool). cond t (value_bytes b) (0 ∷ [])) (modified_by_bytes key a b p q) ∙ choose (is_modified key a b) (Some b)
 
   -- one column more, by the bytes of its fields
-  pub old_goes_on : (flags : List Bool) (i : ℕ) (image now image' now' : List (Value A)) (was is : List ℕ) (kept : Bool) (out new all : List ℕ) → i < length flags
-      → out ++ record_bytes (by_column old_field (drop i flags) image now) ≡ all → BeginsWith image was image' → BeginsWith now is now'
-      → kept ≡ (get_or flags i false || (not (get_or flags i false) && not (bytes_eq was is))) → new ≡ out ++ cond kept was (0 ∷ [])
-      → new ++ record_bytes (by_column old_field (drop (i + 1) flags) image' now') ≡ all
-  old_goes_on flags i image now image' now' was is kept out new all lt so (a, ia, (wa, p)) (b, ib, (wb, q)) kept_is new_is =
-      goes_on old_field flags i image now image' now' a b out new all lt so ia ib
-      (new_is ∙ ap (λ (r : List ℕ). out ++ r) (ap (λ (r : List ℕ). cond kept r (0 ∷ [])) wa ∙ old_by_bytes (get_or flags i false) kept a b p q (rw (wa, wb) at kept_is)))
-
-  pub new_goes_on : (flags : List Bool) (i : ℕ) (image now image' now' : List (Value A)) (was is : List ℕ) (modified : Bool) (out new all : List ℕ) → i < length flags
-      → out ++ record_bytes (by_column new_field (drop i flags) image now) ≡ all → BeginsWith image was image' → BeginsWith now is now'
-      → modified ≡ (not (get_or flags i false) && not (bytes_eq was is)) → new ≡ out ++ cond modified is (0 ∷ [])
-      → new ++ record_bytes (by_column new_field (drop (i + 1) flags) image' now') ≡ all
-  new_goes_on flags i image now image' now' was is modified out new all lt so (a, ia, (wa, p)) (b, ib, (wb, q)) modified_is new_is =
-      goes_on new_field flags i image now image' now' a b out new all lt so ia ib
-      (new_is ∙ ap (λ (r : List ℕ). out ++ r) (ap (λ (r : List ℕ). cond modified r (0 ∷ [])) wb ∙ new_by_bytes (get_or flags i false) modified a b p q (rw (wa, wb) at modified_is)))
+  pub side_goes_on : (old : Bool) (flags : List Bool) (i : ℕ) (image now image' now' : List (Value A)) (was is : List ℕ) (out new all : List ℕ) → i < length flags
+      → out ++ record_bytes (by_column (side_field old) (drop i flags) image now) ≡ all → BeginsWith image was image' → BeginsWith now is now'
+      → new ≡ out ++ cond ((old && get_or flags i false) || (not (get_or flags i false) && not (bytes_eq was is))) (cond old was is) (0 ∷ [])
+      → new ++ record_bytes (by_column (side_field old) (drop (i + 1) flags) image' now') ≡ all
+  side_goes_on old flags i image now image' now' was is out new all lt so (a, ia, (wa, p)) (b, ib, (wb, q)) new_is =
+      goes_on (side_field old) flags i image now image' now' a b out new all lt so ia ib
+      (new_is ∙ ap (λ (r : List ℕ). out ++ r) (rw (wa, wb) (side_by_bytes old (get_or flags i false) a b p q)))

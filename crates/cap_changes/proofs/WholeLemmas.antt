@@ -3,7 +3,7 @@ use Rattle.std.proofs.Common.{◌≡◌, ℕ, List, [], ◌∷◌, ◌++◌, Boo
 use Rattle.std.specs.List.{list_all}
 use Rattle.cap_value.specs.Bytes.{bytes_eq}
 use Rattle.cap_value.specs.declared.value.Value.{Value}
-use Rattle.cap_value.specs.declared.value.Value.TheVariants.{Null, Int, Text, Blob}
+use Rattle.cap_value.specs.declared.value.Value.TheVariants.{Null}
 use Rattle.cap_field.specs.Field.{value_bytes, values_bytes}
 use Rattle.cap_row.specs.Encoding as rows
 use Rattle.cap_row.specs.Encoding.{AreValues, Encodes}
@@ -18,9 +18,7 @@ module _ {A : Type 0} where
   -- a field with the byte of an undefined one is undefined
   not_undefined : (value : Value A) → bytes_eq (value_bytes value) (0 ∷ []) ≡ true → ⊥
   not_undefined Null e = cc
-  not_undefined (Int n) e = cc
-  not_undefined (Text t) e = cc
-  not_undefined (Blob b) e = cc
+  not_undefined value e = cc
 
   pub undefined : (field : Option (Value A)) (bytes : List ℕ) → bytes ≡ field_bytes field → bytes_eq bytes (0 ∷ []) ≡ true → field ≡ None
   undefined None bytes is same = refl

@@ -1,6 +1,6 @@
 -- The change of one touched key, by its first image and its row now (The Session Extension,
 -- "sqlite3session_changeset").
-use Rattle.std.specs.Prelude.{◌≡◌, Bool, List, Option, Some, None, length, map, IsSome, not}
+use Rattle.std.specs.Prelude.{◌≡◌, Bool, true, false, List, Option, Some, None, length, map, IsSome, not}
 use Rattle.std.specs.Prelude.{◌&&◌, ◌||◌, if◌then◌else◌}
 use Rattle.cap_value.specs.declared.value.Value.{Value}
 use Rattle.cap_value.specs.Value.{value_eq}
@@ -36,6 +36,11 @@ module _ {A : Type 0} where
   -- the modified fields, as they are now
   abbrev pub new_field : Bool → Value A → Value A → Option (Value A)
   new_field key image now = if is_modified key image now then Some now else None
+
+  -- the old record of an UPDATE, or the new one
+  abbrev pub side_record : Bool → List Bool → Fields A → Fields A → RecordFields A
+  side_record true flags image now = by_column old_field flags image now
+  side_record false flags image now = by_column new_field flags image now
 
   abbrev pub change_of : List Bool → Bool → Option (Fields A) → Option (Fields A) → Option (RowChange A)
   change_of flags indirect None None = None

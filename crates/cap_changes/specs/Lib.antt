@@ -5,6 +5,7 @@ pub mod Entries
 pub mod Fits
 pub mod Group
 pub mod Invert
+pub mod Made
 pub mod Patch
 pub mod PatchGroup
 pub mod FieldRecord

@@ -4,6 +4,7 @@ use Rattle.std.specs.List.{zip}
 use Rattle.cap_changes.specs.Column.{by_column}
 use Rattle.cap_changes.specs.FieldRecord.{RecordFields}
 use Rattle.cap_changes.specs.Group.{TableChanges}
+use Rattle.cap_changes.specs.Made.{group_of, list_of}
 use Rattle.cap_changes.specs.PatchGroup.{TablePatches}
 use Rattle.cap_changes.specs.declared.row_change.RowChange.{RowChange}
 use Rattle.cap_changes.specs.declared.row_change.RowChange.TheVariants as changed
@@ -26,11 +27,7 @@ module _ {A : Type 0} where
 
   -- the patch of each change, in the same order
   abbrev pub patches_of : TableChanges A → TablePatches A
-  patches_of group = record {
-    table = group.table;
-    schema = group.schema;
-    changes = map (patch_of group.schema) group.changes;
-  }
+  patches_of group = group_of patch_of group
 
   abbrev pub patch_list_of : List (TableChanges A) → List (TablePatches A)
-  patch_list_of groups = map patches_of groups
+  patch_list_of groups = list_of patch_of groups

@@ -1,6 +1,7 @@
 -- The entries of a group as their bytes, one after another.
 use Rattle.std.specs.Prelude.{◌≡◌, ℕ, zero, suc, ◌-◌, ◌≤◌, Bool, List, [], ◌∷◌, ◌++◌, length, take, drop, IsTrue, Result, Ok}
 use Rattle.cap_field.specs.declared.fault.BlobFault.{BlobFault}
+use Rattle.cap_row.specs.Schema.{has_key}
 use Rattle.cap_changes.specs.ChangeBytes.{flag_byte}
 use Rattle.cap_changes.specs.Operation.{operation_byte}
 use Rattle.cap_changes.specs.declared.operation.Operation.{Operation}
@@ -43,6 +44,15 @@ module _ {C : Type 0} where
       (start ≤ end) × (end ≤ length bytes)
       × IsEntry fits_in has_values bytes_of flags (stored flags (part start end bytes)) (part start end bytes)
       × AreEntries fits_in has_values bytes_of stored flags bytes end ends
+
+-- what a group keeps: key flags, a key column among them, and the bytes of its entries, which end at these
+-- places
+pub record IsKept {C : Type 0} (fits_in : List Bool → C → Bool) (has_values : C → Type 0)
+    (bytes_of : C → List ℕ) (stored : List Bool → List ℕ → C) (flags : List Bool)
+    (bytes ends : List ℕ) : Type 0 where
+  pub keyed : IsTrue (has_key flags)
+  pub each : AreEntries fits_in has_values bytes_of stored flags bytes 0 ends
+  pub end : end_of 0 ends ≡ length bytes
 
 -- the bytes of an entry, with its indirect flag as it is written
 abbrev pub normal : List ℕ → List ℕ

@@ -9,15 +9,12 @@ ghost use Rattle.cap_changes.specs.Change as touched;
 ghost use Rattle.cap_changes.specs.ChangeReading.{changes_at, with_changes};
 ghost use Rattle.cap_changes.specs.Entries.{AllFit, IsFitting};
 ghost use Rattle.cap_changes.specs.Fits.{change_fits};
-ghost use Rattle.cap_changes.specs.Invert.{inverse_of};
-ghost use Rattle.cap_changes.specs.Patch.{patch_of};
 ghost use Rattle.cap_changes.specs.Stored.{IsEntry, normal};
 ghost use Rattle.cap_changes.specs.Touched.{is_changed};
 
 use crate::entries::start_at;
-use crate::inverse::push_inverse;
+use crate::made::Made;
 use crate::operation::Operation;
-use crate::patches::push_patch;
 use crate::touched::{are_values, push_change};
 use crate::{Entries, Entry, EntryRef, Patch, RowChange};
 use cap_field::BlobFault;
@@ -45,10 +42,8 @@ pub struct TableGroup<C: Entry, A: AllocHandle> {
 }
 
 impl<C: Entry, A: AllocHandle> Model for TableGroup<C, A> {
-    ghost use Rattle.std.specs.Prelude.{IsTrue, length, ◌≡◌};
-    ghost use Rattle.cap_row.specs.Schema.{has_key};
     ghost use Rattle.cap_changes.specs.Entries.{TableEntries};
-    ghost use Rattle.cap_changes.specs.Stored.{entries_of, AreEntries, end_of};
+    ghost use Rattle.cap_changes.specs.Stored.{entries_of, IsKept};
 
     ghost Value = { TableEntries C };
 
@@ -58,9 +53,8 @@ impl<C: Entry, A: AllocHandle> Model for TableGroup<C, A> {
       changes = entries_of C.stored g.schema g.bytes.items 0 g.ends.items;
     } };
 
-    ghost invariant = { λ g. IsTrue (has_key g.schema)
-        × AreEntries C.fits_in C.has_values C.bytes_of C.stored g.schema g.bytes.items 0 g.ends.items
-        × (end_of 0 g.ends.items ≡ length g.bytes.items) };
+    ghost invariant = { λ g. IsKept C.fits_in C.has_values C.bytes_of C.stored
+        g.schema g.bytes.items g.ends.items };
 }
 
 impl<C: Entry, A: AllocHandle> TableGroup<C, A> {
@@ -261,42 +255,24 @@ impl<A: AllocHandle> TableGroup<RowChange<A>, A> {
         let pushed = push_change(&mut self.bytes, &self.schema, indirect, image, now);
         end(&mut self.bytes, &mut self.ends, before, pushed)
     }
-
-    // Appends the inverse of a change.
-    pub(crate) fn push_inverse(
-        &mut self,
-        change: &EntryRef<'_, RowChange<A>>,
-    ) -> Result<(), OutOfMemory>
-        requires { IsTrue (change_fits self.old.schema change.now) }
-        ensures { OnOk result (self.new ≡ record self.old {
-          changes = self.old.changes
-              ++ inverse_of self.old.schema change.now ∷ [];
-        }) }
-    {
-        // For the proof: a clause of `as_bytes` says that the fields are values.
-        let _bytes = change.as_bytes();
-        let before = self.bytes.len();
-        let pushed = push_inverse(&mut self.bytes, self.schema.flags(), change.read());
-        end(&mut self.bytes, &mut self.ends, before, pushed)
-    }
 }
 
-impl<A: AllocHandle> TableGroup<Patch<A>, A> {
-    // Appends the patch of a change.
-    pub(crate) fn push_patch(
+impl<C: Made<A>, A: AllocHandle> TableGroup<C, A> {
+    // Appends what is made of a change.
+    pub(crate) fn push_made(
         &mut self,
         change: &EntryRef<'_, RowChange<A>>,
     ) -> Result<(), OutOfMemory>
         requires { IsTrue (change_fits self.old.schema change.now) }
         ensures { OnOk result (self.new ≡ record self.old {
           changes = self.old.changes
-              ++ patch_of self.old.schema change.now ∷ [];
+              ++ C.made self.old.schema change.now ∷ [];
         }) }
     {
-        // For the proof: a clause of `as_bytes` says that the fields are values.
-        let _bytes = change.as_bytes();
+        // For the proof: what is made of it fits the columns.
+        C::made_again(self.schema.flags(), change);
         let before = self.bytes.len();
-        let pushed = push_patch(&mut self.bytes, self.schema.flags(), change.read());
+        let pushed = C::push_made(&mut self.bytes, self.schema.flags(), change);
         end(&mut self.bytes, &mut self.ends, before, pushed)
     }
 }

@@ -12,6 +12,7 @@ mod field_requirement;
 mod group;
 mod inverse;
 mod list;
+mod made;
 mod operation;
 mod pass;
 mod patch;

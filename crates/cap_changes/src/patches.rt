@@ -1,17 +1,15 @@
 //! The patchset of a changeset.
 ghost use mathlib.Core.List.{IsPrefix};
 ghost use Rattle.std.specs.Prelude.{◌≡◌, ◌++◌, IsTrue, IfOk, OnErr, OnOk};
-ghost use Rattle.cap_changes.specs.ChangeBytes.{patch_bytes};
-ghost use Rattle.cap_changes.specs.ChangeRef.{change_of};
 ghost use Rattle.cap_changes.specs.Field.{record_bytes, key_bytes};
-ghost use Rattle.cap_changes.specs.Fits.{change_fits};
 ghost use Rattle.cap_changes.specs.Patch as made;
 ghost use Rattle.cap_changes.specs.Requirements.{requirements, satisfy};
 ghost use Rattle.cap_changes.specs.declared.record_kind.RecordKind.TheVariants.{Full};
 
 use crate::bytes::{push_operation, push_record};
+use crate::made::{Made, made_list};
 use crate::operation::Operation;
-use crate::{ChangeList, ChangeRef, Group, PatchGroup, PatchList, RecordRef};
+use crate::{ChangeList, ChangeRef, EntryRef, Patch, PatchList, RecordRef, RowChange};
 use cap_value::{AllocHandle, OutOfMemory};
 
 /// The patchset of a changeset: an insert is unchanged, an update keeps the key fields and the new values of
@@ -22,47 +20,38 @@ pub fn to_patches<A: AllocHandle>(
 ) -> Result<PatchList<A>, OutOfMemory>
     ensures { IfOk result (λ patches. patches ≡ made.patch_list_of list.now) }
 {
-    let mut patches = PatchList::new(alloc);
-    for group in list.groups() {
-        patches.push(patches_of(alloc, group)?)?;
-    }
-    Ok(patches)
+    made_list(alloc, list)
 }
 
-fn patches_of<A: AllocHandle>(alloc: A, group: &Group<A>) -> Result<PatchGroup<A>, OutOfMemory>
-    ensures { IfOk result (λ patches. patches ≡ made.patches_of group.now) }
-{
-    let mut patches = PatchGroup::new(alloc, group.table().copy()?, group.schema().copy()?);
-    for change in group.changes() {
-        patches.push_patch(&change)?;
-    }
-    Ok(patches)
-}
+impl<A: AllocHandle> Made<A> for Patch<A> {
+    ghost use Rattle.cap_changes.specs.Patch.{patch_of};
 
-// Appends the patch of a change.
-pub(crate) fn push_patch<A: AllocHandle>(
-    out: &mut Vec<u8, A>,
-    flags: &[bool],
-    change: ChangeRef<'_, A>,
-) -> Result<(), OutOfMemory>
-    requires { IsTrue (change_fits flags.now (change_of change)) }
-    ensures bytes { OnOk result (out.new.items
-        ≡ out.old.items ++ patch_bytes (made.patch_of flags.now (change_of change.entry))) }
-    ensures begins { OnErr result (IsPrefix out.old.items out.new.items) }
-{
-    match change {
-        ChangeRef::Insert { indirect, new } => {
-            push_operation(out, Operation::Insert, indirect)?;
-            push_record(out, new)
+    ghost made = { λ flags change. patch_of flags change };
+
+    fn push_made(
+        out: &mut Vec<u8, A>,
+        flags: &[bool],
+        change: &EntryRef<'_, RowChange<A>>,
+    ) -> Result<(), OutOfMemory> {
+        match change.read() {
+            ChangeRef::Insert { indirect, new } => {
+                push_operation(out, Operation::Insert, indirect)?;
+                push_record(out, new)
+            }
+            ChangeRef::Update { indirect, old, new } => {
+                push_operation(out, Operation::Update, indirect)?;
+                push_update_record(out, flags, old, new)
+            }
+            ChangeRef::Delete { indirect, old } => {
+                push_operation(out, Operation::Delete, indirect)?;
+                push_key_fields(out, flags, old)
+            }
         }
-        ChangeRef::Update { indirect, old, new } => {
-            push_operation(out, Operation::Update, indirect)?;
-            push_update_record(out, flags, old, new)
-        }
-        ChangeRef::Delete { indirect, old } => {
-            push_operation(out, Operation::Delete, indirect)?;
-            push_key_fields(out, flags, old)
-        }
+    }
+
+    fn made_again(_flags: &[bool], change: &EntryRef<'_, RowChange<A>>) {
+        // A clause of `as_bytes` says that the fields are values.
+        let _bytes = change.as_bytes();
     }
 }
 

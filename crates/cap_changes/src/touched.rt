@@ -7,7 +7,6 @@ ghost use Rattle.std.specs.Option.{option_copied, ForSome};
 ghost use Rattle.cap_value.specs.Bytes.{bytes_eq};
 ghost use Rattle.cap_row.specs.Encoding.{AreValues};
 ghost use Rattle.cap_changes.specs.Change as touched;
-ghost use Rattle.cap_changes.specs.Column.{by_column};
 ghost use Rattle.cap_changes.specs.ChangeBytes.{change_bytes};
 ghost use Rattle.cap_changes.specs.Field.{record_bytes};
 ghost use Rattle.cap_changes.specs.Touched.{is_changed};
@@ -89,8 +88,8 @@ pub(crate) fn push_change<A: AllocHandle>(
         }
         (Some(image), Some(now)) => {
             push_operation(out, Operation::Update, indirect)?;
-            push_old(out, schema.flags(), image.fields(), now.fields())?;
-            push_new(out, schema.flags(), image.fields(), now.fields())
+            push_side(out, schema.flags(), true, image.fields(), now.fields())?;
+            push_side(out, schema.flags(), false, image.fields(), now.fields())
         }
     }
 }
@@ -104,15 +103,17 @@ fn push_row<A: AllocHandle>(out: &mut Vec<u8, A>, row: &Row<A>) -> Result<(), Ou
     row.write_to(out)
 }
 
-// Appends the old record of an update: the key fields and the modified fields, as they were.
-fn push_old<A: AllocHandle>(
+// Appends the old record of an update, the key fields and the modified fields as they were, or the new one,
+// the modified fields as they are now.
+fn push_side<A: AllocHandle>(
     out: &mut Vec<u8, A>,
     flags: &[bool],
+    old: bool,
     image: RowFields<'_, A>,
     now: RowFields<'_, A>,
 ) -> Result<(), OutOfMemory>
     ensures bytes { OnOk result (out.new.items ≡ out.old.items
-        ++ record_bytes (by_column touched.old_field flags.now image.entry now.entry)) }
+        ++ record_bytes (touched.side_record old flags.now image.entry now.entry)) }
     ensures begins { OnErr result (IsPrefix out.old.items out.new.items) }
 {
     let mut image = image;
@@ -121,31 +122,7 @@ fn push_old<A: AllocHandle>(
         let (Some(was), Some(is)) = (image.next_field(), now.next_field()) else {
             return Ok(());
         };
-        let kept = is_kept(*key, was, is);
-        push_if(out, kept, was)?;
-    }
-    Ok(())
-}
-
-// Appends the new record of an update: the modified fields, as they are now.
-fn push_new<A: AllocHandle>(
-    out: &mut Vec<u8, A>,
-    flags: &[bool],
-    image: RowFields<'_, A>,
-    now: RowFields<'_, A>,
-) -> Result<(), OutOfMemory>
-    ensures bytes { OnOk result (out.new.items ≡ out.old.items
-        ++ record_bytes (by_column touched.new_field flags.now image.entry now.entry)) }
-    ensures begins { OnErr result (IsPrefix out.old.items out.new.items) }
-{
-    let mut image = image;
-    let mut now = now;
-    for key in flags {
-        let (Some(was), Some(is)) = (image.next_field(), now.next_field()) else {
-            return Ok(());
-        };
-        let modified = is_modified(*key, was, is);
-        push_if(out, modified, is)?;
+        push_field(out, old, *key, was, is)?;
     }
     Ok(())
 }
@@ -158,26 +135,22 @@ fn is_modified(key: bool, was: &[u8], is: &[u8]) -> bool
     !key && was != is
 }
 
-// Whether the old record has the field.
+// Appends the field of a column in the old or the new record, by its bytes as they were and as they are.
 #[inline(always)]
-fn is_kept(key: bool, was: &[u8], is: &[u8]) -> bool
-    ensures { result ≡ (key || (not key && not (bytes_eq was.now is.now))) }
-{
-    key || is_modified(key, was, is)
-}
-
-// Appends a field, or an undefined one.
-#[inline(always)]
-fn push_if<A: AllocHandle>(
+fn push_field<A: AllocHandle>(
     out: &mut Vec<u8, A>,
-    defined: bool,
-    field: &[u8],
+    old: bool,
+    key: bool,
+    was: &[u8],
+    is: &[u8],
 ) -> Result<(), OutOfMemory>
-    ensures bytes { OnOk result (out.new.items ≡ out.old.items ++ (if defined then field.now else 0 ∷ [])) }
+    ensures bytes { OnOk result (out.new.items ≡ out.old.items
+        ++ (if old && key || (not key && not (bytes_eq was.now is.now))
+        then (if old then was.now else is.now) else 0 ∷ [])) }
     ensures begins { OnErr result (IsPrefix out.old.items out.new.items) }
 {
-    if defined {
-        out.extend_from_slice(field)?;
+    if old && key || is_modified(key, was, is) {
+        out.extend_from_slice(if old { was } else { is })?;
     } else {
         out.push(UNDEFINED)?;
     }

@@ -1,5 +1,5 @@
 use Rattle.std.proofs.Common.{◌∙◌, arith}
-use Rattle.cap_changes.proofs.SplitLemmas.{is_field, one_more, at_end, within, apart}
+use Rattle.cap_changes.proofs.StoredRecord.{is_field, one_more, at_end, within, apart}
 use Rattle.cap_changes.proofs.entry_ref.split_record.Goals as goal
 
 pub stored_field-requires : goal.stored_field-requires

@@ -1,4 +1,4 @@
-use Rattle.cap_changes.proofs.SplitLemmas.{Passed}
+use Rattle.cap_changes.proofs.StoredRecord.{Passed}
 use Rattle.cap_changes.proofs.entry_ref.split_record.Given as goal
 
 abbrev pub invariant-loop-column : goal.invariant-loop-column

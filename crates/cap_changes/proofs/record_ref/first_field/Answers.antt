@@ -1,6 +1,6 @@
 use Rattle.std.proofs.Common.{arith}
 use Rattle.cap_field.proofs.Spelled.{are_low}
-use Rattle.cap_changes.proofs.SplitLemmas.{no_more_behind}
+use Rattle.cap_changes.proofs.StoredRecord.{no_more_behind}
 use Rattle.cap_changes.proofs.record_ref.first_field.Goals as goal
 
 pub slice_bounds-result-count : goal.slice_bounds-result-count

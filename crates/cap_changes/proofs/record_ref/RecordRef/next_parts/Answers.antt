@@ -1,6 +1,6 @@
 use Rattle.std.proofs.Common.{◌∙◌, refl, sym, ap}
 use Rattle.std.specs.Option.{option_copied}
-use Rattle.cap_changes.proofs.PartsLemmas.{whole_ends, whole_first, whole_left, whole_parts, undefined_left, undefined_parts, key_first, key_parts, keyed_view}
+use Rattle.cap_changes.proofs.StoredRecord.{whole_ends, whole_first, whole_left, whole_parts, undefined_left, undefined_parts, key_first, key_parts, keyed_view}
 use Rattle.cap_changes.proofs.record_ref.RecordRef.next_parts.Goals as goal
 
 pub returns-then-is_empty : goal.returns-then-is_empty

@@ -1,0 +1,414 @@
+-- The grammar of a change, of a changeset and of a patchset alike: an operation byte, the indirect flag, and the
+-- records of the operation.
+use Rattle.std.proofs.Common.{◌≡◌, ℕ, Bool, true, false, ◌&&◌, List, [], ◌∷◌, ◌++◌, IsTrue, Result, Ok, Err, refl, sym, ap, subst, ◌∙◌, append_assoc, ◌≤◌, length, arith, inl, inr, ◌==◌, ◌||◌, append-nil, if◌then◌else◌, ◌⊎◌}
+use Rattle.std.proofs.lemmas.Bool.{and_parts, and_from, cases_Bool, eqb-true}
+use Rattle.cap_field.specs.declared.fault.BlobFault.{BlobFault}
+use Rattle.cap_field.specs.Reading.{◌>>=◌, byte_at, Reads}
+use Rattle.cap_field.proofs.Binds.{bind_ok, ok_is}
+use Rattle.cap_field.proofs.Spelled.{AreLow, low_behind}
+use Rattle.cap_changes.specs.ChangeBytes.{flag_byte, change_bytes, patch_bytes}
+use Rattle.cap_changes.specs.ChangeReading.{is_set, patch_kind, change_at, patch_at, stored_change, stored_patch, behind}
+use Rattle.cap_changes.specs.Field.{record_bytes}
+use Rattle.cap_changes.specs.FieldRecord.{RecordFields}
+use Rattle.cap_changes.specs.Fits.{change_fits, patch_fits}
+use Rattle.cap_changes.specs.HasValues.{AreValues, HasValues, PatchHasValues}
+use Rattle.cap_changes.specs.Operation.{operation_byte, is_operation}
+use Rattle.cap_changes.specs.RecordReading.{record_at, value_in, old_in}
+use Rattle.cap_changes.specs.Requirements.{requirements, new_requirements, satisfy}
+use Rattle.cap_changes.specs.Spelling.{SpellsOperation, SpellsRecords, SpellsPatchRecord}
+use Rattle.cap_changes.specs.declared.operation.Operation.{Operation}
+use Rattle.cap_changes.specs.declared.operation.Operation.TheVariants as operations
+use Rattle.cap_changes.specs.declared.record_kind.RecordKind.{RecordKind}
+use Rattle.cap_changes.specs.declared.record_kind.RecordKind.TheVariants.{Full, Keyed}
+use Rattle.cap_changes.specs.declared.row_change.RowChange.{RowChange}
+use Rattle.cap_changes.specs.declared.row_change.RowChange.TheVariants as changed
+use Rattle.cap_changes.specs.declared.patch.Patch.{Patch}
+use Rattle.cap_changes.specs.declared.patch.Patch.TheVariants as patched
+use Rattle.cap_changes.proofs.FitLemmas.{record_meets}
+use Rattle.cap_changes.proofs.RecordAgain.{written, kind_asked, new_asked, asked_again}
+use Rattle.cap_changes.proofs.Spelled.{as_values}
+use Rattle.cap_changes.specs.Stored.{normal, IsEntry, IsPassed, StartsEntry}
+use Rattle.std.specs.Prelude.{IfOk}
+use Rattle.cap_changes.proofs.PassLemmas.{behind_made, read_of, fault_of}
+
+-- one record of a kind, or the old record of an UPDATE and the new one, whose requirements depend on it
+pub data Form : Type 0 where
+  one : RecordKind → Form
+  both : Form
+
+module _ (A : Type 0) where
+  abbrev pub Records : Form → Type 0
+  Records (one record_kind) = RecordFields A
+  Records both = RecordFields A × RecordFields A
+
+  abbrev pub records_fit : (form : Form) → List Bool → Records form → Bool
+  records_fit (one record_kind) flags fields = satisfy (requirements record_kind flags) fields
+  records_fit both flags records = satisfy (requirements Keyed flags) records.0 && satisfy (new_requirements flags records.0) records.1
+
+  abbrev pub HaveValues : (form : Form) → Records form → Type 0
+  HaveValues (one record_kind) fields = AreValues fields
+  HaveValues both records = AreValues records.0 × AreValues records.1
+
+  abbrev pub records_bytes : (form : Form) → Records form → List ℕ
+  records_bytes (one record_kind) fields = written record_kind fields
+  records_bytes both records = record_bytes records.0 ++ record_bytes records.1
+
+  abbrev pub beside : RecordFields A → Result (RecordFields A × List ℕ) BlobFault → Result ((RecordFields A × RecordFields A) × List ℕ) BlobFault
+  beside old new = new >>= (λ x. Ok ((old, x.0), x.1))
+
+  abbrev pub records_at : (form : Form) → ℕ → List Bool → List ℕ → Result (Records form × List ℕ) BlobFault
+  records_at (one record_kind) total flags bytes = record_at total (requirements record_kind flags) bytes
+  records_at both total flags bytes = record_at total (requirements Keyed flags) bytes >>= (λ old. beside old.0 (record_at total (new_requirements flags old.0) old.1))
+
+  -- ---- records are read as what their bytes spell, and what was read is spelled by the bytes
+
+  pub records_again : (form : Form) (total : ℕ) (flags : List Bool) (records : Records form) (rest : List ℕ) → records_fit form flags records ≡ true → HaveValues form records
+      → records_at form total flags (records_bytes form records ++ rest) ≡ Ok (records, rest)
+  records_again (one record_kind) total flags fields rest met values =
+      asked_again total (requirements record_kind flags) fields (written record_kind fields) rest met values (kind_asked record_kind flags fields met)
+  records_again both total flags (old, new) rest met values =
+      let parts = and_parts (satisfy (requirements Keyed flags) old) (satisfy (new_requirements flags old) new) met in
+      rw (
+        append_assoc (record_bytes old) (record_bytes new) rest,
+        asked_again total (requirements Keyed flags) old (record_bytes old) (record_bytes new ++ rest) parts.0 values.0 (kind_asked Keyed flags old parts.0),
+        asked_again total (new_requirements flags old) new (record_bytes new) rest parts.1 values.1 (new_asked flags old new parts.1),
+      ) refl
+
+  -- what was read has the fields that are required, which are values
+  pub record AreSpelled (form : Form) (flags : List Bool) (bytes : List ℕ) (x : Records form × List ℕ) : Type 0 where
+    pub fit : records_fit form flags x.0 ≡ true
+    pub values : HaveValues form x.0
+    pub parts : bytes ≡ records_bytes form x.0 ++ x.1
+
+  pub records_spelled : (form : Form) (total : ℕ) (flags : List Bool) (bytes : List ℕ) (x : Records form × List ℕ) → AreLow bytes → records_at form total flags bytes ≡ Ok x → AreSpelled form flags bytes x
+  records_spelled (one record_kind) total flags bytes x low e =
+      let met = record_meets total (requirements record_kind flags) bytes x e in
+      let is = as_values total (requirements record_kind flags) bytes x (written record_kind x.0) low e (kind_asked record_kind flags x.0 met) in
+      record { fit = met; values = is.0; parts = is.1 }
+  records_spelled both total flags bytes x low e =
+      let old = bind_ok (record_at total (requirements Keyed flags) bytes) (λ old. beside old.0 (record_at total (new_requirements flags old.0) old.1)) x e in
+      let new = bind_ok (record_at total (new_requirements flags old.0.0) old.0.1) (λ new. Ok ((old.0.0, new.0), new.1)) x old.2 in
+      let met = record_meets total (requirements Keyed flags) bytes old.0 old.1 in
+      let met' = record_meets total (new_requirements flags old.0.0) old.0.1 new.0 new.1 in
+      let first = as_values total (requirements Keyed flags) bytes old.0 (record_bytes old.0.0) low old.1 (kind_asked Keyed flags old.0.0 met) in
+      let second = as_values total (new_requirements flags old.0.0) old.0.1 new.0 (record_bytes new.0.0) (low_behind bytes (record_bytes old.0.0) old.0.1 first.1 low) new.1 (new_asked flags old.0.0 new.0.0 met') in
+      subst (AreSpelled both flags bytes) (ok_is ((old.0.0, new.0.0), new.0.1) x new.2) (record {
+        fit = and_from (satisfy (requirements Keyed flags) old.0.0) _ met met';
+        values = (first.0, second.0);
+        parts = first.1 ∙ ap (λ (b : List ℕ). record_bytes old.0.0 ++ b) second.1 ∙ sym (append_assoc (record_bytes old.0.0) (record_bytes new.0.0) new.0.1);
+      })
+
+  -- the change of two records that are read together
+  together : {C : Type 0} (old : Result (RecordFields A × List ℕ) BlobFault) (new_at : RecordFields A → List ℕ → Result (RecordFields A × List ℕ) BlobFault) (make : RecordFields A → RecordFields A → C)
+      → ◌≡◌ {A = Result (C × List ℕ) BlobFault} (old >>= (λ x. new_at x.0 x.1 >>= (λ y. Ok (make x.0 y.0, y.1))))
+      ((old >>= (λ x. beside x.0 (new_at x.0 x.1))) >>= (λ x. Ok (make x.0.0 x.0.1, x.1)))
+  together (Err f) new_at make = refl
+  together {C} (Ok x) new_at make = of_new (new_at x.0 x.1)
+    where
+      of_new : (new : Result (RecordFields A × List ℕ) BlobFault) → ◌≡◌ {A = Result (C × List ℕ) BlobFault} (new >>= (λ y. Ok (make x.0 y.0, y.1))) (beside x.0 new >>= (λ x. Ok (make x.0.0 x.0.1, x.1)))
+      of_new (Ok y) = refl
+      of_new (Err f) = refl
+
+  -- ---- two records that are passed
+
+  pub old_fails : (total : ℕ) (flags : List Bool) (first : List ℕ) (f : BlobFault) → behind (record_at {A = A} total (requirements Keyed flags) first) ≡ Err f → behind (records_at both total flags first) ≡ Err f
+  old_fails total flags first f wrong = let old = fault_of (record_at {A = A} total (requirements Keyed flags) first) f wrong in rw old refl
+
+  pub new_behind : (total : ℕ) (flags : List Bool) (first new : List ℕ) → behind (record_at {A = A} total (requirements Keyed flags) first) ≡ Ok new
+      → behind (records_at both total flags first) ≡ behind (record_at {A = A} total (new_requirements flags (old_in A total flags first)) new)
+  new_behind total flags first new known =
+      let (old, is) = read_of (record_at {A = A} total (requirements Keyed flags) first) new known in
+      rw is (behind_made _ (record_at {A = A} total (new_requirements flags old) new))
+
+-- ---- a change by its records
+
+pub flag_again : (b : Bool) → is_set (flag_byte b) ≡ b
+flag_again true = refl
+flag_again false = refl
+
+module _ (A : Type 0) {C : Type 0} (fits : List Bool → C → Bool) (values : C → Type 0) (bytes_of : C → List ℕ) (spells : C → List ℕ → Type 0) where
+  -- a change has this operation, this flag and these records
+  pub record Has (operation : Operation) (indirect : Bool) (form : Form) (records : Records A form) (change : C) : Type 0 where
+    pub fit : (flags : List Bool) → fits flags change ≡ records_fit A form flags records
+    pub valued : HaveValues A form records → values change
+    pub have_values : values change → HaveValues A form records
+    pub bytes : bytes_of change ≡ operation_byte operation ∷ flag_byte indirect ∷ records_bytes A form records
+    pub spelled : (given : List ℕ) → spells change given → SpellsOperation (operation_byte operation) indirect (records_bytes A form records) given
+    pub spelling : (given : List ℕ) → SpellsOperation (operation_byte operation) indirect (records_bytes A form records) given → spells change given
+
+  -- the changes of one kind of blob: which records each operation has, and the change of them
+  pub record Grammar (one_at : ℕ → List Bool → ℕ → List ℕ → Result (C × List ℕ) BlobFault) (stored : List Bool → List ℕ → C) : Type 0 where
+    pub form : Operation → Form
+    pub make : (operation : Operation) → Bool → Records A (form operation) → C
+    pub has : (operation : Operation) (indirect : Bool) (records : Records A (form operation)) → Has operation indirect (form operation) records (make operation indirect records)
+    pub each : (change : C) → (operation : Operation) × (indirect : Bool) × (records : Records A (form operation)) × (make operation indirect records ≡ change)
+    pub read : (total : ℕ) (flags : List Bool) (operation : Operation) (bytes : List ℕ)
+        → one_at total flags (operation_byte operation) bytes ≡ byte_at total bytes >>= (λ flag. records_at A (form operation) total flags flag.1 >>= (λ x. Ok (make operation (is_set flag.0) x.0, x.1)))
+    pub other : C
+    pub keeps : (flags : List Bool) (op : ℕ) (bytes : List ℕ) → stored flags (op ∷ bytes) ≡ value_in other (one_at 0 flags op bytes)
+
+pub operation_is : (operation : Operation) → is_operation (operation_byte operation) ≡ true
+operation_is operations.Insert = refl
+operation_is operations.Update = refl
+operation_is operations.Delete = refl
+
+pub third : (a b c : Bool) → (a || b || c) ≡ true → a ≡ false → b ≡ false → c ≡ true
+third false false c e p q = e
+third a b c e p q = absurd cc
+
+is_known : (op : ℕ) → is_operation op ≡ true → (operation : Operation) × (operation_byte operation ≡ op)
+is_known op is = elim (cases_Bool (op == 0x12)) [
+  | inl insert ↦ (operations.Insert, sym (eqb-true op 0x12 insert))
+  | inr no_insert ↦ elim (cases_Bool (op == 0x17)) [
+    | inl update ↦ (operations.Update, sym (eqb-true op 0x17 update))
+    | inr no_update ↦ (operations.Delete, sym (eqb-true op 0x09 (third (op == 0x12) (op == 0x17) (op == 0x09) is no_insert no_update)))
+  ]
+]
+
+-- an operation byte and these bytes begin with one, and with what is left
+abbrev pub Begins : {X : Type 0} → (X → List ℕ → Type 0) → ℕ → List ℕ → X × List ℕ → Type 0
+Begins spells op bytes x = (front : List ℕ) × (bytes ≡ front ++ x.1) × spells x.0 (op ∷ front)
+
+-- the bytes as they are written, and that the flag is there
+written_back : (op op' : ℕ) (indirect : Bool) (records front : List ℕ) → SpellsOperation op indirect records (op' ∷ front) → (normal (op' ∷ front) ≡ op ∷ flag_byte indirect ∷ records) × (1 ≤ length front)
+written_back op op' indirect records [] (flag, set, parts) = absurd cc
+written_back op op' indirect records (byte ∷ front) (flag, set, parts) = (ap normal parts ∙ ap (λ (b : Bool). op ∷ flag_byte b ∷ records) set, omega arith)
+
+-- the parts of an entry
+abbrev pub Parts : Operation → Bool → List ℕ → List ℕ → Type 0
+Parts operation indirect records bytes = bytes ≡ operation_byte operation ∷ flag_byte indirect ∷ records
+
+-- the operation of a byte that begins a change
+abbrev operation_of : ℕ → Operation
+operation_of byte = if byte == 0x12 then operations.Insert else (if byte == 0x17 then operations.Update else operations.Delete)
+
+operation_again : (operation : Operation) → operation_of (operation_byte operation) ≡ operation
+operation_again operations.Insert = refl
+operation_again operations.Update = refl
+operation_again operations.Delete = refl
+
+module _ {A C : Type 0} {fits : List Bool → C → Bool} {values : C → Type 0} {bytes_of : C → List ℕ} {spells : C → List ℕ → Type 0}
+    {one_at : ℕ → List Bool → ℕ → List ℕ → Result (C × List ℕ) BlobFault} {stored : List Bool → List ℕ → C} (g : Grammar A fits values bytes_of spells one_at stored) where
+  -- what holds of each change that is made holds of every one
+  pub by_records : (P : C → Type 0) → ((operation : Operation) (indirect : Bool) (records : Records A (g.form operation)) → P (g.make operation indirect records)) → (change : C) → P change
+  by_records P made change = let (operation, indirect, records, is) = g.each change in subst P is (made operation indirect records)
+
+  abbrev pub Spells : List Bool → C → List ℕ → Type 0
+  Spells flags change given = IsTrue (fits flags change) × values change × spells change given
+
+  pub written_so : (flags : List Bool) (change : C) → IsTrue (fits flags change) → values change → Spells flags change (bytes_of change)
+  written_so flags change fit valued =
+      (fit, valued, by_records (λ c. spells c (bytes_of c)) (λ operation indirect records. let is = g.has operation indirect records in is.spelling _ (flag_byte indirect, flag_again indirect, is.bytes)) change)
+
+  -- ---- read again, whatever follows
+
+  abbrev Again : ℕ → List Bool → C → List ℕ → Type 0
+  Again total flags change front =
+      (op : ℕ) × (behind : List ℕ) × (front ≡ op ∷ behind) × (is_operation op ≡ true) × ((rest : List ℕ) → one_at total flags op (behind ++ rest) ≡ Ok (change, rest))
+
+  made_again : (total : ℕ) (flags : List Bool) (front : List ℕ) (operation : Operation) (indirect : Bool) (records : Records A (g.form operation))
+      → Spells flags (g.make operation indirect records) front → Again total flags (g.make operation indirect records) front
+  made_again total flags front operation indirect records (fit, valued, spelled) =
+      let is = g.has operation indirect records in
+      let (flag, marked, parts) = is.spelled front spelled in (
+        operation_byte operation,
+        flag ∷ records_bytes A (g.form operation) records,
+        parts,
+        operation_is operation,
+        λ rest.
+            g.read total flags operation (flag ∷ (records_bytes A (g.form operation) records ++ rest))
+            ∙ rw (records_again A (g.form operation) total flags records rest (sym (is.fit flags) ∙ fit) (is.have_values valued), marked) refl,
+      )
+
+  pub again : (total : ℕ) (flags : List Bool) (change : C) (front : List ℕ) → Spells flags change front → Again total flags change front
+  again total flags change front = by_records (λ c. Spells flags c front → Again total flags c front) (made_again total flags front) change
+
+  -- ---- spelled by the bytes that were read
+
+  pub operation_spelled : (total : ℕ) (flags : List Bool) (operation : Operation) (bytes : List ℕ) (x : C × List ℕ) → AreLow bytes → one_at total flags (operation_byte operation) bytes ≡ Ok x → Begins (Spells flags) (operation_byte operation) bytes x
+  operation_spelled total flags operation [] x low e = absurd (cc (sym (g.read total flags operation []) ∙ e))
+  operation_spelled total flags operation (flag ∷ bytes) x low e =
+      let read = bind_ok (records_at A (g.form operation) total flags bytes) (λ y. Ok (g.make operation (is_set flag) y.0, y.1)) x (sym (g.read total flags operation (flag ∷ bytes)) ∙ e) in
+      let is = records_spelled A (g.form operation) total flags bytes read.0 low.1 read.1 in
+      let has = g.has operation (is_set flag) read.0.0 in
+      subst (Begins (Spells flags) (operation_byte operation) (flag ∷ bytes)) (ok_is (g.make operation (is_set flag) read.0.0, read.0.1) x read.2) (
+        flag ∷ records_bytes A (g.form operation) read.0.0,
+        ap (λ (b : List ℕ). flag ∷ b) is.parts,
+        (has.fit flags ∙ is.fit, has.valued is.values, has.spelling _ (flag, refl, refl)),
+      )
+
+  pub is_spelled : (total : ℕ) (flags : List Bool) (op : ℕ) (bytes : List ℕ) (x : C × List ℕ) → AreLow bytes → is_operation op ≡ true → one_at total flags op bytes ≡ Ok x → Begins (Spells flags) op bytes x
+  is_spelled total flags op bytes x low known =
+      let (operation, is) = is_known op known in
+      subst (λ (o : ℕ). one_at total flags o bytes ≡ Ok x → Begins (Spells flags) o bytes x) is (operation_spelled total flags operation bytes x low)
+
+  -- ---- kept as its bytes
+
+  stored_of : (flags : List Bool) (change : C) (bytes : List ℕ) → Spells flags change bytes → stored flags bytes ≡ change
+  stored_of flags change bytes spelled =
+      let (op, behind, parts, operation, read) = again 0 flags change bytes spelled in
+      ap (stored flags) parts ∙ g.keeps flags op behind ∙ ap (value_in g.other) (ap (one_at 0 flags op) (sym (append-nil behind)) ∙ read [])
+
+  -- the bytes of a change are of just this one
+  pub entry : (flags : List Bool) (change : C) (bytes : List ℕ) → IsTrue (fits flags change) → values change → bytes ≡ bytes_of change → (stored flags bytes ≡ change) × IsEntry fits values bytes_of flags (stored flags bytes) bytes
+  entry flags change bytes fit valued spelled =
+      let same = ap (stored flags) spelled ∙ stored_of flags change (bytes_of change) (written_so flags change fit valued) in
+      (same, subst (λ (x : C). IsEntry fits values bytes_of flags x bytes) (sym same) (record { fits = fit; values = valued; spelled = spelled }))
+
+  given_so : (change : C) (op : ℕ) (front : List ℕ) → spells change (op ∷ front) → (normal (op ∷ front) ≡ bytes_of change) × (1 ≤ length front)
+  given_so change op front =
+      by_records (λ c. spells c (op ∷ front) → (normal (op ∷ front) ≡ bytes_of c) × (1 ≤ length front))
+      (λ operation indirect records spelled.
+      let is = g.has operation indirect records in
+      let so = written_back (operation_byte operation) op indirect (records_bytes A (g.form operation) records) front (is.spelled (op ∷ front) spelled) in
+      (so.0 ∙ sym is.bytes, so.1))
+      change
+
+  -- what was read is passed
+  pub passed : (total : ℕ) (flags : List Bool) (operation : Operation) (given : List ℕ) (x : C × List ℕ) → AreLow given → one_at total flags (operation_byte operation) given ≡ Ok x
+      → IsPassed fits values bytes_of stored one_at total flags (operation_byte operation) given x.1
+  passed total flags operation given x low read =
+      let (front, parts, spelled) = operation_spelled total flags operation given x low read in
+      let so = given_so x.0 (operation_byte operation) front spelled.2 in
+      let is = entry flags x.0 (normal (operation_byte operation ∷ front)) spelled.0 spelled.1 so.0 in
+      record {
+        front = front;
+        parts = parts;
+        some = so.1;
+        read = read ∙ ap (λ (change : C). Ok (change, x.1)) (sym is.0);
+        entry = is.1;
+      }
+
+  -- ---- passed over
+
+  pub no_flag : (total : ℕ) (flags : List Bool) (operation : Operation) (given : List ℕ) (f : BlobFault) → byte_at total given ≡ Err f → behind (one_at total flags (operation_byte operation) given) ≡ Err f
+  no_flag total flags operation given f read = rw (g.read total flags operation given, read) refl
+
+  pub behind_records : (total : ℕ) (flags : List Bool) (operation : Operation) (form : Form) (given first : List ℕ) (flag : ℕ) → g.form operation ≡ form → byte_at total given ≡ Ok (flag, first)
+      → behind (one_at total flags (operation_byte operation) given) ≡ behind (records_at A form total flags first)
+  behind_records total flags operation form given first flag same read =
+      rw (g.read total flags operation given, read) (behind_made (g.make operation (is_set flag)) (records_at A (g.form operation) total flags first))
+      ∙ ap (λ (f : Form). behind (records_at A f total flags first)) same
+
+  entry_passed : {X : Type 0} (view : X → List ℕ) (result : Result X BlobFault) (total : ℕ) (flags : List Bool) (operation : Operation) (given : List ℕ) → AreLow given → Reads view result (behind (one_at total flags (operation_byte operation) given))
+      → IfOk result (λ rest. IsPassed fits values bytes_of stored one_at total flags (operation_byte operation) given (view rest))
+  entry_passed view (Ok rest) total flags operation given low read =
+      let (x, is) = read_of (one_at total flags (operation_byte operation) given) (view rest) read in
+      passed total flags operation given (x, view rest) low is
+  entry_passed view (Err f) total flags operation given low read = tt
+
+  -- where the records are passed, the change is
+  pub record Passes {X : Type 0} (view : X → List ℕ) (result : Result X BlobFault) (total : ℕ) (flags : List Bool) (operation : Operation) (given : List ℕ) : Type 0 where
+    pub reads : Reads view result (behind (one_at total flags (operation_byte operation) given))
+    pub entry : IfOk result (λ rest. IsPassed fits values bytes_of stored one_at total flags (operation_byte operation) given (view rest))
+
+  pub passes : {X : Type 0} (view : X → List ℕ) (result : Result X BlobFault) (total : ℕ) (flags : List Bool) (operation : Operation) (form : Form) (given first : List ℕ) (flag : ℕ) → AreLow given → g.form operation ≡ form → byte_at total given ≡ Ok (flag, first)
+      → Reads view result (behind (records_at A form total flags first)) → Passes view result total flags operation given
+  passes view result total flags operation form given first flag low same read is =
+      let reads = subst (λ (r : Result (List ℕ) BlobFault). Reads view result r) (sym (behind_records total flags operation form given first flag same read)) is in
+      record { reads = reads; entry = entry_passed view result total flags operation given low reads }
+
+  -- ---- taken apart
+
+  pub starts : (flags : List Bool) (change : C) (bytes : List ℕ) → IsEntry fits values bytes_of flags change bytes → StartsEntry bytes
+  starts flags change bytes is =
+      by_records (λ c. bytes ≡ bytes_of c → StartsEntry bytes)
+      (λ operation indirect records spelled. (operation, indirect, records_bytes A (g.form operation) records, spelled ∙ (g.has operation indirect records).bytes))
+      change is.spelled
+
+  -- the change of these bytes, whose operation is known
+  pub record Made (flags : List Bool) (operation : Operation) (indirect : Bool) (bytes : List ℕ) (change : C) : Type 0 where
+    pub records : Records A (g.form operation)
+    pub is : g.make operation indirect records ≡ change
+    pub fit : records_fit A (g.form operation) flags records ≡ true
+    pub valued : HaveValues A (g.form operation) records
+    pub spelled : bytes ≡ records_bytes A (g.form operation) records
+
+  pub made : (flags : List Bool) (change : C) (operation known : Operation) (indirect : Bool) (records bytes : List ℕ) → IsEntry fits values bytes_of flags change bytes → Parts operation indirect records bytes → operation ≡ known
+      → Made flags known indirect records change
+  made flags change operation known indirect records bytes is parts same =
+      by_records (λ c. IsEntry fits values bytes_of flags c bytes → Made flags known indirect records c)
+      (λ o i r entry.
+      let has = g.has o i r in
+      let e : operation_byte operation ∷ flag_byte indirect ∷ records ≡ operation_byte o ∷ flag_byte i ∷ records_bytes A (g.form o) r = sym parts ∙ entry.spelled ∙ has.bytes in
+      let byte : operation_byte operation ≡ operation_byte o = cc in
+      let flag : flag_byte indirect ≡ flag_byte i = cc in
+      let its : records ≡ records_bytes A (g.form o) r = cc in
+      let op : known ≡ o = sym same ∙ sym (operation_again operation) ∙ ap operation_of byte ∙ operation_again o in
+      let marked : indirect ≡ i = sym (flag_again indirect) ∙ ap is_set flag ∙ flag_again i in
+      rw (op, marked, its) (record { records = r; is = refl; fit = sym (has.fit flags) ∙ entry.fits; valued = has.have_values entry.values; spelled = refl }))
+      change is
+
+abbrev pub change_form : Operation → Form
+change_form operations.Insert = one Full
+change_form operations.Update = both
+change_form operations.Delete = one Full
+
+module _ {A : Type 0} where
+  -- ---- of a changeset
+
+  abbrev pub change_of : (operation : Operation) → Bool → Records A (change_form operation) → RowChange A
+  change_of operations.Insert indirect new = changed.Insert indirect new
+  change_of operations.Update indirect records = changed.Update indirect records.0 records.1
+  change_of operations.Delete indirect old = changed.Delete indirect old
+
+  abbrev pub HasRecords : (operation : Operation) → Bool → (form : Form) → Records A form → RowChange A → Type 0
+  HasRecords operation indirect form records change = Has A change_fits HasValues change_bytes SpellsRecords operation indirect form records change
+
+  pub change_has : (operation : Operation) (indirect : Bool) (records : Records A (change_form operation)) → HasRecords operation indirect (change_form operation) records (change_of operation indirect records)
+  change_has operations.Insert indirect new = record { fit = λ flags. refl; valued = λ v. v; have_values = λ v. v; bytes = refl; spelled = λ given s. s; spelling = λ given s. s }
+  change_has operations.Update indirect records = record { fit = λ flags. refl; valued = λ v. v; have_values = λ v. v; bytes = refl; spelled = λ given s. s; spelling = λ given s. s }
+  change_has operations.Delete indirect old = record { fit = λ flags. refl; valued = λ v. v; have_values = λ v. v; bytes = refl; spelled = λ given s. s; spelling = λ given s. s }
+
+  pub change_each : (change : RowChange A) → (operation : Operation) × (indirect : Bool) × (records : Records A (change_form operation)) × (change_of operation indirect records ≡ change)
+  change_each (changed.Insert indirect new) = (operations.Insert, indirect, new, refl)
+  change_each (changed.Update indirect old new) = (operations.Update, indirect, (old, new), refl)
+  change_each (changed.Delete indirect old) = (operations.Delete, indirect, old, refl)
+
+  pub change_read : (total : ℕ) (flags : List Bool) (operation : Operation) (bytes : List ℕ)
+      → change_at total flags (operation_byte operation) bytes ≡ byte_at total bytes >>= (λ flag. records_at A (change_form operation) total flags flag.1 >>= (λ x. Ok (change_of operation (is_set flag.0) x.0, x.1)))
+  unfolding change_at
+  change_read total flags operations.Update (flag ∷ bytes) = together A (record_at total (requirements Keyed flags) bytes) (λ old. record_at total (new_requirements flags old)) (changed.Update (is_set flag))
+  change_read total flags operation bytes = refl
+
+  pub change_keeps : (flags : List Bool) (op : ℕ) (bytes : List ℕ) → stored_change {A = A} flags (op ∷ bytes) ≡ value_in (changed.Delete false []) (change_at 0 flags op bytes)
+  unfolding stored_change
+  change_keeps flags op bytes = refl
+
+  abbrev pub changes : Grammar A (change_fits {A = A}) HasValues change_bytes SpellsRecords change_at stored_change
+  changes = record { form = change_form; make = change_of; has = change_has; each = change_each; read = change_read; other = changed.Delete false []; keeps = change_keeps }
+
+  -- ---- of a patchset
+
+  abbrev pub patch_of : Operation → Bool → RecordFields A → Patch A
+  patch_of operations.Insert indirect new = patched.Insert indirect new
+  patch_of operations.Update indirect new = patched.Update indirect new
+  patch_of operations.Delete indirect key = patched.Delete indirect key
+
+  pub patch_has : (operation : Operation) (indirect : Bool) (fields : RecordFields A) → Has A patch_fits PatchHasValues patch_bytes SpellsPatchRecord operation indirect (one (patch_kind operation)) fields (patch_of operation indirect fields)
+  patch_has operations.Insert indirect new = record { fit = λ flags. refl; valued = λ v. v; have_values = λ v. v; bytes = refl; spelled = λ given s. s; spelling = λ given s. s }
+  patch_has operations.Update indirect new = record { fit = λ flags. refl; valued = λ v. v; have_values = λ v. v; bytes = refl; spelled = λ given s. s; spelling = λ given s. s }
+  patch_has operations.Delete indirect key = record { fit = λ flags. refl; valued = λ v. v; have_values = λ v. v; bytes = refl; spelled = λ given s. s; spelling = λ given s. s }
+
+  pub patch_each : (patch : Patch A) → (operation : Operation) × (indirect : Bool) × (fields : RecordFields A) × (patch_of operation indirect fields ≡ patch)
+  patch_each (patched.Insert indirect new) = (operations.Insert, indirect, new, refl)
+  patch_each (patched.Update indirect new) = (operations.Update, indirect, new, refl)
+  patch_each (patched.Delete indirect key) = (operations.Delete, indirect, key, refl)
+
+  pub patch_read : (total : ℕ) (flags : List Bool) (operation : Operation) (bytes : List ℕ)
+      → patch_at total flags (operation_byte operation) bytes ≡ byte_at total bytes >>= (λ flag. record_at total (requirements (patch_kind operation) flags) flag.1 >>= (λ x. Ok (patch_of operation (is_set flag.0) x.0, x.1)))
+  unfolding patch_at
+  patch_read total flags operations.Insert bytes = refl
+  patch_read total flags operations.Update bytes = refl
+  patch_read total flags operations.Delete bytes = refl
+
+  pub patch_keeps : (flags : List Bool) (op : ℕ) (bytes : List ℕ) → stored_patch {A = A} flags (op ∷ bytes) ≡ value_in (patched.Delete false []) (patch_at 0 flags op bytes)
+  unfolding stored_patch
+  patch_keeps flags op bytes = refl
+
+  abbrev pub patches : Grammar A (patch_fits {A = A}) PatchHasValues patch_bytes SpellsPatchRecord patch_at stored_patch
+  patches = record { form = λ operation. one (patch_kind operation); make = patch_of; has = patch_has; each = patch_each; read = patch_read; other = patched.Delete false []; keeps = patch_keeps }
+
+pub full_form : (operation : Operation) → (operation ≡ operations.Insert) ⊎ (operation ≡ operations.Delete) → change_form operation ≡ one Full
+full_form operation (inl is) = ap change_form is
+full_form operation (inr is) = ap change_form is

@@ -1,0 +1,20 @@
+use Rattle.std.proofs.Common.{◌∙◌, ap, List, Bool}
+use Rattle.cap_changes.specs.Entries.{TableEntries}
+use Rattle.cap_changes.specs.Fits.{change_fits}
+use Rattle.cap_changes.proofs.LeftLemmas.{first_fits, others_fit, image_made}
+use Rattle.cap_changes.proofs.made.made_group.Goals as goal
+
+pub push_made-requires : goal.push_made-requires
+push_made-requires g c =
+    first_fits (change_fits {A = g.row.A.Denot}) c.args.group.now.schema c.loop-change.made.schema c.loop-change.change-iterator c.next.new.self c.in-Some.change c.loop-change.invariant.schema c.in-Some.ensures.steps c.loop-change.invariant.fit
+
+pub loop-change-preserved : goal.loop-change-preserved
+loop-change-preserved g c =
+    let flags = c.args.group.now.schema in
+    record {
+      table = ap (λ (t : TableEntries g.row.C.Denot). t.table) c.in_ok-push_made.ensures ∙ c.loop-change.invariant.table;
+      schema = ap (λ (t : TableEntries g.row.C.Denot). t.schema) c.in_ok-push_made.ensures ∙ c.loop-change.invariant.schema;
+      made = image_made (g.C.Made.made flags) (g.C.Made.made c.loop-change.made.schema) c.loop-change.change-iterator c.next.new.self c.in-Some.change c.loop-change.made.changes c.push_made.new.self.changes _ c.in-Some.ensures.steps
+          (ap (λ (f : List Bool). g.C.Made.made f c.in-Some.change) c.loop-change.invariant.schema) (ap (λ (t : TableEntries g.row.C.Denot). t.changes) c.in_ok-push_made.ensures) c.loop-change.invariant.made;
+      fit = others_fit (change_fits {A = g.row.A.Denot}) flags c.loop-change.change-iterator c.next.new.self c.in-Some.change c.in-Some.ensures.steps c.loop-change.invariant.fit;
+    }
