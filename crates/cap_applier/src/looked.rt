@@ -41,7 +41,8 @@ fn push_rows<C: BlobChange<A>, A: AllocHandle>(
 {
     let (table, columns) = (group.table(), group.schema());
     for change in group.changes() {
-        let key = C::key(&change, alloc, columns)?;
+        let request = C::request(&change, columns);
+        let key = request.key(alloc, columns)?;
         rows.push((table.copy()?, key))?;
     }
     Ok(())

@@ -157,9 +157,10 @@ impl<A: AllocHandle> Progress<A> {
             group.now.schema (C.requested group.now.schema change.now)) }
     {
         let (table, columns) = (group.table(), group.schema());
-        let key = C::key(change, self.alloc, columns)?;
+        let request = C::request(change, columns);
+        let key = request.key(self.alloc, columns)?;
         let row = copy_of(row_under(self.applied.database(), table, &key))?;
-        match C::conflict(change, columns, row.as_ref()) {
+        match request.conflict(columns, row.as_ref()) {
             Some(kind) => Ok(Some(RowConflict {
                 kind,
                 table: table.copy()?,

@@ -1,5 +1,6 @@
 -- One captured change, where its key has the row that was there first.
 use Rattle.std.proofs.Common.{◌≡◌, ℕ, ◌-◌, Bool, true, false, cond, not, ◌&&◌, ◌||◌, Option, Some, None, Ok, List, [], ◌∷◌, ◌++◌, length, map, replicate, refl, sym, ap, subst, ◌∙◌, arith}
+use Rattle.std.specs.Bool.{Decides}
 use Rattle.std.specs.Option.{unwrap_or}
 use Rattle.std.proofs.lemmas.Bool.{and_from}
 use Rattle.std.proofs.lemmas.List.{append-nil, length-map}
@@ -27,6 +28,7 @@ use Rattle.cap_apply.specs.Target.{columns_fit, fitting}
 use Rattle.cap_apply.specs.declared.conflict.ConflictKind.TheVariants.{Data}
 use Rattle.cap_apply.specs.declared.policy.Policy.{Policy}
 use Rattle.cap_apply.proofs.ChangeLemmas.{HasTarget, applied_at}
+use Rattle.cap_apply.proofs.FieldLemmas.{full_values}
 use Rattle.cap_apply.proofs.RowLemmas.{record_key}
 
 -- a table fits its own columns
@@ -40,6 +42,9 @@ same_test true b f g = sym (f refl)
 same_test false true f g = g refl
 same_test false false f g = refl
 
+symmetric : {X : Type 0} (eq : X → X → Bool) → ((a b : X) → Decides (eq a b) (a ≡ b)) → (a b : X) → eq a b ≡ eq b a
+symmetric eq tells a b = same_test (eq a b) (eq b a) (λ e. (tells b a).1 (sym ((tells a b).0 e))) (λ e. (tells a b).1 (sym ((tells b a).0 e)))
+
 or_true : (a b : Bool) → b ≡ true → (a || b) ≡ true
 or_true true b e = refl
 or_true false b e = e
@@ -52,10 +57,6 @@ module _ {A : Type 0} where
   full_key (flag ∷ flags) [] = refl
   full_key (true ∷ flags) (value ∷ row) = ap (λ (k : Fields A). value ∷ k) (full_key flags row)
   full_key (false ∷ flags) (value ∷ row) = full_key flags row
-
-  full_values : (row : Fields A) → map (λ field. unwrap_or field Null) (map Some row) ≡ row
-  full_values [] = refl
-  full_values (value ∷ row) = ap (λ (k : Fields A). value ∷ k) (full_values row)
 
   full_row : (width : ℕ) (row : Fields A) → length row ≡ width → new_row width (full_record row) ≡ row
   full_row width row wide =
@@ -76,14 +77,13 @@ module _ {A : Type 0} where
   between_key : (flags : List Bool) (image now : Fields A) → length image ≡ length flags → length now ≡ length flags →
       key_values flags (update_record flags (by_column old_field flags image now) (by_column new_field flags image now)) ≡ key_fields flags image
   between_key [] image now wide wide' = refl
-  between_key (flag ∷ flags) [] now wide wide' = cc
-  between_key (flag ∷ flags) (old ∷ image) [] wide wide' = cc
   between_key (true ∷ flags) (old ∷ image) (new ∷ now) wide wide' = ap (λ (k : Fields A). old ∷ k) (between_key flags image now (cc) (cc))
   between_key (false ∷ flags) (old ∷ image) (new ∷ now) wide wide' =
       elim (value_eq old new) as (λ b. key_values (false ∷ flags) (cond (not b) (Some new) None ∷ update_record flags (by_column old_field flags image now) (by_column new_field flags image now)) ≡ key_fields flags image) [
         | true ↦ between_key flags image now (cc) (cc)
         | false ↦ between_key flags image now (cc) (cc)
       ]
+  between_key flags image now wide wide' = cc
 
   old_agrees_at : (key same : Bool) (old : Value A) → has_old_value key (cond (key || (not key && not same)) (Some old) None) old ≡ true
   old_agrees_at true same old = refl
@@ -104,15 +104,12 @@ module _ {A : Type 0} where
   between_sets : (flags : List Bool) (image now : Fields A) → length image ≡ length flags → length now ≡ length flags → key_fields flags image ≡ key_fields flags now →
       set_fields (update_record flags (by_column old_field flags image now) (by_column new_field flags image now)) image ≡ now
   between_sets [] [] [] wide wide' keys = refl
-  between_sets [] (old ∷ image) now wide wide' keys = cc
-  between_sets [] [] (new ∷ now) wide wide' keys = cc
-  between_sets (flag ∷ flags) [] now wide wide' keys = cc
-  between_sets (flag ∷ flags) (old ∷ image) [] wide wide' keys = cc
   between_sets (true ∷ flags) (old ∷ image) (new ∷ now) wide wide' keys =
       let firsts : (old ≡ new) × (key_fields flags image ≡ key_fields flags now) = same_first keys in
       λ i. firsts.0 i ∷ between_sets flags image now (cc) (cc) firsts.1 i
   between_sets (false ∷ flags) (old ∷ image) (new ∷ now) wide wide' keys =
       λ i. set_at (value_eq old new) old new (value_eq_decides old new).0 i ∷ between_sets flags image now (cc) (cc) keys i
+  between_sets flags image now wide wide' keys = cc
 
   -- ---- the change of rows under a key
 
@@ -175,28 +172,19 @@ module _ {A : Type 0} where
 
   -- ---- the other way round
 
-  value_eq-symmetric : (a b : Value A) → value_eq a b ≡ value_eq b a
-  value_eq-symmetric a b =
-      same_test (value_eq a b) (value_eq b a) (λ e. (value_eq_decides b a).1 (sym ((value_eq_decides a b).0 e))) (λ e. (value_eq_decides a b).1 (sym ((value_eq_decides b a).0 e)))
-
-  fields_eq-symmetric : (a b : Fields A) → fields_eq a b ≡ fields_eq b a
-  fields_eq-symmetric a b =
-      same_test (fields_eq a b) (fields_eq b a) (λ e. (fields_eq_decides b a).1 (sym ((fields_eq_decides a b).0 e))) (λ e. (fields_eq_decides a b).1 (sym ((fields_eq_decides b a).0 e)))
-
   turned_record : (flags : List Bool) (image now : Fields A) → length image ≡ length flags → length now ≡ length flags → key_fields flags image ≡ key_fields flags now →
       (update_record flags (by_column old_field flags image now) (by_column new_field flags image now) ≡ by_column old_field flags now image)
       × (update_record flags (by_column new_field flags image now) (by_column old_field flags image now) ≡ by_column new_field flags now image)
   turned_record [] image now wide wide' keys = (refl, refl)
-  turned_record (flag ∷ flags) [] now wide wide' keys = cc
-  turned_record (flag ∷ flags) (old ∷ image) [] wide wide' keys = cc
   turned_record (true ∷ flags) (old ∷ image) (new ∷ now) wide wide' keys =
       let firsts : (old ≡ new) × (key_fields flags image ≡ key_fields flags now) = same_first keys in
       let rest = turned_record flags image now (cc) (cc) firsts.1 in
       (λ i. Some (firsts.0 i) ∷ rest.0 i, λ i. None ∷ rest.1 i)
   turned_record (false ∷ flags) (old ∷ image) (new ∷ now) wide wide' keys =
-      let same = value_eq-symmetric old new in
+      let same = symmetric value_eq value_eq_decides old new in
       let rest = turned_record flags image now (cc) (cc) keys in
       (λ i. cond (not (same i)) (Some new) None ∷ rest.0 i, λ i. cond (not (same i)) (Some old) None ∷ rest.1 i)
+  turned_record flags image now wide wide' keys = cc
 
   turned_change : (flags : List Bool) (indirect : Bool) (key : Fields A) (before after : Option (Fields A)) (change : RowChange A) →
       IsUnder flags key before → IsUnder flags key after → change_of flags indirect before after ≡ Some change → change_of flags indirect after before ≡ Some (inverse_of flags change)
@@ -213,7 +201,7 @@ module _ {A : Type 0} where
       differ false is e =
           let same : Update indirect (by_column old_field flags image now) (by_column new_field flags image now) ≡ change = cc in
           let back = turned_record flags image now p.0 q.0 (key_is flags image key p.1 ∙ sym (key_is flags now key q.1)) in
-          ap (λ b. cond b None (Some (Update indirect (by_column old_field flags now image) (by_column new_field flags now image)))) (fields_eq-symmetric now image ∙ is)
+          ap (λ b. cond b None (Some (Update indirect (by_column old_field flags now image) (by_column new_field flags now image)))) (symmetric fields_eq fields_eq_decides now image ∙ is)
           ∙ (λ i. Some (Update indirect (sym back.0 i) (sym back.1 i)))
           ∙ ap (λ (c : RowChange A). Some (inverse_of flags c)) same
 

@@ -1,37 +1,28 @@
--- One change: its table, its conflict, and the operations under a key that make it.
-use Rattle.std.proofs.Common.{◌≡◌, ℕ, ◌≤◌, Bool, true, false, cond, Option, Some, None, Result, Ok, Err, List, [], ◌∷◌, ◌++◌, length, refl, sym, ap, ◌∙◌}
-use Rattle.std.specs.Prelude.{is_some}
-use Rattle.cap_value.specs.Bytes.{bytes_cmp}
+-- One change: its table, its conflict, and what it leaves.
+use Rattle.std.proofs.Common.{◌≡◌, ℕ, Bool, true, false, cond, Option, Some, None, Result, Ok, Err, List, length, refl, sym, ap, ◌∙◌}
+use Rattle.std.specs.Prelude.{IfOk, is_some}
 use Rattle.cap_value.specs.Memory.{AnswersUnlessMemory, LeavesUnlessMemory}
 use Rattle.cap_value.specs.declared.memory.Fault.{Fault}
 use Rattle.cap_value.specs.declared.memory.Fault.TheVariants.{Refused, OutOfMemory}
 use Rattle.cap_value.specs.declared.refusal.Refusal.{Refusal}
 use Rattle.cap_row.specs.Fields.{Fields}
-use Rattle.cap_row.specs.Key.{fields_cmp, key_of}
-use Rattle.cap_tree.specs.Tree.{get, put_entry}
+use Rattle.cap_row.specs.Key.{fields_cmp}
+use Rattle.cap_tree.specs.Tree.{get}
 use Rattle.cap_table.specs.Table.{TableState}
-use Rattle.cap_table.specs.Operation.{with_key, without}
-use Rattle.cap_table.specs.declared.row_ref.RowRef.TheVariants.{Key}
-use Rattle.cap_database.specs.Operation.{Changed, changes_to}
 use Rattle.cap_database.specs.Tables.{Tables, table_of}
-use Rattle.cap_database.specs.declared.cause.Cause.TheVariants.{Direct}
-use Rattle.cap_database.specs.declared.op.Action.TheVariants.{Insert, Update, Delete}
+use Rattle.cap_database.specs.declared.change.Change.{Change}
 use Rattle.cap_changes.specs.FieldRecord.{RecordFields}
 use Rattle.cap_apply.specs.Applied.{AppliedState}
-use Rattle.cap_apply.specs.Apply.{change_applied, change_at, change_in, change_under, noted, with_row_in}
+use Rattle.cap_apply.specs.Apply.{change_applied, change_at, change_in, concluded, counted, left_out, noted, with_row, with_row_in}
 use Rattle.cap_apply.specs.Requested.{Requested}
-use Rattle.cap_apply.specs.Operated.{operated}
-use Rattle.cap_apply.specs.Operations.{directly}
 use Rattle.cap_apply.specs.Policy.{is_made, made_anyway}
-use Rattle.cap_apply.specs.Row.{assigned_from, conflict_of, key_record_of, key_values, missed, set_fields}
+use Rattle.cap_apply.specs.Row.{conflict_of, key_record_of, key_values, missed, row_after}
 use Rattle.cap_apply.specs.Target.{columns_fit, fitting, target}
 use Rattle.cap_apply.specs.declared.conflict.ConflictKind.{ConflictKind}
 use Rattle.cap_apply.specs.declared.conflict.ConflictKind.TheVariants.{NotFound}
 use Rattle.cap_apply.specs.declared.policy.Answer.{Answer}
 use Rattle.cap_apply.specs.declared.policy.Answer.TheVariants.{Omit, Replace, Abort}
 use Rattle.cap_apply.specs.declared.policy.Policy.{Policy}
-use Rattle.cap_apply.proofs.OperationLemmas.{operated_ok, act_insert_new, act_update, keys_update, act_delete}
-use Rattle.cap_apply.proofs.RowLemmas.{row_with-assigned, are_columns-assigned}
 
 module _ {A : Type 0} where
   -- the table that a group is for
@@ -41,23 +32,24 @@ module _ {A : Type 0} where
     pub fit : columns_fit flags table.schema ≡ true
     pub is : target database name flags ≡ Some table
 
-  fitting_table : (database : Tables A) (name : List ℕ) (flags : List Bool) (table : TableState A) → table_of database name ≡ Some table →
-      (b : Bool) → columns_fit flags table.schema ≡ b → is_some (cond b (Some table) None) ≡ true → HasTarget database name flags
-  fitting_table database name flags table there false fit e = cc
-  fitting_table database name flags table there true fit e = record {
-    table = table;
-    there = there;
-    fit = fit;
-    is = ap (fitting flags) there ∙ ap (λ b. cond b (Some table) None) fit;
-  }
+  fitting_there : (flags : List Bool) (found : Option (TableState A)) (table : TableState A) → fitting flags found ≡ Some table → (found ≡ Some table) × (columns_fit flags table.schema ≡ true)
+  fitting_there flags None table is = cc
+  fitting_there flags (Some other) table is =
+      elim (columns_fit flags other.schema) as (λ b. columns_fit flags other.schema ≡ b → cond b (Some other) None ≡ Some table → (Some other ≡ Some table) × (columns_fit flags table.schema ≡ true)) [
+        | true ↦ λ fit e. let same : other ≡ table = cc in (e, ap (λ (t : TableState A). columns_fit flags t.schema) (sym same) ∙ fit)
+        | false ↦ λ fit e. cc
+      ] refl is
 
-  found_table : (database : Tables A) (name : List ℕ) (flags : List Bool) (found : Option (TableState A)) → table_of database name ≡ found →
-      is_some (fitting flags found) ≡ true → HasTarget database name flags
-  found_table database name flags None there e = cc
-  found_table database name flags (Some table) there e = fitting_table database name flags table there (columns_fit flags table.schema) refl e
+  the_target : (database : Tables A) (name : List ℕ) (flags : List Bool) (table : TableState A) → target database name flags ≡ Some table → HasTarget database name flags
+  the_target database name flags table is =
+      let found = fitting_there flags (table_of database name) table is in record { table = table; there = found.0; fit = found.1; is = is }
 
   pub has_target : (database : Tables A) (name : List ℕ) (flags : List Bool) → is_some (target database name flags) ≡ true → HasTarget database name flags
-  has_target database name flags e = found_table database name flags (table_of database name) refl e
+  has_target database name flags e = inner (target database name flags) refl e
+    where
+      inner : (found : Option (TableState A)) → target database name flags ≡ found → is_some found ≡ true → HasTarget database name flags
+      inner None is e = cc
+      inner (Some table) is e = the_target database name flags table is
 
   -- a change whose conflict is known
   pub applied_at : (policy : Policy) (number : ℕ) (name : List ℕ) (flags : List Bool) (requested : Requested A) (state : AppliedState A) (h : HasTarget state.database name flags)
@@ -65,41 +57,45 @@ module _ {A : Type 0} where
       get fields_cmp h.table.keyed (key_values flags (key_record_of requested.patch)) ≡ before → conflict_of flags requested.old requested.patch before ≡ conflict →
       change_applied policy number name flags requested state ≡ change_at policy number name requested h.table (key_values flags (key_record_of requested.patch)) before conflict state
   applied_at policy number name flags requested state h before conflict found met =
+      let key = key_values flags (key_record_of requested.patch) in
       ap (λ t. change_in policy number name flags requested t state) h.is
-      ∙ ap (λ b. change_under policy number name flags requested h.table (key_values flags (key_record_of requested.patch)) b state) found
-      ∙ ap (λ k. change_at policy number name requested h.table (key_values flags (key_record_of requested.patch)) before k state) met
+      ∙ ap (λ b. change_at policy number name requested h.table key b (conflict_of flags requested.old requested.patch b) state) found
+      ∙ ap (λ k. change_at policy number name requested h.table key before k state) met
 
-  pub noted_there : (policy : Policy) (number : ℕ) (conflict : Option ConflictKind) (state : AppliedState A) (name : List ℕ) (table : TableState A) →
-      table_of state.database name ≡ Some table → table_of (noted policy number conflict state).database name ≡ Some table
-  noted_there policy number None state name table e = e
-  noted_there policy number (Some kind) state name table e = e
+  -- a row under a key changes nothing else of the table
+  pub same_rest : (table : TableState A) (key : Fields A) (row : Option (Fields A)) → with_row table key row ≡ record table { keyed = (with_row table key row).keyed }
+  same_rest table key None = refl
+  same_rest table key (Some row) = refl
 
-  -- ---- operations under a key of a table that is there
+  pub same_columns : (table : TableState A) (key : Fields A) (row : Option (Fields A)) → (with_row table key row).schema ≡ table.schema
+  same_columns table key row = ap (λ (t : TableState A). t.schema) (same_rest table key row)
 
-  module _ (state : AppliedState A) (name : List ℕ) (table : TableState A) (there : table_of state.database name ≡ Some table) (key : Fields A) where
-    abbrev with_rows : TableState A → List (Changed A) → Result (AppliedState A) Refusal
-    with_rows next rows = Ok (record state { database = put_entry bytes_cmp state.database name next; changes = state.changes ++ changes_to name Direct rows })
+  -- what holds of a database and its changes, and with the row that a change leaves, holds of what the change leaves
+  module _ (Holds : Tables A → List (Change A) → Type 0) where
+    abbrev IsLeft : AppliedState A → Type 0
+    IsLeft state = Holds state.database state.changes
 
-    pub insert_is : (row : Fields A) → length row ≡ length table.schema → key_of table.schema row ≡ Some key → get fields_cmp table.keyed key ≡ None →
-        operated state (directly name (Insert row)) ≡ Ok (with_row_in name table key None (Some row) state)
-    insert_is row wide is none =
-        operated_ok state name table there (Insert row) (with_key table key row) (act_insert_new table key row wide is none)
-        ∙ ap (λ (k : Option (Fields A)). with_rows (with_key table key row) ((k, None) ∷ [])) is
+    concluded_leaves : (answer : Result Bool Refusal) (made omitted : AppliedState A) → IsLeft made → IsLeft omitted → IfOk (concluded answer made omitted) IsLeft
+    concluded_leaves (Ok true) made omitted a b = a
+    concluded_leaves (Ok false) made omitted a b = b
+    concluded_leaves (Err why) made omitted a b = tt
 
-    pub update_is : (fields : RecordFields A) (before row : Fields A) → length fields ≤ length table.schema → get fields_cmp table.keyed key ≡ Some before →
-        set_fields fields before ≡ row → key_of table.schema row ≡ Some key →
-        operated state (directly name (Update (Key key) (assigned_from 0 fields))) ≡ Ok (with_row_in name table key (Some before) (Some row) state)
-    update_is fields before row few found becomes is =
-        let set = row_with-assigned fields before ∙ becomes in
-        operated_ok state name table there (Update (Key key) (assigned_from 0 fields)) (with_key table key row)
-        (act_update table key row (assigned_from 0 fields) before (are_columns-assigned (length table.schema) fields few) found set is)
-        ∙ ap (with_rows (with_key table key row)) (keys_update table key row (assigned_from 0 fields) before found set is)
-
-    pub delete_is : (before : Fields A) → get fields_cmp table.keyed key ≡ Some before →
-        operated state (directly name (Delete (Key key))) ≡ Ok (with_row_in name table key (Some before) None state)
-    delete_is before found =
-        operated_ok state name table there (Delete (Key key)) (without table (Key key)) (act_delete table key before found)
-        ∙ ap (λ (row : Option (Fields A)). with_rows (without table (Key key)) ((Some key, row) ∷ [])) found
+    pub change_leaves : (policy : Policy) (number : ℕ) (name : List ℕ) (flags : List Bool) (requested : Requested A) (state : AppliedState A) → IsLeft state
+        → ((h : HasTarget state.database name flags) (key : Fields A) (before : Option (Fields A)) → key ≡ key_values flags (key_record_of requested.patch) → get fields_cmp h.table.keyed key ≡ before
+        → IsLeft (with_row_in name h.table key before (row_after (length h.table.schema) requested.patch before) state))
+        → IfOk (change_applied policy number name flags requested state) IsLeft
+    unfolding the_target
+    change_leaves policy number name flags requested state still made =
+        elim (target state.database name flags) as (λ t. target state.database name flags ≡ t → IfOk (change_in policy number name flags requested t state) IsLeft) [
+          | None ↦ λ _. still
+          | Some table ↦ λ is.
+              let key = key_values flags (key_record_of requested.patch) in
+              let before = get fields_cmp table.keyed key in
+              let kept = noted policy number (conflict_of flags requested.old requested.patch before) state in
+              concluded_leaves (is_made policy number (conflict_of flags requested.old requested.patch before))
+              (counted (with_row_in name table key before (row_after (length table.schema) requested.patch before) kept)) (left_out number kept)
+              (made (the_target state.database name flags table is) key before refl refl) still
+        ] refl
 
 pub same_ok : {X E : Type 0} {x y : X} (answer : Result X E) → answer ≡ Ok x → answer ≡ Ok y → x ≡ y
 same_ok answer is is_too = cc

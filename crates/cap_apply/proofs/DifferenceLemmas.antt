@@ -18,7 +18,7 @@ use Rattle.cap_apply.specs.Difference.{AllApplied, AreApart, Difference, HoldBef
 use Rattle.cap_apply.specs.declared.policy.Policy.{Policy}
 use Rattle.cap_apply.proofs.CaptureLemmas.{AsksFor, asks_by_change, captured_one}
 use Rattle.cap_apply.proofs.EntryLemmas.{get_put, get_put_other, get_take}
-use Rattle.cap_apply.proofs.ColumnLemmas.{same_columns}
+use Rattle.cap_apply.proofs.ChangeLemmas.{same_columns, same_rest}
 
 module _ {A : Type 0} where
   -- ---- a table with a row under a key
@@ -41,14 +41,6 @@ module _ {A : Type 0} where
     rows_ordered : (after : Option (Fields A)) → IsOrdered fields_cmp table.keyed → IsOrdered fields_cmp (with_row table key after).keyed
     rows_ordered None ordered = ordered_take fields_cmp fields_cmp_total key table.keyed ordered
     rows_ordered (Some row) ordered = ordered_put fields_cmp fields_cmp_total key row table.keyed ordered
-
-    same_loose : (after : Option (Fields A)) → (with_row table key after).loose ≡ table.loose
-    same_loose None = refl
-    same_loose (Some row) = refl
-
-    same_next_id : (after : Option (Fields A)) → (with_row table key after).next_id ≡ table.next_id
-    same_next_id None = refl
-    same_next_id (Some row) = refl
 
   other_table : (database : Tables A) (name other : List ℕ) (table : TableState A) → (other ≡ name → ⊥) →
       table_of (put_entry bytes_cmp database name table) other ≡ table_of database other
@@ -107,9 +99,9 @@ module _ {A : Type 0} where
             there = rows.there;
             rows = (rows.other_rows d.key hold.2 ∙ rows_here table d.key d.after ordered, rows.rows);
             other_rows = λ key apart. rows.other_rows key apart.1 ∙ rows_other table d.key d.after ordered key apart.0;
-            loose = rows.loose ∙ same_loose table d.key d.after;
+            loose = rows.loose ∙ ap (λ (t : TableState A). t.loose) (same_rest table d.key d.after);
             columns = rows.columns ∙ same_columns table d.key d.after;
-            next_id = rows.next_id ∙ same_next_id table d.key d.after;
+            next_id = rows.next_id ∙ ap (λ (t : TableState A). t.next_id) (same_rest table d.key d.after);
             ordered = rows.ordered;
           },
           λ other apart. rest.3 other apart ∙ other_table state.database name other after apart,

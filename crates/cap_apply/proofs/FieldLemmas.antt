@@ -135,14 +135,11 @@ module _ {A : Type 0} where
 
   pub full_defined : (flags : List Bool) (fields : RecordFields A) → satisfy (requirements Full flags) fields ≡ true → list_all is_some fields ≡ true
   full_defined [] [] met = refl
-  full_defined [] (field ∷ fields) met = cc
-  full_defined (flag ∷ flags) [] met = cc
-  full_defined (true ∷ flags) (None ∷ fields) met = cc
   full_defined (true ∷ flags) (Some value ∷ fields) met = full_defined flags fields (and_parts (satisfies Key (Some value)) (satisfy (requirements Full flags) fields) met).1
-  full_defined (false ∷ flags) (None ∷ fields) met = cc
   full_defined (false ∷ flags) (Some value ∷ fields) met = full_defined flags fields met
+  full_defined flags fields met = cc
 
-  full_values : (values : Fields A) → map (λ field. unwrap_or field Null) (full_record values) ≡ values
+  pub full_values : (values : Fields A) → map (λ field. unwrap_or field Null) (full_record values) ≡ values
   full_values [] = refl
   full_values (value ∷ values) = ap (λ (l : Fields A). value ∷ l) (full_values values)
 
@@ -161,12 +158,12 @@ module _ {A : Type 0} where
   old_there flags i old olds field row rest value all lt o r has so_far =
       sym (old_first flags i old olds field row rest value lt o r ∙ ap (λ (b : Bool). b && has_old_values (drop (i + 1) flags) olds rest) has) ∙ so_far
 
+  pub no_old : (flags : List Bool) (row : Fields A) → has_old_values flags [] row ≡ true
+  no_old [] row = refl
+  no_old (flag ∷ flags) row = refl
+
   pub old_ended : (flags : List Bool) (old : RecordFields A) (row : Fields A) (all : Bool) → old ≡ [] → has_old_values flags old row ≡ all → true ≡ all
-  old_ended flags old row all none so_far = sym (ap (λ (o : RecordFields A). has_old_values flags o row) none ∙ no_old flags) ∙ so_far
-    where
-      no_old : (flags : List Bool) → has_old_values flags [] row ≡ true
-      no_old [] = refl
-      no_old (flag ∷ flags) = refl
+  old_ended flags old row all none so_far = sym (ap (λ (o : RecordFields A). has_old_values flags o row) none ∙ no_old flags row) ∙ so_far
 
   pub row_ended : (flags : List Bool) (old : RecordFields A) (row : Fields A) (all : Bool) → row ≡ [] → has_old_values flags old row ≡ all → true ≡ all
   row_ended flags old row all none so_far = sym (ap (has_old_values flags old) none ∙ no_row flags old) ∙ so_far

@@ -1,28 +1,23 @@
 -- Changes and groups, one after another.
-use Rattle.std.proofs.Common.{◌≡◌, ℕ, ◌+◌, ◌<◌, Bool, true, false, cond, Option, Some, None, Result, Ok, Err, List, [], ◌∷◌, length, map, drop, get_or, refl, sym, ap, subst, ◌∙◌}
-use Rattle.std.specs.Prelude.{is_some}
+use Rattle.std.proofs.Common.{◌≡◌, ℕ, ◌+◌, ◌<◌, Bool, true, false, cond, Option, Some, None, Ok, List, [], ◌∷◌, length, map, drop, get_or, refl, ap, subst, ◌∙◌}
+use Rattle.std.specs.Prelude.{IfOk, is_some}
 use Rattle.std.specs.Cmp.{tied_itself}
 use Rattle.std.proofs.lemmas.Cmp.{nat_list_cmp_total}
 use Rattle.std.proofs.lemmas.List.{length-map}
 use Rattle.cap_value.specs.Bytes.{bytes_cmp}
-use Rattle.cap_value.specs.declared.refusal.Refusal.{Refusal}
-use Rattle.cap_row.specs.Key.{fields_cmp}
-use Rattle.cap_tree.specs.Tree.{get, put_entry}
+use Rattle.cap_tree.specs.Tree.{put_entry}
 use Rattle.cap_table.specs.Table.{TableState}
 use Rattle.cap_database.specs.Tables.{Tables}
 use Rattle.cap_changes.specs.Entries.{TableEntries}
 use Rattle.cap_changes.proofs.LeftLemmas.{drop_here}
 use Rattle.cap_apply.specs.Applied.{AppliedState}
-use Rattle.cap_apply.specs.Apply.{and_then, change_applied, change_in, changes_applied, concluded, counted, group_applied, groups_applied, left_out, noted, skipped, skipped_unless, with_row, with_row_in}
+use Rattle.cap_apply.specs.Apply.{and_then, change_applied, change_in, changes_applied, group_applied, groups_applied, skipped, skipped_unless, with_row}
 use Rattle.cap_apply.specs.Requested.{Requested, requested_in}
-use Rattle.cap_apply.specs.Policy.{is_made}
-use Rattle.cap_apply.specs.Row.{conflict_of, key_record_of, key_values, row_after}
+use Rattle.cap_apply.specs.Row.{row_after}
 use Rattle.cap_apply.specs.Target.{columns_fit, fitting, target}
-use Rattle.cap_apply.specs.declared.conflict.ConflictKind.{ConflictKind}
 use Rattle.cap_apply.specs.declared.policy.Policy.{Policy}
-use Rattle.cap_apply.proofs.ChangeLemmas.{applied_at, has_target}
+use Rattle.cap_apply.proofs.ChangeLemmas.{change_leaves, same_columns}
 use Rattle.cap_apply.proofs.EntryLemmas.{get_put}
-use Rattle.cap_apply.proofs.ColumnLemmas.{same_columns}
 
 module _ {A : Type 0} where
   -- ---- the table of a group stays
@@ -33,34 +28,14 @@ module _ {A : Type 0} where
       ap (λ t. is_some (fitting flags t)) (get_put bytes_cmp name table (tied_itself nat_list_cmp_total name) database)
       ∙ ap (λ b. is_some (cond b (Some table) None)) fit
 
-  noted_target : (policy : Policy) (number : ℕ) (conflict : Option ConflictKind) (state : AppliedState A) (name : List ℕ) (flags : List Bool) →
-      is_some (target state.database name flags) ≡ true → is_some (target (noted policy number conflict state).database name flags) ≡ true
-  noted_target policy number None state name flags e = e
-  noted_target policy number (Some kind) state name flags e = e
-
-  concluded_target : (name : List ℕ) (flags : List Bool) (m : Result Bool Refusal) (made omitted next : AppliedState A) → concluded m made omitted ≡ Ok next →
-      is_some (target made.database name flags) ≡ true → is_some (target omitted.database name flags) ≡ true → is_some (target next.database name flags) ≡ true
-  concluded_target name flags (Ok true) made omitted next e p q =
-      let same : made ≡ next = cc in subst (λ (s : AppliedState A). is_some (target s.database name flags) ≡ true) same p
-  concluded_target name flags (Ok false) made omitted next e p q =
-      let same : omitted ≡ next = cc in subst (λ (s : AppliedState A). is_some (target s.database name flags) ≡ true) same q
-  concluded_target name flags (Err why) made omitted next e p q = cc
-
   pub target_stays : (policy : Policy) (number : ℕ) (name : List ℕ) (flags : List Bool) (requested : Requested A) (state next : AppliedState A) →
       is_some (target state.database name flags) ≡ true → change_applied policy number name flags requested state ≡ Ok next →
       is_some (target next.database name flags) ≡ true
   target_stays policy number name flags requested state next e ok =
-      let h = has_target state.database name flags e in
-      let key = key_values flags (key_record_of requested.patch) in
-      let before = get fields_cmp h.table.keyed key in
-      let conflict = conflict_of flags requested.old requested.patch before in
-      let after = row_after (length h.table.schema) requested.patch before in
-      let kept = noted policy number conflict state in
-      let fit : columns_fit flags (with_row h.table key after).schema ≡ true = ap (columns_fit flags) (same_columns h.table key after) ∙ h.fit in
-      concluded_target name flags (is_made policy number conflict) (counted (with_row_in name h.table key before after kept)) (left_out number kept) next
-      (sym (applied_at policy number name flags requested state h before conflict refl refl) ∙ ok)
-      (put_target kept.database name flags (with_row h.table key after) fit)
-      (noted_target policy number conflict state name flags e)
+      subst (λ r. IfOk r (λ (s : AppliedState A). is_some (target s.database name flags) ≡ true)) ok
+      (change_leaves (λ database changes. is_some (target database name flags) ≡ true) policy number name flags requested state e
+      (λ h key before is found. let after = row_after (length h.table.schema) requested.patch before in
+      put_target state.database name flags (with_row h.table key after) (ap (columns_fit flags) (same_columns h.table key after) ∙ h.fit)))
 
   -- ---- changes
 

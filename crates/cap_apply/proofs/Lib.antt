@@ -1,7 +1,6 @@
 pub mod BlobLemmas
 pub mod CaptureLemmas
 pub mod ChangeLemmas
-pub mod ColumnLemmas
 pub mod DifferenceLemmas
 pub mod EntryLemmas
 pub mod FieldLemmas

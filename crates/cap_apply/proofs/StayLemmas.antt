@@ -7,10 +7,11 @@ use Rattle.std.specs.Cmp.Lexicographic.{bytes_decides}
 use Rattle.std.specs.Cmp.{Equal-is}
 use Rattle.std.proofs.lemmas.List.{append-nil}
 use Rattle.std.proofs.lemmas.List.Folds.{list_any-append}
+use Rattle.cap_value.specs.Bytes.{bytes_cmp}
 use Rattle.cap_value.specs.declared.refusal.Refusal.{Refusal}
 use Rattle.cap_row.specs.Fields.{Fields}
 use Rattle.cap_row.specs.Key.{fields_cmp}
-use Rattle.cap_tree.specs.Tree.{get}
+use Rattle.cap_tree.specs.Tree.{get, put_entry}
 use Rattle.cap_tree.proofs.EntryLemmas.{take_entry-absent}
 use Rattle.cap_table.specs.Sound.{is_key_of}
 use Rattle.cap_table.specs.Table.{TableState}
@@ -27,37 +28,39 @@ use Rattle.cap_changes.specs.Entries.{TableEntries}
 use Rattle.cap_codec.specs.declared.read.Contents.{Contents}
 use Rattle.cap_apply.specs.Applied.{AppliedState}
 use Rattle.cap_apply.specs.Apply as applied
-use Rattle.cap_apply.specs.Apply.{apply, change_applied, change_in, changes_applied, concluded, counted, group_applied, groups_applied, left_out, noted, nothing_applied, row_comes, row_goes, skipped_unless, with_row, with_row_in}
-use Rattle.cap_apply.specs.Policy.{is_made}
+use Rattle.cap_apply.specs.Apply.{apply, change_applied, changes_applied, group_applied, groups_applied, nothing_applied, row_comes, row_goes, skipped, skipped_unless, with_row}
 use Rattle.cap_apply.specs.Requested.{Requested, requested_of}
-use Rattle.cap_apply.specs.Row.{conflict_of, key_record_of, key_values, row_after}
+use Rattle.cap_apply.specs.Row.{row_after}
 use Rattle.cap_apply.specs.Target.{target}
-use Rattle.cap_apply.specs.declared.conflict.ConflictKind.{ConflictKind}
 use Rattle.cap_apply.specs.declared.policy.Policy.{Policy}
-use Rattle.cap_apply.proofs.ColumnLemmas.{fitting-there, same_columns}
+use Rattle.cap_apply.proofs.ChangeLemmas.{change_leaves, same_columns}
 
 module _ {A : Type 0} where
   module _ (name : List ℕ) (key : Fields A) where
     -- what is left has more changes; where none of these names the row it is as it was, and the first that does carries it
-    pub record MoreChanges (state left : AppliedState A) : Type 0 where
+    pub record MoreChanges (database : Tables A) (changes : List (Change A)) (left : Tables A) (all : List (Change A)) : Type 0 where
       pub more : List (Change A)
-      pub are : left.changes ≡ state.changes ++ more
-      pub stays : list_any (is_of_row name key) more ≡ false → row_at left.database name key ≡ row_at state.database name key
-      pub there : list_any (is_of_row name key) more ≡ true → is_some (schema_of state.database name) ≡ true
-      pub columns : schema_of left.database name ≡ schema_of state.database name
-      pub carries : (change : Change A) → find (is_of_row name key) more ≡ Some change → change.before ≡ row_at state.database name key
+      pub are : all ≡ changes ++ more
+      pub stays : list_any (is_of_row name key) more ≡ false → row_at left name key ≡ row_at database name key
+      pub there : list_any (is_of_row name key) more ≡ true → is_some (schema_of database name) ≡ true
+      pub columns : schema_of left name ≡ schema_of database name
+      pub carries : (change : Change A) → find (is_of_row name key) more ≡ Some change → change.before ≡ row_at database name key
 
-    nothing-more : (state left : AppliedState A) → left.changes ≡ state.changes → left.database ≡ state.database → MoreChanges state left
-    nothing-more state left changes database = record {
+    nothing-more : (database : Tables A) (changes : List (Change A)) → MoreChanges database changes database changes
+    nothing-more database changes = record {
       more = [];
-      are = changes ∙ sym (append-nil state.changes);
-      stays = λ _. ap (λ tables. row_at tables name key) database;
+      are = sym (append-nil changes);
+      stays = λ _. refl;
       there = λ named. cc;
-      columns = ap (λ tables. schema_of tables name) database;
+      columns = refl;
       carries = λ change is. cc;
     }
 
-    both-more : (state next left : AppliedState A) → MoreChanges state next → MoreChanges next left → MoreChanges state left
+    abbrev pub AppliedMore : AppliedState A → Result (AppliedState A) Refusal → Type 0
+    AppliedMore state r = IfOk r (λ left. MoreChanges state.database state.changes left.database left.changes)
+
+    both-more : (state next left : AppliedState A) → MoreChanges state.database state.changes next.database next.changes → MoreChanges next.database next.changes left.database left.changes
+        → MoreChanges state.database state.changes left.database left.changes
     both-more state next left a b = record {
       more = a.more ++ b.more;
       are = b.are ∙ ap (λ cs. cs ++ b.more) a.are ∙ append_assoc state.changes a.more b.more;
@@ -75,9 +78,6 @@ module _ {A : Type 0} where
       carries = found-in (is_of_row name key) (λ change. change.before ≡ row_at state.database name key) a.more b.more a.carries (λ none change is. b.carries change is ∙ a.stays none);
     }
 
-    abbrev pub AppliedMore : AppliedState A → Result (AppliedState A) Refusal → Type 0
-    AppliedMore state r = IfOk r (MoreChanges state)
-
     one-then : (state : AppliedState A) (first : Result (AppliedState A) Refusal) (next : AppliedState A → Result (AppliedState A) Refusal) → AppliedMore state first
         → ((mid : AppliedState A) → AppliedMore mid (next mid)) → AppliedMore state (applied.and_then first next)
     one-then state (Ok mid) next a more = inner (next mid) (more mid)
@@ -87,26 +87,21 @@ module _ {A : Type 0} where
         inner (Err why) b = tt
     one-then state (Err why) next a more = tt
 
-    noted-same : (policy : Policy) (number : ℕ) (conflict : Option ConflictKind) (state : AppliedState A)
-        → ((noted policy number conflict state).changes ≡ state.changes) × ((noted policy number conflict state).database ≡ state.database)
-    noted-same policy number None state = (refl, refl)
-    noted-same policy number (Some kind) state = (refl, refl)
-
     -- a row under a key that goes, comes or is replaced
-    row-stays : (other : List ℕ) (table : TableState A) (own : Fields A) (before after : Option (Fields A)) (state : AppliedState A) → table_of state.database other ≡ Some table → get fields_cmp table.keyed own ≡ before
-        → MoreChanges state (with_row_in other table own before after state)
-    row-stays other table own before after state there found = record {
+    row-stays : (other : List ℕ) (table : TableState A) (own : Fields A) (before after : Option (Fields A)) (database : Tables A) (changes : List (Change A)) → table_of database other ≡ Some table → get fields_cmp table.keyed own ≡ before
+        → MoreChanges database changes (put_entry bytes_cmp database other (with_row table own after)) (changes ++ changes_to other Direct (row_goes own before ++ row_comes own after))
+    row-stays other table own before after database changes there found = record {
       more = changes_to other Direct (row_goes own before ++ row_comes own after);
       are = refl;
-      stays = λ unnamed. put-stays name key state.database other (with_row table own after)
+      stays = λ unnamed. put-stays name key database other (with_row table own after)
           (λ same. kept before after found (sym (unnamed-rows name key other Direct (row_goes own before ++ row_comes own after) same) ∙ unnamed)
-          ∙ ap (option_and_then (λ t. get fields_cmp t.keyed key)) (sym there) ∙ ap (λ n. row_at state.database n key) (sym same));
+          ∙ ap (option_and_then (λ t. get fields_cmp t.keyed key)) (sym there) ∙ ap (λ n. row_at database n key) (sym same));
       there = λ named.
           let same : name ≡ other = (bytes_decides name other).0 (named-table name key other Direct (row_goes own before ++ row_comes own after) named) in
-          ap (λ n. is_some (schema_of state.database n)) same ∙ ap (λ t. is_some (option_map (λ s. s.schema) t)) there;
-      columns = schema_of-put state.database other table (with_row table own after) there (same_columns table own after) name;
-      carries = found-row name key (λ row. row ≡ row_at state.database name key) other Direct (row_goes own before ++ row_comes own after)
-          (λ same changed at. carried before after found changed at ∙ ap (option_and_then (λ t. get fields_cmp t.keyed key)) (sym there) ∙ ap (λ n. row_at state.database n key) (sym same));
+          ap (λ n. is_some (schema_of database n)) same ∙ ap (λ t. is_some (option_map (λ s. s.schema) t)) there;
+      columns = schema_of-put database other table (with_row table own after) there (same_columns table own after) name;
+      carries = found-row name key (λ row. row ≡ row_at database name key) other Direct (row_goes own before ++ row_comes own after)
+          (λ same changed at. carried before after found changed at ∙ ap (option_and_then (λ t. get fields_cmp t.keyed key)) (sym there) ∙ ap (λ n. row_at database n key) (sym same));
     }
       where
         kept : (before after : Option (Fields A)) → get fields_cmp table.keyed own ≡ before → list_any (λ changed. is_key_of changed.0 key) (row_goes own before ++ row_comes own after) ≡ false
@@ -133,65 +128,43 @@ module _ {A : Type 0} where
         carried (Some old) None found = one-carries (Some own, Some old) (sym found) refl [] (λ _. refl)
         carried (Some old) (Some row) found = one-carries (Some own, Some old) (sym found) refl ((Some own, None) ∷ []) (λ apart. ap (λ b. cond b (Some (Some own, None)) None) apart)
 
-    concluded-more : (state : AppliedState A) (answer : Result Bool Refusal) (made omitted : AppliedState A) → MoreChanges state made → MoreChanges state omitted → AppliedMore state (concluded answer made omitted)
-    concluded-more state (Ok true) made omitted a b = a
-    concluded-more state (Ok false) made omitted a b = b
-    concluded-more state (Err why) made omitted a b = tt
-
     change-more : (policy : Policy) (number : ℕ) (other : List ℕ) (flags : List Bool) (asked : Requested A) (state : AppliedState A) → AppliedMore state (change_applied policy number other flags asked state)
     change-more policy number other flags asked state =
-        elim (target state.database other flags) as (λ t. target state.database other flags ≡ t → AppliedMore state (change_in policy number other flags asked t state)) [
-          | None ↦ λ _. nothing-more state state refl refl
-          | Some table ↦ λ is.
-              let there = fitting-there flags (table_of state.database other) table is in
-              let own = key_values flags (key_record_of asked.patch) in
-              let before = get fields_cmp table.keyed own in
-              let conflict = conflict_of flags asked.old asked.patch before in
-              let kept = noted policy number conflict state in
-              let same = noted-same policy number conflict state in
-              let after = row_after (length table.schema) asked.patch before in
-              let made = row-stays other table own before after kept (ap (λ tables. table_of tables other) same.1 ∙ there) refl in
-              concluded-more state (is_made policy number conflict) (counted (with_row_in other table own before after kept)) (left_out number kept)
-              (record {
-                more = made.more;
-                are = made.are ∙ ap (λ cs. cs ++ made.more) same.0;
-                stays = λ unnamed. made.stays unnamed ∙ ap (λ tables. row_at tables name key) same.1;
-                there = λ named. ap (λ tables. is_some (schema_of tables name)) (sym same.1) ∙ made.there named;
-                columns = made.columns ∙ ap (λ tables. schema_of tables name) same.1;
-                carries = λ change at. made.carries change at ∙ ap (λ tables. row_at tables name key) same.1;
-              })
-              (nothing-more state (left_out number kept) same.0 same.1)
-        ] refl
+        change_leaves (λ left all. MoreChanges state.database state.changes left all) policy number other flags asked state (nothing-more state.database state.changes)
+        (λ h own before _ found. row-stays other h.table own before (row_after (length h.table.schema) asked.patch before) state.database state.changes h.there found)
 
     changes-more : (policy : Policy) (other : List ℕ) (flags : List Bool) (asks : List (Requested A)) (number : ℕ) (state : AppliedState A) → AppliedMore state (changes_applied policy number other flags asks state)
-    changes-more policy other flags [] number state = nothing-more state state refl refl
+    changes-more policy other flags [] number state = nothing-more state.database state.changes
     changes-more policy other flags (asked ∷ asks) number state =
         one-then state (change_applied policy number other flags asked state) (λ next. changes_applied policy (number + 1) other flags asks next) (change-more policy number other flags asked state)
         (λ mid. changes-more policy other flags asks (number + 1) mid)
 
-    skipped-same : (there : Bool) (place : ℕ) (state : AppliedState A) → ((skipped_unless there place state).changes ≡ state.changes) × ((skipped_unless there place state).database ≡ state.database)
-    skipped-same true place state = (refl, refl)
-    skipped-same false place state = (refl, refl)
-
-    from-skipped : (state start : AppliedState A) (r : Result (AppliedState A) Refusal) → (start.changes ≡ state.changes) × (start.database ≡ state.database) → AppliedMore start r → AppliedMore state r
-    from-skipped state start (Ok left) same made = both-more state start left (nothing-more state start same.0 same.1) made
-    from-skipped state start (Err why) same made = tt
-
-    pub groups-more : (policy : Policy) (groups : List (TableEntries (Requested A))) (place number : ℕ) (state : AppliedState A) → AppliedMore state (groups_applied policy place number groups state)
-    groups-more policy [] place number state = nothing-more state state refl refl
+    groups-more : (policy : Policy) (groups : List (TableEntries (Requested A))) (place number : ℕ) (state : AppliedState A) → AppliedMore state (groups_applied policy place number groups state)
+    groups-more policy [] place number state = nothing-more state.database state.changes
     groups-more policy (group ∷ groups) place number state =
-        let there = is_some (target state.database group.table group.schema) in
         one-then state (group_applied policy place number group state) (λ next. groups_applied policy (place + 1) (number + length group.changes) groups next)
-        (from-skipped state (skipped_unless there place state) (group_applied policy place number group state) (skipped-same there place state)
-        (changes-more policy group.table group.schema group.changes number (skipped_unless there place state)))
-        (λ mid. groups-more policy groups (place + 1) (number + length group.changes) mid)
+        (start (is_some (target state.database group.table group.schema))) (λ mid. groups-more policy groups (place + 1) (number + length group.changes) mid)
+      where
+        start : (there : Bool) → AppliedMore state (changes_applied policy number group.table group.schema group.changes (skipped_unless there place state))
+        start true = changes-more policy group.table group.schema group.changes number state
+        start false = changes-more policy group.table group.schema group.changes number (skipped place state)
 
     pub apply-more : (tables : Tables A) (blob : Contents A) (policy : Policy) → AppliedMore (nothing_applied tables) (apply tables blob policy)
     apply-more tables blob policy = groups-more policy (requested_of blob) 0 0 (nothing_applied tables)
 
-  pub apply-carries : (tables : Tables A) (blob : Contents A) (policy : Policy) → IfOk (apply tables blob policy) (λ left. CarryFirstRows tables left.changes)
-  apply-carries tables blob policy = inner (apply tables blob policy) (λ name key. apply-more name key tables blob policy)
+  -- what is so of each row is so of a blob
+  each-row : (P : AppliedState A → Type 0) (tables : Tables A) (blob : Contents A) (policy : Policy)
+      → ((left : AppliedState A) → ((name : List ℕ) (key : Fields A) → MoreChanges name key tables [] left.database left.changes) → P left) → IfOk (apply tables blob policy) P
+  each-row P tables blob policy says = inner (apply tables blob policy) (λ name key. apply-more name key tables blob policy)
     where
-      inner : (r : Result (AppliedState A) Refusal) → ((name : List ℕ) (key : Fields A) → AppliedMore name key (nothing_applied tables) r) → IfOk r (λ left. CarryFirstRows tables left.changes)
-      inner (Ok left) each = λ name key change at. (each name key).carries change (ap (find (is_of_row name key)) (sym (each name key).are) ∙ at)
+      inner : (r : Result (AppliedState A) Refusal) → ((name : List ℕ) (key : Fields A) → AppliedMore name key (nothing_applied tables) r) → IfOk r P
+      inner (Ok left) each = says left each
       inner (Err why) each = tt
+
+  pub apply-carries : (tables : Tables A) (blob : Contents A) (policy : Policy) → IfOk (apply tables blob policy) (λ left. CarryFirstRows tables left.changes)
+  apply-carries tables blob policy = each-row (λ left. CarryFirstRows tables left.changes) tables blob policy
+      (λ left each name key change at. (each name key).carries change (ap (find (is_of_row name key)) (sym (each name key).are) ∙ at))
+
+  -- each table keeps its columns
+  pub blob-columns : (tables : Tables A) (blob : Contents A) (policy : Policy) → IfOk (apply tables blob policy) (λ left. (name : List ℕ) → schema_of left.database name ≡ schema_of tables name)
+  blob-columns tables blob policy = each-row (λ left. (name : List ℕ) → schema_of left.database name ≡ schema_of tables name) tables blob policy (λ left each name. (each name []).columns)

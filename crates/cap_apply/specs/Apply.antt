@@ -7,8 +7,7 @@ use Rattle.cap_row.specs.Fields.{Fields}
 use Rattle.cap_row.specs.Key.{fields_cmp}
 use Rattle.cap_tree.specs.Tree.{get, put_entry}
 use Rattle.cap_table.specs.Table.{TableState}
-use Rattle.cap_table.specs.Operation.{with_key, without}
-use Rattle.cap_table.specs.declared.row_ref.RowRef.TheVariants.{Key}
+pub use Rattle.cap_database.specs.Keyed.{with_row}
 use Rattle.cap_database.specs.Operation.{Changed, changes_to}
 use Rattle.cap_database.specs.Tables.{Tables}
 use Rattle.cap_database.specs.declared.cause.Cause.TheVariants.{Direct}
@@ -16,7 +15,8 @@ use Rattle.cap_changes.specs.Entries.{TableEntries}
 use Rattle.cap_codec.specs.declared.read.Contents.{Contents}
 use Rattle.cap_apply.specs.Applied.{AppliedState}
 use Rattle.cap_apply.specs.Requested.{Requested, requested_of}
-use Rattle.cap_apply.specs.Policy.{answer_to, is_made}
+use Rattle.cap_apply.specs.Policy.{is_made}
+use Rattle.cap_apply.specs.Report.{noted_in, with_omitted, with_skipped}
 use Rattle.cap_apply.specs.Row.{key_record_of, key_values, row_after, conflict_of}
 use Rattle.cap_apply.specs.Target.{target}
 use Rattle.cap_apply.specs.declared.conflict.ConflictKind.{ConflictKind}
@@ -29,11 +29,6 @@ and_then (Err why) next = Err why
 
 module _ {A : Type 0} where
   -- ---- one change
-
-  -- the table with this row under the key, or without a row
-  abbrev pub with_row : TableState A → Fields A → Option (Fields A) → TableState A
-  with_row table key None = without table (Key key)
-  with_row table key (Some row) = with_key table key row
 
   -- the row goes from under the key, where there is one
   abbrev pub row_goes : Fields A → Option (Fields A) → List (Changed A)
@@ -57,18 +52,11 @@ module _ {A : Type 0} where
   counted state = record state { report = record state.report { applied = state.report.applied + 1 } }
 
   abbrev pub left_out : ℕ → AppliedState A → AppliedState A
-  left_out number state =
-      record state { report = record state.report { omitted = state.report.omitted ++ number ∷ [] } }
+  left_out number state = record state { report = with_omitted number state.report }
 
-  -- each conflict is reported with its answer
   abbrev pub noted : Policy → ℕ → Option ConflictKind → AppliedState A → AppliedState A
-  noted policy number None state = state
-  noted policy number (Some kind) state = record state {
-    report = record state.report {
-      conflicts = state.report.conflicts
-          ++ record { change = number; kind = kind; answer = answer_to policy kind } ∷ [];
-    };
-  }
+  noted policy number conflict state =
+      record state { report = noted_in policy number conflict state.report }
 
   -- applied or omitted, or the refusal of the blob
   abbrev pub concluded : Result Bool Refusal → AppliedState A → AppliedState A →
@@ -88,23 +76,17 @@ module _ {A : Type 0} where
       (left_out number (noted policy number conflict state))
 
   abbrev pub change_under : Policy → ℕ → List ℕ → List Bool → Requested A → TableState A → Fields A →
-      Option (Fields A) → AppliedState A →
-      Result (AppliedState A) Refusal
-  change_under policy number name flags requested table key before state =
-      change_at policy number name requested table key before
-      (conflict_of flags requested.old requested.patch before) state
-
-  abbrev pub change_to : Policy → ℕ → List ℕ → List Bool → Requested A → TableState A → Fields A →
       AppliedState A → Result (AppliedState A) Refusal
-  change_to policy number name flags requested table key state =
-      change_under policy number name flags requested table key (get fields_cmp table.keyed key) state
+  change_under policy number name flags requested table key state =
+      change_at policy number name requested table key (get fields_cmp table.keyed key)
+      (conflict_of flags requested.old requested.patch (get fields_cmp table.keyed key)) state
 
   -- a change of a group that is skipped does nothing
   abbrev pub change_in : Policy → ℕ → List ℕ → List Bool → Requested A → Option (TableState A) →
       AppliedState A → Result (AppliedState A) Refusal
   change_in policy number name flags requested None state = Ok state
   change_in policy number name flags requested (Some table) state =
-      change_to policy number name flags requested table
+      change_under policy number name flags requested table
       (key_values flags (key_record_of requested.patch)) state
 
   -- one change of a group with this name and these key flags, after what was applied before it
@@ -123,8 +105,7 @@ module _ {A : Type 0} where
       (λ next. changes_applied policy (number + 1) name flags rest next)
 
   abbrev pub skipped : ℕ → AppliedState A → AppliedState A
-  skipped place state =
-      record state { report = record state.report { skipped = state.report.skipped ++ place ∷ [] } }
+  skipped place state = record state { report = with_skipped place state.report }
 
   abbrev pub skipped_unless : Bool → ℕ → AppliedState A → AppliedState A
   skipped_unless true place state = state

@@ -4,7 +4,6 @@ pub mod Requested
 pub mod Captured
 pub mod Difference
 pub mod Fitting
-pub mod KeyRecord
 pub mod Merged
 pub mod Operated
 pub mod Operations

@@ -1,5 +1,5 @@
 -- A row that the caller makes of a change and the row that it met, in place of the change.
-use Rattle.std.specs.Prelude.{ℕ, Option, Some, List, [], ◌∷◌, ◌++◌}
+use Rattle.std.specs.Prelude.{ℕ, Option, Some, List, ◌++◌}
 use Rattle.cap_row.specs.Fields.{Fields}
 use Rattle.cap_database.specs.Keyed.{row_set}
 use Rattle.cap_database.specs.Operation.{Changed, changes_to}
@@ -7,6 +7,7 @@ use Rattle.cap_database.specs.Read.{row_at}
 use Rattle.cap_database.specs.declared.cause.Cause.TheVariants.{Direct}
 use Rattle.cap_apply.specs.Applied.{AppliedState}
 use Rattle.cap_apply.specs.Apply.{left_out, row_comes, row_goes}
+use Rattle.cap_apply.specs.Report.{with_conflict}
 use Rattle.cap_apply.specs.declared.conflict.ConflictKind.{ConflictKind}
 use Rattle.cap_apply.specs.declared.policy.Answer.{Answer}
 use Rattle.cap_apply.specs.declared.policy.Answer.TheVariants.{Omit}
@@ -15,9 +16,7 @@ module _ {A : Type 0} where
   -- a conflict is reported with its answer
   abbrev pub answered_with : ℕ → ConflictKind → Answer → AppliedState A → AppliedState A
   answered_with number kind answer state = record state {
-    report = record state.report {
-      conflicts = state.report.conflicts ++ record { change = number; kind = kind; answer = answer } ∷ [];
-    };
+    report = with_conflict (record { change = number; kind = kind; answer = answer }) state.report;
   }
 
   -- the changes of these rows are added

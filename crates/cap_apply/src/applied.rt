@@ -1,16 +1,19 @@
 //! The result of applying a blob, and its steps.
-ghost use Rattle.std.specs.Prelude.{◌≡◌, [], ◌∷◌, Some, IfOk, IfSome, IsTrue, OnOk, if◌then◌else◌, is_some};
-ghost use Rattle.cap_value.specs.Memory.{AnswersUnlessMemory};
+ghost use Rattle.std.specs.Prelude.{◌≡◌, [], ◌∷◌, Some, IfSome, IsTrue, OnOk, is_some, length};
+ghost use Rattle.std.specs.Option.{option_copied};
+ghost use Rattle.cap_value.specs.Memory.{LeavesUnlessMemory};
+ghost use Rattle.cap_row.specs.Schema.{has_key};
+ghost use Rattle.cap_table.specs.Table.{TableState};
 ghost use Rattle.cap_database.specs.Keyed.{IsOwnRow};
+ghost use Rattle.cap_database.specs.Read.{row_at};
 ghost use Rattle.cap_database.specs.Tables.{table_of};
-ghost use Rattle.cap_apply.specs.Apply.{counted, left_out, noted, nothing_applied, skipped};
+ghost use Rattle.cap_apply.specs.Apply.{change_applied, nothing_applied, skipped};
 ghost use Rattle.cap_apply.specs.Merged.{merged, row_replaced, with_changes};
-ghost use Rattle.cap_apply.specs.Policy.{is_made};
 ghost use Rattle.cap_apply.specs.Target.{target};
 
-use crate::decision::Decision;
-use crate::target::has_target;
-use crate::{Answer, Conflict, ConflictKind, Report};
+use crate::target::columns_fit;
+use crate::{Answer, BlobChange, Conflict, ConflictKind, Decision, Report};
+use cap_changes::EntryRef;
 use cap_database::{Cause, Change, Database};
 use cap_row::{Key, Row, Schema};
 use cap_value::{AllocHandle, Fault, Name, OutOfMemory, Refusal};
@@ -18,7 +21,6 @@ use std::marker::Model;
 
 /// The result of applying a blob: the database, the changes to its rows, in order, and the report.
 pub struct Applied<A: AllocHandle> {
-    alloc: A,
     database: Database<A>,
     changes: Vec<Change<A>, A>,
     report: Report<A>,
@@ -36,7 +38,6 @@ impl<A: AllocHandle> Model for Applied<A> {
 impl<A: AllocHandle> Drop for Applied<A> {
     fn drop(self) {
         let Applied {
-            alloc: _,
             database: _,
             changes: _,
             report: _,
@@ -50,7 +51,6 @@ impl<A: AllocHandle> Applied<A> {
         ensures { result ≡ nothing_applied database }
     {
         Applied {
-            alloc,
             database,
             changes: Vec::new(alloc),
             report: Report::new(alloc),
@@ -86,7 +86,6 @@ impl<A: AllocHandle> Applied<A> {
         ensures report { result.2 ≡ self.report }
     {
         let Applied {
-            alloc: _,
             database,
             changes,
             report,
@@ -94,15 +93,14 @@ impl<A: AllocHandle> Applied<A> {
         (database, changes, report)
     }
 
-    pub(crate) fn alloc(&self) -> A {
-        self.alloc
-    }
-
     /// Whether the database has a table for a group with this name and these columns.
     pub fn has_target(&self, name: &Name<A>, columns: &Schema<A>) -> bool
         ensures { result ≡ is_some (target self.now.database name.now columns.now) }
     {
-        has_target(&self.database, name, columns)
+        match self.database.table(name) {
+            Some(table) => columns_fit(columns.flags(), table.schema().flags()),
+            None => false,
+        }
     }
 
     /// Reports a skipped group.
@@ -112,35 +110,36 @@ impl<A: AllocHandle> Applied<A> {
         self.report.skip(group)
     }
 
-    // Reports an applied change.
-    pub(crate) fn count(&mut self) -> Result<(), OutOfMemory>
-        ensures { OnOk result (self.new ≡ counted self.old) }
-    {
-        self.report.count()
-    }
-
-    // Reports the conflict of a change, if any, and answers whether the change is applied.
-    pub(crate) fn judge(
+    /// Applies a change of a group of this table and these columns, after what was applied before it. The row
+    /// under its key is looked at and its conflict is judged. Where the change is to be made, the row that it
+    /// leaves then stands in the place of that row.
+    pub fn apply_change<C: BlobChange<A>>(
         &mut self,
+        change: &EntryRef<'_, C>,
         decision: Decision,
-        conflict: Option<ConflictKind>,
-    ) -> Result<bool, Fault<Refusal>>
-        ensures made { AnswersUnlessMemory result (is_made decision.policy decision.number conflict) }
-        ensures noted { IfOk result (λ made. self.new ≡ (if made
-            then noted decision.policy decision.number conflict self.old
-            else left_out decision.number (noted decision.policy decision.number conflict self.old))) }
+        table: &Name<A>,
+        columns: &Schema<A>,
+    ) -> Result<(), Fault<Refusal>>
+        requires keyed { IsTrue (has_key columns.now) }
+        requires fits { IsTrue (C.fits_in columns.now change.now) }
+        requires target { IsTrue (is_some (target self.old.database table.now columns.now)) }
+        ensures { LeavesUnlessMemory result
+            (change_applied decision.policy decision.number table.now columns.now
+            (C.requested columns.now change.now) self.old) self.new }
     {
-        let made = match decision.is_made(conflict) {
-            Ok(made) => made,
-            Err(why) => return Err(Fault::Refused(why)),
-        };
-        if let Some(kind) = conflict {
-            self.report.note(decision.conflict(kind))?;
+        self.database.sound_rows_law();
+        let alloc = *self.changes.allocator();
+        let request = C::request(change, columns);
+        let key = request.key(alloc, columns)?;
+        let (before, width) = row_and_width(&self.database, table, &key);
+        let conflict = request.conflict(columns, before);
+        if !self.report.judge(decision, conflict)? {
+            return Ok(());
         }
-        if !made {
-            self.report.omit(decision.number)?;
-        }
-        Ok(made)
+        let after = request.row_after(alloc, columns, width, before)?;
+        self.set_row(table, key, after)?;
+        self.report.count()?;
+        Ok(())
     }
 
     /// Puts a row under its key in place of a change with this number, which met a conflict. The change is
@@ -167,7 +166,7 @@ impl<A: AllocHandle> Applied<A> {
     }
 
     // Puts this row under its key, or takes out the row that is there, and adds the changes of both rows.
-    pub(crate) fn set_row(
+    fn set_row(
         &mut self,
         table: &Name<A>,
         key: Key<A>,
@@ -207,5 +206,21 @@ impl<A: AllocHandle> Applied<A> {
             before,
         })?;
         Ok(())
+    }
+}
+
+// The row under a key in the table of the name, if any, and how many columns the table has.
+fn row_and_width<'a, A: AllocHandle>(
+    database: &'a Database<A>,
+    table: &Name<A>,
+    key: &Key<A>,
+) -> (Option<&'a Row<A>>, usize)
+    ensures row { option_copied result.0 ≡ row_at database.now table.now key.now }
+    ensures width { (found : TableState A) → table_of database.now table.now ≡ Some found
+        → result.1 ≡ length found.schema }
+{
+    match database.table(table) {
+        Some(found) => (found.keyed().get(key), found.schema().width()),
+        None => (None, 0),
     }
 }

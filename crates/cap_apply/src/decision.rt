@@ -1,8 +1,8 @@
 //! Whether one change is applied.
 ghost use Rattle.std.specs.Prelude.{◌≡◌};
-ghost use Rattle.cap_apply.specs.Policy.{answer_to, is_made};
+ghost use Rattle.cap_apply.specs.Policy.{is_made};
 
-use crate::{Answer, Conflict, ConflictKind, Policy};
+use crate::{Answer, ConflictKind, Policy};
 use cap_value::Refusal;
 
 /// By what a change is decided.
@@ -27,17 +27,6 @@ impl Decision {
             (Answer::Abort, _) => Err(Refusal::Aborted { at: self.number }),
             (Answer::Replace, ConflictKind::NotFound) => Err(Refusal::Misuse { at: self.number }),
             (Answer::Replace, _) => Ok(true),
-        }
-    }
-
-    // The conflict of the change, and the answer to it.
-    pub(crate) fn conflict(self, kind: ConflictKind) -> Conflict
-        ensures { result ≡ record { change = self.number; kind = kind; answer = answer_to self.policy kind } }
-    {
-        Conflict {
-            change: self.number,
-            kind,
-            answer: self.policy.answer(kind),
         }
     }
 }

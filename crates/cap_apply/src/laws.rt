@@ -32,5 +32,5 @@ pub fn applied_blobs_keep_order<A: AllocHandle>()
     ensures { (tables : Tables A) (blob : Contents A) (policy : Policy) → AreRising tables
         → FitsItsColumns blob → IfOk (apply tables blob policy) (λ left. AreRising left.database) }
 {
-    cap_database::laws::tables_keep_order::<A>();
+    cap_table::laws::keyed_rows_keep_tables::<A>();
 }

@@ -3,7 +3,6 @@
 
 mod applied;
 mod apply_blob;
-mod apply_change;
 mod conflict;
 mod decision;
 mod entry;
@@ -11,7 +10,7 @@ mod fields;
 pub mod laws;
 mod policy;
 mod report;
-mod row_conflict;
+mod requested_ref;
 mod target;
 
 pub use applied::Applied;
@@ -21,3 +20,4 @@ pub use decision::Decision;
 pub use entry::BlobChange;
 pub use policy::{Answer, Policy};
 pub use report::Report;
+pub use requested_ref::RequestedRef;

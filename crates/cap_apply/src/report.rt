@@ -1,8 +1,11 @@
 //! The report of an applied blob.
-ghost use Rattle.std.specs.Prelude.{◌≡◌, ◌+◌, ◌++◌, ◌∷◌, [], OnOk};
+ghost use Rattle.std.specs.Prelude.{◌≡◌, ◌+◌, [], IfOk, OnOk, if◌then◌else◌};
+ghost use Rattle.cap_value.specs.Memory.{AnswersUnlessMemory};
+ghost use Rattle.cap_apply.specs.Policy.{is_made};
+ghost use Rattle.cap_apply.specs.Report.{noted_in, with_conflict, with_omitted, with_skipped};
 
-use crate::Conflict;
-use cap_value::{AllocHandle, OutOfMemory};
+use crate::{Conflict, ConflictKind, Decision};
+use cap_value::{AllocHandle, Fault, OutOfMemory, Refusal};
 use std::marker::Model;
 
 /// The report of an applied blob. Changes and groups are numbered from 0 over the whole blob, the changes of
@@ -91,23 +94,51 @@ impl<A: AllocHandle> Report<A> {
         Ok(())
     }
 
+    // Reports the conflict of a change, if any, and answers whether the change is applied.
+    pub(crate) fn judge(
+        &mut self,
+        decision: Decision,
+        conflict: Option<ConflictKind>,
+    ) -> Result<bool, Fault<Refusal>>
+        ensures made { AnswersUnlessMemory result (is_made decision.policy decision.number conflict) }
+        ensures noted { IfOk result (λ made. self.new ≡ (if made
+            then noted_in decision.policy decision.number conflict self.old
+            else with_omitted decision.number
+            (noted_in decision.policy decision.number conflict self.old))) }
+    {
+        let made = match decision.is_made(conflict) {
+            Ok(made) => made,
+            Err(why) => return Err(Fault::Refused(why)),
+        };
+        if let Some(kind) = conflict {
+            self.note(Conflict {
+                change: decision.number,
+                kind,
+                answer: decision.policy.answer(kind),
+            })?;
+        }
+        if !made {
+            self.omit(decision.number)?;
+        }
+        Ok(made)
+    }
+
     pub(crate) fn note(&mut self, conflict: Conflict) -> Result<(), OutOfMemory>
-        ensures { OnOk result (self.new ≡
-            record self.old { conflicts = self.old.conflicts ++ conflict ∷ [] }) }
+        ensures { OnOk result (self.new ≡ with_conflict conflict self.old) }
     {
         self.conflicts.push(conflict)?;
         Ok(())
     }
 
     pub(crate) fn omit(&mut self, change: u64) -> Result<(), OutOfMemory>
-        ensures { OnOk result (self.new ≡ record self.old { omitted = self.old.omitted ++ change ∷ [] }) }
+        ensures { OnOk result (self.new ≡ with_omitted change self.old) }
     {
         self.omitted.push(change)?;
         Ok(())
     }
 
     pub(crate) fn skip(&mut self, group: u64) -> Result<(), OutOfMemory>
-        ensures { OnOk result (self.new ≡ record self.old { skipped = self.old.skipped ++ group ∷ [] }) }
+        ensures { OnOk result (self.new ≡ with_skipped group self.old) }
     {
         self.skipped.push(group)?;
         Ok(())

@@ -51,9 +51,11 @@ use Rattle.cap_apply.specs.declared.conflict.ConflictKind.TheVariants.{Data, Not
 use Rattle.cap_apply.specs.declared.policy.Answer.{Answer}
 use Rattle.cap_apply.specs.declared.policy.Answer.TheVariants.{Omit, Replace, Abort}
 use Rattle.cap_apply.specs.declared.policy.Policy.{Policy}
-use Rattle.cap_apply.proofs.ChangeLemmas.{HasTarget, applied_at, delete_is, has_target, insert_is, missed_made, update_is}
+use Rattle.cap_apply.proofs.ChangeLemmas.{HasTarget, applied_at, has_target, missed_made}
 use Rattle.cap_apply.proofs.EntryLemmas.{get_put}
-use Rattle.cap_apply.proofs.OrderLemmas.{Keyed, change-keyed, found-rises, patch-keyed}
+use Rattle.cap_apply.proofs.KeyLemmas.{Keyed, change-keyed, patch-keyed}
+use Rattle.cap_apply.proofs.OperationLemmas.{delete_is, insert_is, update_is}
+use Rattle.cap_apply.proofs.OrderLemmas.{found-rises}
 use Rattle.cap_apply.proofs.RowLemmas.{few_fields, key_of-new_row, key_of-set_fields, length-new_row, record_key, update_key}
 
 -- ---- an entry that is taken out, and another that is put under its key

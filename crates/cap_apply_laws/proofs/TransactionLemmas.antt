@@ -22,7 +22,8 @@ use Rattle.cap_apply.specs.Operations.{AreRun, IsMadeOrOmitted, operations_of_pa
 use Rattle.cap_apply.specs.Requested.{Requested, requested_of}
 use Rattle.cap_apply.specs.Target.{target}
 use Rattle.cap_apply.specs.declared.policy.Policy.{Policy}
-use Rattle.cap_apply.proofs.OrderLemmas.{IsKeyedGroup, Keyed, blob-keyed}
+use Rattle.cap_apply.proofs.KeyLemmas.{Keyed}
+use Rattle.cap_apply.proofs.OrderLemmas.{IsKeyedGroup, blob-keyed}
 use Rattle.cap_apply_laws.proofs.RunLemmas.{none-run, requests-are-run, run-then}
 
 module _ {A : Type 0} where

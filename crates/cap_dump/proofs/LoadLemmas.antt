@@ -20,29 +20,30 @@ use Rattle.cap_tree.proofs.EntryLemmas.{Each, get-past, put_entry-past, reversed
 use Rattle.cap_table.specs.Operation.{empty_table}
 use Rattle.cap_table.specs.Sound.{IsRising, is_keyed_row}
 use Rattle.cap_table.specs.Table.{TableState}
-use Rattle.cap_database.specs.Operation.{run}
-use Rattle.cap_database.specs.declared.op.Op.{Op}
 use Rattle.cap_database.specs.Tables.{AreRising, EachRises, Tables, create, created, refused_create, table_of}
 use Rattle.cap_changes.specs.Entries.{IsFitting}
 use Rattle.cap_changes.specs.Fits.{change_fits}
 use Rattle.cap_changes.specs.declared.row_change.RowChange.{RowChange}
 use Rattle.cap_changes.proofs.ChangeLemmas.{full_fits}
+use Rattle.cap_codec.specs.declared.read.Contents.{Contents}
 use Rattle.cap_codec.specs.declared.read.Contents.TheVariants.{Changes}
 use Rattle.cap_apply.specs.Applied.{AppliedState}
 use Rattle.cap_apply.specs.Apply.{and_then, apply}
 use Rattle.cap_apply.specs.Captured.{AllAfter, AllBefore, AreOthers, TableRows, changes_of}
 use Rattle.cap_apply.specs.Difference.{Difference, RowsAfter}
+use Rattle.cap_apply.specs.Fitting.{FitsItsColumns}
 use Rattle.cap_apply.specs.Policy.{always}
 use Rattle.cap_apply.specs.declared.policy.Answer.TheVariants.{Abort}
+use Rattle.cap_apply.specs.declared.policy.Policy.{Policy}
 use Rattle.cap_apply.proofs.BlobLemmas.{changeset_gives}
-use Rattle.cap_apply.proofs.OrderLemmas.{apply-rises, found-rises}
+use Rattle.cap_apply.proofs.OrderLemmas.{found-rises}
 use Rattle.cap_dump.specs.Dump.{AreHeldWhole, dump, insert_of, inserts_of, keyed_part, keyed_parts}
 use Rattle.cap_dump.specs.Load.{create_each, filled, load, loaded, named_in, refused_load, tables_in}
 use Rattle.cap_dump.proofs.RowLemmas.{first_below, found_under, keyed_row, keys_same, names_same, new_row_of, new_rows, same_by_get, sorted_parts}
 
--- operations keep the order of tables, a law of cap_database
+-- blobs keep the order of tables, a law of cap_apply
 abbrev pub KeepOrder : Type 0 → Type 0
-KeepOrder A = (tables : Tables A) (ops : List (Op A)) → AreRising tables → IfOk (run tables ops) (λ left. AreRising left.database)
+KeepOrder A = (tables : Tables A) (blob : Contents A) (policy : Policy) → AreRising tables → FitsItsColumns blob → IfOk (apply tables blob policy) (λ left. AreRising left.database)
 
 none_there : (A : Type 0) (names : List (List ℕ × List Bool)) → list_any (λ n. is_some (table_of {A = A} [] n.0)) names ≡ false
 none_there A [] = refl
@@ -218,7 +219,7 @@ module _ {A : Type 0} where
       let applied : apply made blob (always Abort) ≡ Ok left = ap (λ list. apply made (Changes list) (always Abort)) (sym (same_groups parts)) ∙ gives.1 in
       let rises : AreRising left.database =
       subst (λ answer. IfOk answer (λ (l : AppliedState A). AreRising l.database)) applied
-      (apply-rises keep made blob (always Abort) (record { names = blanks_sorted parts sorted; each = blanks_rise parts }) (All-from_recursion (IsFitting change_fits) (map inserts_of parts) (tables_fit parts are))) in
+      (keep made blob (always Abort) (record { names = blanks_sorted parts sorted; each = blanks_rise parts }) (All-from_recursion (IsFitting change_fits) (map inserts_of parts) (tables_fit parts are))) in
       let same : left.database ≡ parts =
       same_by_get bytes_cmp nat_list_cmp_total names_same left.database parts rises.names sorted
       (λ name. found_by_name parts left.database name rises.each are gives.2 (λ apart. gives.3 name apart ∙ nowhere name parts apart)) in

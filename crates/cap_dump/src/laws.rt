@@ -28,5 +28,5 @@ pub fn dumps_are_loaded_again<A: AllocHandle>()
         → load [] (Changes (dump tables)) ≡ Ok (keyed_parts tables) }
     ensures whole { (tables : Tables A) → AreHeldWhole tables → keyed_parts tables ≡ tables }
 {
-    cap_database::laws::tables_keep_order::<A>();
+    cap_apply::laws::applied_blobs_keep_order::<A>();
 }
