@@ -1,13 +1,12 @@
 -- The changes of a commit, one after the other.
 use Rattle.std.proofs.Common.{◌≡◌, ℕ, Bool, true, false, cond, None, List, [], ◌∷◌, ◌||◌, refl, sym, ap, ap₂, ◌∙◌}
-use Rattle.std.specs.Prelude.{fold}
 use Rattle.std.specs.Cmp.Lexicographic.{bytes_decides}
 use Rattle.std.specs.List.{cons_option}
 use Rattle.std.specs.Option.{option_map}
 use Rattle.cap_value.specs.Bytes.{bytes_eq}
 use Rattle.cap_database.specs.declared.change.Change.{Change}
 use Rattle.cap_session.specs.Recording.{is_cascade, touch_of, touch_table, touch_tables, touches_of}
-use Rattle.cap_session.specs.Records.{Records, touch, with_touches}
+use Rattle.cap_session.specs.Records.{Records, with_touches}
 use Rattle.cap_session.specs.Session.{AttachedTables}
 use Rattle.cap_session.proofs.RecordLemmas.{touch-first}
 use Rattle.cap_session.proofs.TableLemmas.{other-way}
@@ -36,8 +35,7 @@ module _ {A : Type 0} (indirect : Bool) where
   one-more change rest [] = refl
   one-more change rest (t ∷ ts) =
       ap₂ (λ (records : Records A) others. (t.0, records) ∷ others)
-      (ap (λ records. fold touch records (touches_of indirect t.0 rest)) (sym (touch-first t.1 (touch_of indirect t.0 change) []))
-      ∙ touch-first t.1 (touch_of indirect t.0 change) (touches_of indirect t.0 rest))
+      (touch-first t.1 (touch_of indirect t.0 change) (touches_of indirect t.0 rest))
       (one-more change rest ts)
 
   pub no-change : (tables : AttachedTables A) → touch_tables indirect [] tables ≡ tables

@@ -10,5 +10,4 @@ mod NoteLemmas
 mod NumberLemmas
 mod PlaceLemmas
 pub mod RecordLemmas
-mod RecordingLemmas
-mod TableLemmas
+pub mod TableLemmas

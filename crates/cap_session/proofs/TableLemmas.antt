@@ -1,5 +1,5 @@
 -- The tables of an attach list by name: the one with a name, and what a change of it makes of all.
-use Rattle.std.proofs.Common.{◌≡◌, ℕ, zero, suc, true, false, not, cond, Option, Some, None, List, [], ◌∷◌, ◌++◌, ◌&&◌, refl, sym, ap, ap₂, subst, ◌∙◌}
+use Rattle.std.proofs.Common.{◌≡◌, ℕ, zero, suc, true, false, not, cond, Option, Some, None, List, [], ◌∷◌, ◌++◌, ◌&&◌, ◌||◌, refl, sym, ap, ap₂, subst, ◌∙◌}
 use Rattle.std.specs.Prelude.{is_some}
 use Rattle.std.specs.Cmp.Lexicographic.{bytes_decides}
 use Rattle.std.specs.List.{AllByRecursion, IsDistinct}
@@ -12,7 +12,6 @@ use Rattle.cap_session.specs.Delta.{changed_at}
 use Rattle.cap_session.specs.Recording.{attach_by, attach_by_rule, touch_table}
 use Rattle.cap_session.specs.Records.{Touch, with_touches}
 use Rattle.cap_session.specs.Session.{AttachedTables, accepts_by, attach, is_listed, records_of}
-use Rattle.cap_session.proofs.RecordingLemmas.{listed}
 use Rattle.cap_session.proofs.PlaceLemmas.{IsFirst, NonePass}
 
 pub other-way : (a b : List ℕ) → bytes_eq a b ≡ false → bytes_eq b a ≡ false
@@ -51,8 +50,16 @@ module _ {A : Type 0} (name : List ℕ) where
         ]
       ]
 
+  pub listed : (ts : AttachedTables A) → is_listed name ts ≡ is_some (records_of ts name)
+  listed [] = refl
+  listed (t ∷ ts) =
+      elim (bytes_eq name t.0) as (λ b. (b || is_listed name ts) ≡ is_some (cond b (Some t.1) (records_of ts name))) [
+        | true ↦ refl
+        | false ↦ listed ts
+      ]
+
   pub none-listed : (ts : AttachedTables A) → is_listed name ts ≡ false → records_of ts name ≡ None
-  none-listed ts absent = nothing (records_of ts name) (sym (listed name ts) ∙ absent)
+  none-listed ts absent = nothing (records_of ts name) (sym (listed ts) ∙ absent)
     where
       nothing : {X : Type 0} (o : Option X) → is_some o ≡ false → o ≡ None
       nothing None is = refl

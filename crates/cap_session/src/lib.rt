@@ -3,7 +3,6 @@
 
 mod attached;
 mod delta;
-pub mod laws;
 mod record;
 mod records;
 mod records_iter;

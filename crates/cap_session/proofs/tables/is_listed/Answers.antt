@@ -1,5 +1,5 @@
 use Rattle.std.proofs.Common.{sym, ◌∙◌}
-use Rattle.cap_session.proofs.RecordingLemmas.{listed}
+use Rattle.cap_session.proofs.TableLemmas.{listed}
 use Rattle.cap_session.proofs.tables.is_listed.Goals as goal
 
 pub returns : goal.returns

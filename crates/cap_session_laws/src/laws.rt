@@ -15,10 +15,11 @@ ghost use Rattle.cap_database.specs.declared.change.Change.{Change};
 ghost use Rattle.cap_session.specs.declared.record.Record.{Record};
 ghost use Rattle.cap_session.specs.declared.rule.AutomaticRule.{AutomaticRule};
 ghost use Rattle.cap_session.specs.Recording.{attach_by_rule, record_commit, touches_of};
-ghost use Rattle.cap_session.specs.Records.{AreTouched, Records, Touch, touches_at, with_touches};
+ghost use Rattle.cap_session.specs.Records.{Records, Touch, with_touches};
 ghost use Rattle.cap_session.specs.Session.{AttachedTables, SessionState, accepts_by, attach_all, records_of};
 ghost use Rattle.cap_session.specs.Session.{set_filter};
 ghost use Rattle.cap_session.specs.Sessions.{NumberedSessions, record_commit_each};
+ghost use Rattle.cap_session_laws.specs.Touched.{AreTouched, touches_at};
 
 use cap_value::AllocHandle;
 

@@ -15,8 +15,10 @@ use Rattle.cap_database.specs.Tables.{Tables}
 use Rattle.cap_database.specs.declared.change.Change.{Change}
 use Rattle.cap_session.specs.declared.rule.AutomaticRule.{AutomaticRule}
 use Rattle.cap_session.specs.Recording.{attach_by, attach_by_rule, is_cascade, record_commit, touch_tables, touches_of}
-use Rattle.cap_session.specs.Records.{Records, Touch, touches_at, with_touches}
+use Rattle.cap_session.specs.Records.{Records, Touch, with_touches}
 use Rattle.cap_session.specs.Session.{AttachedTables, SessionState, accepts_by, attach, is_listed, records_of}
+use Rattle.cap_session.proofs.TableLemmas.{listed}
+use Rattle.cap_session_laws.specs.Touched.{touches_at}
 
 and_true : (a : Bool) → (a && true) ≡ a
 and_true true = refl
@@ -60,14 +62,6 @@ module _ {A : Type 0} where
   unfolding found_or
   found_or-there None b is = cc
   found_or-there (Some records) b is = refl
-
-  pub listed : (name : List ℕ) (tables : AttachedTables A) → is_listed name tables ≡ is_some (records_of tables name)
-  listed name [] = refl
-  listed name (t ∷ tables) =
-      elim (bytes_eq name t.0) as (λ b. (b || is_listed name tables) ≡ is_some (cond b (Some t.1) (records_of tables name))) [
-        | true ↦ refl
-        | false ↦ listed name tables
-      ]
 
   records_of-push : (tables : AttachedTables A) (new name : List ℕ) → records_of (tables ++ (new, []) ∷ []) name ≡ found_or (records_of tables name) (bytes_eq name new)
   unfolding found_or

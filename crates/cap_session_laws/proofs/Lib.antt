@@ -1,0 +1,2 @@
+pub mod RecordingLemmas
+pub mod TouchedLemmas

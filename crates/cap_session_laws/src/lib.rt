@@ -1,0 +1,4 @@
+//! Laws of sessions, over the definitions alone.
+#![tactic(auto)]
+
+pub mod laws;
