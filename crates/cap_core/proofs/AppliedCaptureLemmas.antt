@@ -1,23 +1,22 @@
 -- A capture that is applied to a database with the first images gives main's rows.
 use Rattle.std.proofs.Common.{◌≡◌, ℕ, ◌+◌, Bool, true, false, cond, Option, Some, None, List, [], ◌∷◌, map, length, refl, sym, ap, ap₂, subst, ◌∙◌, arith, nat_eq, Less}
-use Rattle.std.specs.Prelude.{filter, not, option_and_then, ◌||◌}
+use Rattle.std.specs.Prelude.{filter, not, option_and_then}
 use Rattle.std.specs.Option.{option_map}
 use Rattle.std.specs.List.{AllByRecursion, cons_option, filter_map}
 use Rattle.std.specs.List.Sorted.{IsStrictlySortedBy}
 use Rattle.std.specs.Map.{keys_of}
 use Rattle.std.specs.Ordering.{eq_by_cmp, is_eq}
 use Rattle.std.specs.Cmp.Lexicographic.{bytes_decides}
+use Rattle.std.proofs.lemmas.Bool.{cond_both}
 use Rattle.std.proofs.lemmas.Bool.Decides.{nat_tests}
 use Rattle.std.proofs.lemmas.List.{length-map}
 use Rattle.std.proofs.lemmas.List.Sums.{sum_by-cons}
-use Rattle.cap_value.specs.Bytes.{bytes_cmp, bytes_eq}
+use Rattle.cap_value.specs.Bytes.{bytes_eq}
 use Rattle.cap_row.specs.Fields.{Fields}
-use Rattle.cap_row.specs.Key.{fields_cmp, fields_cmp-Equal, fields_eq}
-use Rattle.cap_changes.specs.Change.{change_of, new_field, old_field}
-use Rattle.cap_changes.specs.Column.{by_column}
+use Rattle.cap_row.specs.Key.{fields_cmp, fields_cmp-Equal}
+use Rattle.cap_changes.specs.Change.{change_of}
 use Rattle.cap_changes.specs.Group.{TableChanges}
 use Rattle.cap_changes.specs.declared.row_change.RowChange.{RowChange}
-use Rattle.cap_changes.specs.declared.row_change.RowChange.TheVariants.{Update}
 use Rattle.cap_tree.specs.Tree.{IsOrdered, get}
 use Rattle.cap_table.specs.Sound.{IsRising, is_keyed_row}
 use Rattle.cap_table.specs.Table.{TableState}
@@ -25,6 +24,7 @@ use Rattle.cap_database.specs.Read.{row_at}
 use Rattle.cap_database.specs.Tables.{AreRising, Tables, schema_of, table_of}
 use Rattle.cap_changes.specs.Patch.{patch_list_of}
 use Rattle.cap_codec.specs.Writable.{has_some}
+use Rattle.cap_database.proofs.KeptLemmas.{each-found}
 use Rattle.cap_codec.specs.declared.read.Contents.{Contents}
 use Rattle.cap_codec.specs.declared.read.Contents.TheVariants.{Changes, Patches}
 use Rattle.cap_apply.specs.Captured.{AllAfter, AllBefore, AllDiffer, AreOthers, GivesAllRowsNow, TableRows, changes_of as group_of_rows, total}
@@ -33,23 +33,21 @@ use Rattle.cap_apply.specs.Fitting.{FitsItsColumns}
 use Rattle.cap_apply.specs.Difference.{AreApart, Difference, HoldAfter, HoldBefore, IsUnder}
 use Rattle.cap_session.specs.declared.record.Record.{Record}
 use Rattle.cap_session.specs.Records.{Records}
-use Rattle.cap_session.specs.Sessions.{session_numbered}
 use Rattle.cap_session.specs.Session.{AttachedTables, SessionState, record_of, records_of as attached_records}
 use Rattle.cap_core.specs.declared.reply.Reply.TheVariants.{Capture as Captured}
 use Rattle.cap_core.specs.Capture.{CaptureState, change_now, changes_of, group_of, session_changes, table_changes}
-use Rattle.cap_core.specs.Answer.{capture_after, capture_reply, session_answer}
+use Rattle.cap_core.specs.Answer.{capture_after}
 use Rattle.cap_core.specs.AppliedCapture.{AppliesWhole, GivesRows, HoldsImages, but_keyed, changes_in}
 use Rattle.cap_core.specs.Flags.{is_dropped, sessions_made}
 use Rattle.cap_core.specs.History.{main, version}
 use Rattle.cap_core.specs.Past.{Past}
-use Rattle.cap_core.specs.Session.{session_of, sessions}
+use Rattle.cap_core.specs.Session.{session_of}
 use Rattle.cap_core.specs.Touch.{attach_list, attachings, first_of_each, touches, touches_of}
 use Rattle.cap_core.proofs.HistoryLemmas.{is_among, same_bytes, table_names}
 use Rattle.cap_core.proofs.KeyedLemmas.{ordered}
 use Rattle.cap_core.proofs.LawLemmas.{no_changes, truth}
 use Rattle.cap_core.proofs.NumberLemmas.{lookup-passing}
 use Rattle.cap_core.proofs.SessionLemmas.{kept}
-use Rattle.cap_core.proofs.SmallLemmas.{either_false, other_false}
 use Rattle.cap_core.proofs.SoundLemmas.{found-passes, is_keyed_row-key_of, is_keyed_row-wide}
 use Rattle.cap_core.proofs.TouchedLemmas.{fields_same, is_sorted-records_of, tied}
 
@@ -57,12 +55,7 @@ use Rattle.cap_core.proofs.TouchedLemmas.{fields_same, is_sorted-records_of, tie
 
 module _ {A : Type 0} where
   pub found-rising : (tables : Tables A) (name : List ℕ) (table : TableState A) → AllByRecursion (λ named. IsRising named.1) tables → table_of tables name ≡ Some table → IsRising table
-  found-rising [] name table all found = cc
-  found-rising (named ∷ tables) name table all found =
-      elim (eq_by_cmp bytes_cmp name named.0) as (λ b. cond b (Some named.1) (table_of tables name) ≡ Some table → IsRising table) [
-        | true ↦ λ is. let same : named.1 ≡ table = cc in subst IsRising same all.0
-        | false ↦ λ is. found-rising tables name table all.1 is
-      ] found
+  found-rising tables name table all found = each-found IsRising tables name table all found
 
   -- a row that is found is a row of its table
   under : (table : TableState A) → IsRising table → (key : Fields A) (row : Option (Fields A)) → get fields_cmp table.keyed key ≡ row → IsUnder table.schema key row
@@ -76,15 +69,9 @@ module _ {A : Type 0} where
 
   -- where there is no change, the row is the image
   unchanged : (flags : List Bool) (indirect : Bool) (image now : Option (Fields A)) → change_of flags indirect image now ≡ None → image ≡ now
-  unchanged flags indirect None None none = refl
-  unchanged flags indirect None (Some now) none = cc
+  unchanged flags indirect None now none = grind arith
   unchanged flags indirect (Some image) None none = cc
-  unchanged flags indirect (Some image) (Some now) none =
-      let changed : Option (RowChange A) = Some (Update indirect (by_column old_field flags image now) (by_column new_field flags image now)) in
-      elim (fields_eq image now) as (λ b. fields_eq image now ≡ b → cond b None changed ≡ None → Some image ≡ Some now) [
-        | true ↦ λ same _. ap Some (tied fields_cmp image now fields_same same)
-        | false ↦ λ _ is. cc
-      ] refl none
+  unchanged flags indirect (Some image) (Some now) none = grind (arith, tied fields_cmp image now fields_same)
 
 -- ---- one table
 
@@ -96,14 +83,9 @@ module _ {A : Type 0} (database now : TableState A) where
   abbrev pub differences : Records A → List (Difference A)
   differences records = filter_map (λ touched. difference_at touched (change_now now touched)) records
 
-  changes-one : (touched : Fields A × Record A) (change : Option (RowChange A)) (ds : List (Difference A)) (changes : List (RowChange A)) → map (λ (d : Difference A). d.change) ds ≡ changes
-      → map (λ (d : Difference A). d.change) (cons_option (difference_at touched change) ds) ≡ cons_option change changes
-  changes-one touched None ds changes is = is
-  changes-one touched (Some change) ds changes is = ap (λ cs. change ∷ cs) is
-
   pub changes-are : (records : Records A) → map (λ (d : Difference A). d.change) (differences records) ≡ filter_map (change_now now) records
   changes-are [] = refl
-  changes-are (touched ∷ records) = changes-one touched (change_now now touched) (differences records) (filter_map (change_now now) records) (changes-are records)
+  changes-are (touched ∷ records) = grind (arith, changes-are records)
 
   -- a key that was not touched is apart from all differences
   apart-one : (key : Fields A) (touched : Fields A × Record A) (change : Option (RowChange A)) (ds : List (Difference A)) → eq_by_cmp fields_cmp key touched.0 ≡ false → AreApart key ds
@@ -129,7 +111,7 @@ module _ {A : Type 0} (database now : TableState A) where
 
     above : (x : Fields A) (records : Records A) → AllByRecursion (λ y. fields_cmp x y ≡ Less) (keys_of records) → get fields_cmp records x ≡ None
     above x [] all = refl
-    above x (touched ∷ records) all = ap (λ r. cond (is_eq r) (Some touched.1) (get fields_cmp records x)) all.0 ∙ above x records all.1
+    above x (touched ∷ records) all = grind (arith, all.0, above x records all.1)
 
     not-later : (touched : Fields A × Record A) (records : Records A) → IsOrdered fields_cmp (touched ∷ records) → get fields_cmp records touched.0 ≡ None
     unfolding IsStrictlySortedBy
@@ -140,15 +122,10 @@ module _ {A : Type 0} (database now : TableState A) where
     Images records = (key : Fields A) (kept : Record A) → get fields_cmp records key ≡ Some kept → get fields_cmp database.keyed key ≡ kept.image
 
     images-later : (touched : Fields A × Record A) (records : Records A) → IsOrdered fields_cmp (touched ∷ records) → Images (touched ∷ records) → Images records
-    images-later touched records s images key kept found =
-        elim (eq_by_cmp fields_cmp key touched.0) as (λ b. eq_by_cmp fields_cmp key touched.0 ≡ b → get fields_cmp database.keyed key ≡ kept.image) [
-          | true ↦ λ is. let e : None ≡ Some kept = sym (not-later touched records s) ∙ ap (get fields_cmp records) (sym (tied fields_cmp key touched.0 fields_same is)) ∙ found in cc
-          | false ↦ λ apart. images key kept (ap (λ b. cond b (Some touched.1) (get fields_cmp records key)) apart ∙ found)
-        ] refl
+    images-later touched records s images key kept found = grind (arith, not-later touched records s, tied fields_cmp key touched.0 fields_same, images key kept)
 
     image-first : (touched : Fields A × Record A) (records : Records A) → Images (touched ∷ records) → get fields_cmp database.keyed touched.0 ≡ touched.1.image
-    image-first touched records images =
-        images touched.0 touched.1 (ap (λ b. cond b (Some touched.1) (get fields_cmp records touched.0)) (ap is_eq ((fields_cmp-Equal touched.0 touched.0).1 refl)))
+    image-first touched records images = grind (arith, images touched.0 touched.1, (fields_cmp-Equal touched.0 touched.0).1 refl)
 
     stand-one : (touched : Fields A × Record A) (records : Records A) (change : Option (RowChange A)) → change_now now touched ≡ change → IsOrdered fields_cmp (touched ∷ records) → Images (touched ∷ records)
         → HoldBefore database.schema database (differences records) → HoldBefore database.schema database (cons_option (difference_at touched change) (differences records))
@@ -187,40 +164,33 @@ module _ {A : Type 0} (database now : TableState A) where
           → HoldAfter found (differences records) → get fields_cmp found.keyed key ≡ get fields_cmp now.keyed key
       after-changed [] key kept change at is after = cc
       after-changed (touched ∷ records) key kept change at is after =
-          elim (eq_by_cmp fields_cmp key touched.0) as (λ b. eq_by_cmp fields_cmp key touched.0 ≡ b → cond b (Some touched.1) (get fields_cmp records key) ≡ Some kept → get fields_cmp found.keyed key ≡ get fields_cmp now.keyed key) [
-            | true ↦ λ same_key e.
-                let keys : key ≡ touched.0 = tied fields_cmp key touched.0 fields_same same_key in
-                let values : touched.1 ≡ kept = cc in
-                ap (get fields_cmp found.keyed) keys
-                ∙ after-here touched change (change_now now touched) ((λ i. change_now now (sym keys i, values i)) ∙ is) (differences records) after
-                ∙ ap (get fields_cmp now.keyed) (sym keys)
-            | false ↦ λ _ e. after-changed records key kept change e is (after-one touched (change_now now touched) (differences records) after)
-          ] refl at
+          let later = λ (e : get fields_cmp records key ≡ Some kept). after-changed records key kept change e is (after-one touched (change_now now touched) (differences records) after) in
+          let here = λ (e : change_now now touched ≡ Some change). after-here touched change (change_now now touched) e (differences records) after in
+          grind (arith, tied fields_cmp key touched.0 fields_same)
 
       -- a key that was touched, and whose row does not differ
       apart-unchanged : (records : Records A) (key : Fields A) (kept : Record A) → IsOrdered fields_cmp records → get fields_cmp records key ≡ Some kept → change_now now (key, kept) ≡ None → AreApart key (differences records)
       apart-unchanged [] key kept s at none = tt
       apart-unchanged (touched ∷ records) key kept s at none =
-          elim (eq_by_cmp fields_cmp key touched.0) as (λ b. eq_by_cmp fields_cmp key touched.0 ≡ b → cond b (Some touched.1) (get fields_cmp records key) ≡ Some kept
-          → AreApart key (cons_option (difference_at touched (change_now now touched)) (differences records))) [
-            | true ↦ λ same_key e.
+          elim (eq_by_cmp fields_cmp key touched.0) as (λ b. eq_by_cmp fields_cmp key touched.0 ≡ b → AreApart key (cons_option (difference_at touched (change_now now touched)) (differences records))) [
+            | true ↦ λ same_key.
                 let keys : key ≡ touched.0 = tied fields_cmp key touched.0 fields_same same_key in
-                let values : touched.1 ≡ kept = cc in
-                let nothing : change_now now touched ≡ None = (λ i. change_now now (sym keys i, values i)) ∙ none in
+                let nothing : change_now now touched ≡ None = grind arith in
                 subst (λ c. AreApart key (cons_option (difference_at touched c) (differences records))) (sym nothing)
                 (subst (λ k. AreApart k (differences records)) (sym keys) (apart-untouched records touched.0 (not-later touched records s)))
-            | false ↦ λ apart e. apart-one key touched (change_now now touched) (differences records) apart (apart-unchanged records key kept (after-head touched records s) e none)
-          ] refl at
+            | false ↦ λ apart.
+                let later : get fields_cmp records key ≡ Some kept = grind arith in
+                apart-one key touched (change_now now touched) (differences records) apart (apart-unchanged records key kept (after-head touched records s) later none)
+          ] refl
 
       pub rows-touched : (records : Records A) → IsOrdered fields_cmp records → Images records → HoldAfter found (differences records)
           → ((key : Fields A) → AreApart key (differences records) → get fields_cmp found.keyed key ≡ get fields_cmp database.keyed key)
           → (key : Fields A) (kept : Record A) → get fields_cmp records key ≡ Some kept → get fields_cmp found.keyed key ≡ get fields_cmp now.keyed key
       rows-touched records s images after others key kept at =
-          elim (change_now now (key, kept)) as (λ c. change_now now (key, kept) ≡ c → get fields_cmp found.keyed key ≡ get fields_cmp now.keyed key) [
-            | None ↦ λ none.
-                others key (apart-unchanged records key kept s at none) ∙ images key kept at ∙ unchanged now.schema kept.indirect kept.image (get fields_cmp now.keyed key) none
-            | Some change ↦ λ is. after-changed records key kept change at is after
-          ] refl
+          let same = unchanged now.schema kept.indirect kept.image (get fields_cmp now.keyed key) in
+          let apart = λ (none : change_now now (key, kept) ≡ None). others key (apart-unchanged records key kept s at none) in
+          let changed = λ (change : RowChange A) (is : change_now now (key, kept) ≡ Some change). after-changed records key kept change at is after in
+          grind (arith, images key kept)
 
 -- ---- all tables
 
@@ -231,28 +201,16 @@ AreDistinct (name ∷ names) = (is_among name names ≡ false) × AreDistinct na
 
 filter-absent : (name : List ℕ) (test : List ℕ → Bool) (names : List (List ℕ)) → is_among name names ≡ false → is_among name (filter test names) ≡ false
 filter-absent name test [] absent = refl
-filter-absent name test (other ∷ names) absent =
-    let rest = filter-absent name test names (other_false (bytes_eq name other) (is_among name names) absent) in
-    elim (test other) as (λ b. is_among name (cond b (other ∷ filter test names) (filter test names)) ≡ false) [
-      | true ↦ ap (λ b. b || is_among name (filter test names)) (either_false (bytes_eq name other) (is_among name names) absent) ∙ rest
-      | false ↦ rest
-    ]
+filter-absent name test (other ∷ names) absent = grind (arith, filter-absent name test names)
 
 filter-distinct : (test : List ℕ → Bool) (names : List (List ℕ)) → AreDistinct names → AreDistinct (filter test names)
 filter-distinct test [] all = tt
 filter-distinct test (name ∷ names) all =
-    elim (test name) as (λ b. AreDistinct (cond b (name ∷ filter test names) (filter test names))) [
-      | true ↦ (filter-absent name test names all.0, filter-distinct test names all.1)
-      | false ↦ filter-distinct test names all.1
-    ]
+    let rest = filter-distinct test names all.1 in cond_both (test name) _ _ AreDistinct (λ _. (filter-absent name test names all.0, rest)) (λ _. rest)
 
 left-out : (name : List ℕ) (names : List (List ℕ)) → is_among name (filter (λ other. not (bytes_eq name other)) names) ≡ false
 left-out name [] = refl
-left-out name (other ∷ names) =
-    elim (bytes_eq name other) as (λ b. bytes_eq name other ≡ b → is_among name (cond (not b) (other ∷ filter (λ o. not (bytes_eq name o)) names) (filter (λ o. not (bytes_eq name o)) names)) ≡ false) [
-      | true ↦ λ _. left-out name names
-      | false ↦ λ apart. ap (λ b. b || is_among name (filter (λ o. not (bytes_eq name o)) names)) apart ∙ left-out name names
-    ] refl
+left-out name (other ∷ names) = grind (arith, left-out name names)
 
 pub first_of_each-distinct : (names : List (List ℕ)) → AreDistinct (first_of_each names)
 first_of_each-distinct [] = tt
@@ -277,9 +235,7 @@ module _ {A : Type 0} where
 
   pub not-attached : (name : List ℕ) (tables : AttachedTables A) → is_among name (names_of tables) ≡ false → attached_records tables name ≡ None
   not-attached name [] absent = refl
-  not-attached name (attached ∷ tables) absent =
-      ap (λ b. cond b (Some attached.1) (attached_records tables name)) (either_false (bytes_eq name attached.0) (is_among name (names_of tables)) absent)
-      ∙ not-attached name tables (other_false (bytes_eq name attached.0) (is_among name (names_of tables)) absent)
+  not-attached name (attached ∷ tables) absent = grind (arith, not-attached name tables)
 
   no-items : (ds : List (Difference A)) → map (λ (d : Difference A). d.change) ds ≡ [] → ds ≡ []
   no-items [] none = refl
@@ -348,24 +304,25 @@ module _ {A : Type 0} (database main : Tables A) (rise : AreRising database) (ma
   -- an entry that is found in the rest is found in all, where no name comes twice
   found-later : (attached : List ℕ × Records A) (tables : AttachedTables A) (name : List ℕ) (records : Records A) → is_among attached.0 (names_of tables) ≡ false → attached_records tables name ≡ Some records
       → attached_records (attached ∷ tables) name ≡ Some records
-  found-later attached tables name records apart at =
-      elim (bytes_eq name attached.0) as (λ b. bytes_eq name attached.0 ≡ b → cond b (Some attached.1) (attached_records tables name) ≡ Some records) [
-        | true ↦ λ same. let e : None ≡ Some records = sym (not-attached attached.0 tables apart) ∙ ap (attached_records tables) (sym ((bytes_decides name attached.0).0 same)) ∙ at in cc
-        | false ↦ λ _. at
-      ] refl
+  found-later attached tables name records apart at = grind (arith, (bytes_decides name attached.0).0, not-attached attached.0 tables apart)
 
   found-here : (attached : List ℕ × Records A) (tables : AttachedTables A) → attached_records (attached ∷ tables) attached.0 ≡ Some attached.1
   found-here attached tables = ap (λ b. cond b (Some attached.1) (attached_records tables attached.0)) (same_bytes attached.0)
 
   absent-here : (attached : List ℕ × Records A) (tables : AttachedTables A) (other : List ℕ) → attached_records (attached ∷ tables) other ≡ None → (bytes_eq other attached.0 ≡ false) × (attached_records tables other ≡ None)
-  absent-here attached tables other none =
-      elim (bytes_eq other attached.0) as (λ b. cond b (Some attached.1) (attached_records tables other) ≡ None → (b ≡ false) × (attached_records tables other ≡ None)) [
-        | true ↦ λ is. cc
-        | false ↦ λ is. (refl, is)
-      ] none
+  absent-here attached tables other none = (grind arith, grind arith)
 
   apart_names : (other name : List ℕ) → bytes_eq other name ≡ false → other ≡ name → ⊥
   apart_names other name apart same = let e : true ≡ false = sym (same_bytes name) ∙ ap (λ n. bytes_eq n name) (sym same) ∙ apart in cc
+
+  -- what is so of the first attached table, and of each one after it, is so of each
+  each-attached : (attached : List ℕ × Records A) (tables : AttachedTables A) (P : List ℕ → Records A → Type 0) → P attached.0 attached.1 → ((name : List ℕ) (records : Records A) → attached_records tables name ≡ Some records → P name records)
+      → (name : List ℕ) (records : Records A) → attached_records (attached ∷ tables) name ≡ Some records → P name records
+  each-attached attached tables P first later name records at =
+      elim (bytes_eq name attached.0) as (λ b. bytes_eq name attached.0 ≡ b → cond b (Some attached.1) (attached_records tables name) ≡ Some records → P name records) [
+        | true ↦ λ same e. let values : attached.1 ≡ records = cc in subst (λ n. P n records) (sym ((bytes_decides name attached.0).0 same)) (subst (P attached.0) values first)
+        | false ↦ λ _ e. later name records e
+      ] refl at
 
   -- a table of which nothing differs is not in the plan
   skipped-plan : (attached : List ℕ × Records A) (tables : AttachedTables A) → is_among attached.0 (names_of tables) ≡ false → table_changes attached (table_of main attached.0) ≡ None
@@ -376,16 +333,9 @@ module _ {A : Type 0} (database main : Tables A) (rise : AreRising database) (ma
     before = rest.before;
     differ = rest.differ;
     names = λ other absent. rest.names other (absent-here attached tables other absent).1;
-    after = λ left after others name records at.
-        elim (bytes_eq name attached.0) as (λ b. bytes_eq name attached.0 ≡ b → cond b (Some attached.1) (attached_records tables name) ≡ Some records → TableGives name records left) [
-          | true ↦ λ same e.
-              let names : attached.0 ≡ name = sym ((bytes_decides name attached.0).0 same) in
-              let values : attached.1 ≡ records = cc in
-              subst (λ n. TableGives n records left) names
-              (subst (λ r. TableGives attached.0 r left) values
-              (gives left (others attached.0 attached.1 (found-here attached tables) (rest.names attached.0 (not-attached attached.0 tables apart)))))
-          | false ↦ λ _ e. rest.after left after (λ other found is. others other found (found-later attached tables other found apart is)) name records e
-        ] refl at;
+    after = λ left after others. each-attached attached tables (λ name records. TableGives name records left)
+        (gives left (others attached.0 attached.1 (found-here attached tables) (rest.names attached.0 (not-attached attached.0 tables apart))))
+        (rest.after left after (λ other found is. others other found (found-later attached tables other found apart is)));
   }
 
   -- a table of which a row differs
@@ -417,23 +367,13 @@ module _ {A : Type 0} (database main : Tables A) (rise : AreRising database) (ma
         );
         differ = (some-items ds change changes (changes-are first last attached.1 ∙ some), rest.differ);
         names = λ other absent. let parts = absent-here attached tables other absent in (apart_names other attached.0 parts.0, rest.names other parts.1);
-        after = λ left after others name records at.
-            elim (bytes_eq name attached.0) as (λ b. bytes_eq name attached.0 ≡ b → cond b (Some attached.1) (attached_records tables name) ≡ Some records → TableGives name records left) [
-              | true ↦ λ same_name e.
-                  let names : attached.0 ≡ name = sym ((bytes_decides name attached.0).0 same_name) in
-                  let values : attached.1 ≡ records = cc in
-                  let rows = after.0 in
-                  subst (λ n. TableGives n records left) names
-                  (subst (λ r. TableGives attached.0 r left) values
-                  (gives-found attached.0 attached.1 first last rows.found left holds there now same rows.there rows.rows rows.other_rows (same_but_keyed rows.found first rows.loose rows.columns rows.next_id)))
-              | false ↦ λ apart_name e.
-                  rest.after left after.1
-                  (λ other found is away. others other found (found-later attached tables other found apart is) (
-                    λ same_name. let clash : None ≡ Some found = sym (not-attached attached.0 tables apart) ∙ ap (attached_records tables) (sym same_name) ∙ is in cc,
-                    away,
-                  ))
-                  name records e
-            ] refl at;
+        after = λ left after others. let rows = after.0 in
+            each-attached attached tables (λ name records. TableGives name records left)
+            (gives-found attached.0 attached.1 first last rows.found left holds there now same rows.there rows.rows rows.other_rows (same_but_keyed rows.found first rows.loose rows.columns rows.next_id))
+            (rest.after left after.1 (λ other found is away. others other found (found-later attached tables other found apart is) (
+              λ same_name. let clash : None ≡ Some found = sym (not-attached attached.0 tables apart) ∙ ap (attached_records tables) (sym same_name) ∙ is in cc,
+              away,
+            )));
       }
 
   -- one attached table more
@@ -480,18 +420,9 @@ module _ {A : Type 0} (database main : Tables A) (rise : AreRising database) (ma
     gives-rows left after others =
         let each = session-plan.after left after (λ other records at apart. others other apart) in
         record {
-          touched = λ name key kept is. elim (attached_records tables name) as (λ o. attached_records tables name ≡ o → row_at left name key ≡ row_at main name key) [
-            | None ↦ λ none. let clash : None ≡ Some kept = ap (option_and_then (λ found. get fields_cmp found key)) (sym none) ∙ is in cc
-            | Some records ↦ λ at. (each name records at).rows key kept (sym (record_at name records at key) ∙ is)
-          ] refl;
-          untouched = λ name key none. elim (attached_records tables name) as (λ o. attached_records tables name ≡ o → row_at left name key ≡ row_at database name key) [
-            | None ↦ λ absent. ap (option_and_then (λ t. get fields_cmp t.keyed key)) (others name (session-plan.names name absent))
-            | Some records ↦ λ at. (each name records at).rest key (sym (record_at name records at key) ∙ none)
-          ] refl;
-          others = λ name. elim (attached_records tables name) as (λ o. attached_records tables name ≡ o → option_map but_keyed (table_of left name) ≡ option_map but_keyed (table_of database name)) [
-            | None ↦ λ absent. ap (option_map but_keyed) (others name (session-plan.names name absent))
-            | Some records ↦ λ at. (each name records at).others
-          ] refl;
+          touched = λ name key kept is. grind (arith, record_at name, λ (records : Records A) (at : attached_records tables name ≡ Some records). (each name records at).rows key kept);
+          untouched = λ name key none. grind (arith, record_at name, others name, λ (records : Records A) (at : attached_records tables name ≡ Some records). (each name records at).rest key);
+          others = λ name. grind (arith, λ (absent : attached_records tables name ≡ None). others name (session-plan.names name absent), λ (records : Records A) (at : attached_records tables name ≡ Some records). (each name records at).others);
         }
 
 module _ {A : Type 0} where
@@ -507,11 +438,7 @@ module _ {A : Type 0} where
 
   pub records-named : (records : List ℕ → Records A) (names : List (List ℕ)) (name : List ℕ) (found : Records A) → attached_records (map (λ n. (n, records n)) names) name ≡ Some found → found ≡ records name
   records-named records [] name found is = cc
-  records-named records (n ∷ names) name found is =
-      elim (bytes_eq name n) as (λ b. bytes_eq name n ≡ b → cond b (Some (records n)) (attached_records (map (λ k. (k, records k)) names) name) ≡ Some found → found ≡ records name) [
-        | true ↦ λ same e. let here : found ≡ records n = cc in here ∙ ap records (sym ((bytes_decides name n).0 same))
-        | false ↦ λ _ e. records-named records names name found e
-      ] refl is
+  records-named records (n ∷ names) name found is = grind (arith, (bytes_decides name n).0, records-named records names name found)
 
   pub session-sorted : (past : Past A) (number : ℕ) (name : List ℕ) (records : Records A) → attached_records (session_of past number).tables name ≡ Some records → IsOrdered fields_cmp records
   session-sorted past number name records at =
@@ -523,13 +450,7 @@ module _ {A : Type 0} where
 
   -- a capture is that of the session
   taken : (past : Past A) (number : ℕ) (capture : CaptureState A) → capture_after past number ≡ Captured capture → capture ≡ capture_of past (session_of past number)
-  taken past number capture is =
-      elim (session_numbered (sessions past) number) as (λ o. session_numbered (sessions past) number ≡ o → session_answer o (capture_reply (version past) (main past)) ≡ Captured capture → capture ≡ capture_of past (session_of past number)) [
-        | None ↦ λ _ e. cc
-        | Some session ↦ λ found e.
-            let told : capture ≡ capture_of past session = cc in
-            told ∙ ap (capture_of past) (lookup-passing (λ k. not (is_dropped past k)) (session_of past) 1 (sessions_made past) number session found).1
-      ] refl is
+  taken past number capture is = grind (arith, lookup-passing (λ k. not (is_dropped past k)) (session_of past) 1 (sessions_made past) number)
 
   -- it has the session's changes
   pub captured : (past : Past A) (number : ℕ) (capture : CaptureState A) → capture_after past number ≡ Captured capture

@@ -1,8 +1,9 @@
 -- The bytes of a capture are read as its changes, and what is read is applied as they are.
-use Rattle.std.proofs.Common.{◌≡◌, ℕ, Bool, true, false, cond, Option, Some, None, Result, Ok, List, [], ◌∷◌, map, refl, sym, ap, subst, ◌∙◌}
+use Rattle.std.proofs.Common.{◌≡◌, ℕ, Bool, true, false, Result, Ok, List, [], ◌∷◌, map, refl, sym, ap, subst, ◌∙◌, arith}
 use Rattle.std.specs.Prelude.{All, IfSome, filter}
-use Rattle.std.specs.List.{AllByRecursion, cons_option, filter_map}
-use Rattle.std.proofs.lemmas.List.Elements.{All-from_recursion, recursion_from_All}
+use Rattle.std.specs.List.{AllByRecursion, list_all}
+use Rattle.std.proofs.lemmas.Bool.Decides.{nat_tests}
+use Rattle.std.proofs.lemmas.List.Elements.{All-from_recursion, All-head, All-map, All-tail, All-weaker, recursion_from_All}
 use Rattle.cap_value.specs.Value.{IsValue}
 use Rattle.cap_changes.specs.FieldRecord.{RecordFields}
 use Rattle.cap_changes.specs.Fits.{change_fits, patch_fits}
@@ -21,72 +22,52 @@ use Rattle.cap_codec.specs.declared.read.Contents.{Contents}
 use Rattle.cap_codec.specs.declared.read.Contents.TheVariants.{Changes, Patches}
 use Rattle.cap_changes.specs.HasValues.{AreValues, HasValues, PatchHasValues}
 use Rattle.cap_codec.specs.Writable.{HasNoEmptyGroup, IsGroup, IsPatchGroup, IsWritable, blob_bytes_with, has_some, of_patches, with_some}
-use Rattle.cap_session.specs.Records.{Records}
 use Rattle.cap_session.specs.Session.{AttachedTables}
 use Rattle.cap_apply.specs.Apply.{apply}
 use Rattle.cap_apply.specs.declared.policy.Policy.{Policy}
-use Rattle.cap_table.specs.Table.{TableState}
-use Rattle.cap_database.specs.Tables.{Tables, table_of}
+use Rattle.cap_database.specs.Tables.{Tables}
 use Rattle.cap_core.specs.declared.reply.Reply.TheVariants.{Capture as Captured}
 use Rattle.cap_core.specs.AppliedCapture.{AppliesWhole}
 use Rattle.cap_core.specs.Answer.{capture_after}
-use Rattle.cap_core.specs.Capture.{CaptureState, change_now, changes_of, group_of, table_changes}
+use Rattle.cap_core.specs.Capture.{CaptureState, changes_of}
 use Rattle.cap_core.specs.History.{main}
 use Rattle.cap_core.specs.Past.{Past}
 use Rattle.cap_core.specs.Session.{session_of}
-use Rattle.cap_core.proofs.AppliedCaptureLemmas.{captured, some-changes}
+use Rattle.cap_core.proofs.KeyedLemmas.{each_passes}
+use Rattle.cap_core.proofs.AppliedCaptureLemmas.{captured}
 
-filter-all : {X : Type 0} (test : X → Bool) (xs : List X) → AllByRecursion (λ x. test x ≡ true) xs → filter test xs ≡ xs
+filter-all : {X : Type 0} (test : X → Bool) (xs : List X) → All (λ x. test x ≡ true) xs → filter test xs ≡ xs
 filter-all test [] all = refl
-filter-all test (x ∷ xs) all = ap (λ b. cond b (x ∷ filter test xs) (filter test xs)) all.0 ∙ ap (λ l. x ∷ l) (filter-all test xs all.1)
+filter-all test (x ∷ xs) all = grind (arith, All-head (λ y. test y ≡ true) x xs all, filter-all test xs (All-tail (λ y. test y ≡ true) x xs all))
 
 each-mapped : {X Y : Type 0} (P : X → Type 0) (Q : Y → Type 0) (f : X → Y) → ((x : X) → P x → Q (f x)) → (xs : List X) → All P xs → All Q (map f xs)
-each-mapped P Q f says xs all = All-from_recursion Q (map f xs) (inner xs (recursion_from_All P xs all))
-  where
-    inner : (xs : List _) → AllByRecursion P xs → AllByRecursion Q (map f xs)
-    inner [] all = tt
-    inner (x ∷ xs) all = (says x all.0, inner xs all.1)
+each-mapped P Q f says xs all = All-map Q f xs (All-weaker P (λ x. Q (f x)) says xs all)
 
 module _ {A : Type 0} where
   -- ---- no group without changes
 
-  group-some : (name : List ℕ) (schema : List Bool) (changes : List (RowChange A)) (rest : List (TableChanges A)) → AllByRecursion (λ group. has_some group.changes ≡ true) rest
-      → AllByRecursion (λ group. has_some group.changes ≡ true) (cons_option (group_of name schema changes) rest)
-  group-some name schema [] rest all = all
-  group-some name schema (change ∷ changes) rest all =
-      subst (λ o. AllByRecursion (λ (group : TableChanges A). has_some group.changes ≡ true) (cons_option o rest)) (sym (some-changes name schema change changes)) (refl, all)
-
-  table-some : (attached : List ℕ × Records A) (table : Option (TableState A)) (rest : List (TableChanges A)) → AllByRecursion (λ group. has_some group.changes ≡ true) rest
-      → AllByRecursion (λ group. has_some group.changes ≡ true) (cons_option (table_changes attached table) rest)
-  table-some attached None rest all = all
-  table-some attached (Some table) rest all = group-some attached.0 table.schema (filter_map (change_now table) attached.1) rest all
-
-  each-some : (tables : Tables A) (attached : AttachedTables A) → AllByRecursion (λ group. has_some group.changes ≡ true) (changes_of tables attached)
-  each-some tables [] = tt
-  each-some tables (a ∷ attached) = table-some a (table_of tables a.0) (changes_of tables attached) (each-some tables attached)
-
-  some-captured : (past : Past A) (session : ℕ) (capture : CaptureState A) → capture_after past session ≡ Captured capture
-      → AllByRecursion (λ (group : TableChanges A). has_some group.changes ≡ true) capture.changes
-  some-captured past session capture is =
-      subst (AllByRecursion (λ (group : TableChanges A). has_some group.changes ≡ true)) (sym (captured past session capture is)) (each-some (main past) (session_of past session).tables)
+  each-some : (tables : Tables A) (attached : AttachedTables A) → list_all (λ group. has_some group.changes) (changes_of tables attached) ≡ true
+  each-some tables [] = refl
+  each-some tables (a ∷ attached) = grind (arith, nat_tests, each-some tables attached)
 
   pub no-empty-group : (past : Past A) (session : ℕ) (capture : CaptureState A) → capture_after past session ≡ Captured capture → HasNoEmptyGroup (Changes capture.changes)
-  no-empty-group past session capture is = All-from_recursion (λ (group : TableChanges A). has_some group.changes ≡ true) capture.changes (some-captured past session capture is)
+  no-empty-group past session capture is =
+      each_passes (λ (group : TableChanges A). has_some group.changes) (λ group. has_some group.changes ≡ true) (λ group some. some) capture.changes
+      (ap (list_all (λ (group : TableChanges A). has_some group.changes)) (captured past session capture is) ∙ each-some (main past) (session_of past session).tables)
 
   some-patches : (flags : List Bool) (changes : List (RowChange A)) → has_some changes ≡ true → has_some (map (patch_of flags) changes) ≡ true
   some-patches flags [] some = some
   some-patches flags (change ∷ changes) some = refl
 
-  each-some-patches : (list : List (TableChanges A)) → AllByRecursion (λ group. has_some group.changes ≡ true) list → AllByRecursion (λ group. has_some group.changes ≡ true) (patch_list_of list)
-  each-some-patches [] all = tt
-  each-some-patches (group ∷ list) all = (some-patches group.schema group.changes all.0, each-some-patches list all.1)
+  each-some-patches : (list : List (TableChanges A)) → HasNoEmptyGroup (Changes list) → All (λ group. has_some group.changes ≡ true) (patch_list_of list)
+  each-some-patches list all = each-mapped (λ group. has_some group.changes ≡ true) (λ group. has_some group.changes ≡ true) patches_of (λ group. some-patches group.schema group.changes) list all
 
   pub with-some-changes : (list : List (TableChanges A)) → HasNoEmptyGroup (Changes list) → with_some (Changes list) ≡ Changes list
-  with-some-changes list all = ap Changes (filter-all (λ group. has_some group.changes) list (recursion_from_All (λ group. has_some group.changes ≡ true) list all))
+  with-some-changes list all = ap Changes (filter-all (λ group. has_some group.changes) list all)
 
   pub with-some-patches : (list : List (TableChanges A)) → HasNoEmptyGroup (Changes list) → with_some (Patches (patch_list_of list)) ≡ of_patches (patch_list_of list)
   with-some-patches list all =
-      ap of_patches (filter-all (λ group. has_some group.changes) (patch_list_of list) (each-some-patches list (recursion_from_All (λ group. has_some group.changes ≡ true) list all)))
+      ap of_patches (filter-all (λ group. has_some group.changes) (patch_list_of list) (each-some-patches list all))
 
   -- ---- the patches of changes that can be written
 

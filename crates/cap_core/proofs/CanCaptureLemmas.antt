@@ -1,30 +1,19 @@
 -- A row against the key of its record.
-use Rattle.std.proofs.Common.{◌≡◌, ℕ, suc, Bool, true, false, cond, Some, None, List, [], ◌∷◌, ◌&&◌, length, nat_eq, refl, sym, ap, ◌∙◌, arith}
+use Rattle.std.proofs.Common.{◌≡◌, Bool, true, cond, Some, None, List, [], ◌∷◌, ◌&&◌, length, nat_eq, refl, sym, ap, ◌∙◌, arith}
 use Rattle.std.proofs.lemmas.Bool.Decides.{nat_tests}
 use Rattle.cap_row.specs.Fields.{Fields}
 use Rattle.cap_row.specs.Key.{fields_eq, fields_eq_decides, is_key, key_fields, key_of}
 use Rattle.cap_table.specs.Sound.{is_key_of, is_keyed_row}
 
-same_width : (width columns : ℕ) → width ≡ columns → nat_eq width columns ≡ true
-same_width width columns same = grind (arith, nat_tests)
-
-not_none : (n : ℕ) → nat_eq (suc n) 0 ≡ false
-not_none n = grind (arith, nat_tests)
-
 module _ {A : Type 0} where
   own_fields : (b : Bool) (fields key : Fields A) → is_key fields ≡ b → is_key key ≡ true → fields_eq fields key ≡ is_key_of (cond b (Some fields) None) key
-  own_fields true fields key is own = refl
-  own_fields false fields key is own =
-      elim (fields_eq fields key) as (λ b. fields_eq fields key ≡ b → b ≡ false) [
-        | true ↦ λ same. let clash : false ≡ true = sym is ∙ ap is_key ((fields_eq_decides fields key).0 same) ∙ own in cc
-        | false ↦ λ _. refl
-      ] refl
+  own_fields b fields key is own = grind (arith, (fields_eq_decides fields key).0)
 
   -- a row of the table's width has a key where it has these values in its key columns
   pub is_keyed_row-fields : (schema : List Bool) (row key : Fields A) → is_key key ≡ true → length row ≡ length schema → fields_eq (key_fields schema row) key ≡ is_keyed_row schema key row
   is_keyed_row-fields schema row key own wide =
       own_fields (is_key (key_fields schema row)) (key_fields schema row) key refl own
-      ∙ ap (λ b. b && is_key_of (key_of schema row) key) (sym (same_width (length row) (length schema) wide))
+      ∙ (let same : nat_eq (length row) (length schema) ≡ true = grind (arith, nat_tests) in ap (λ b. b && is_key_of (key_of schema row) key) (sym same))
 
   -- ---- after the last column
 
@@ -34,4 +23,4 @@ module _ {A : Type 0} where
 
   pub no_fields : (key : Fields A) → nat_eq (length key) 0 ≡ fields_eq [] key
   no_fields [] = refl
-  no_fields (field ∷ key) = not_none (length key)
+  no_fields (field ∷ key) = grind (arith, nat_tests)

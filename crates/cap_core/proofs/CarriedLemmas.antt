@@ -1,5 +1,5 @@
 -- The touches by changes that carry the rows before a commit, and by the rows before it.
-use Rattle.std.proofs.Common.{◌≡◌, ℕ, Bool, true, false, cond, Option, Some, None, Result, Ok, Err, IfOk, List, [], ◌∷◌, ◌&&◌, ◌||◌, refl, sym, ap, subst, ◌∙◌}
+use Rattle.std.proofs.Common.{◌≡◌, ℕ, Bool, true, false, cond, Option, Some, None, Result, Ok, Err, IfOk, List, [], ◌∷◌, ◌&&◌, ◌||◌, refl, ap, subst, ◌∙◌, arith}
 use Rattle.std.specs.List.{cons_option, filter_map, find}
 use Rattle.std.specs.Option.{option_map}
 use Rattle.std.specs.Cmp.{Equal-is, eq_by_cmp_equiv, tied_itself}
@@ -7,7 +7,7 @@ use Rattle.cap_value.specs.Bytes.{bytes_eq}
 use Rattle.cap_value.specs.declared.refusal.Refusal.{Refusal}
 use Rattle.cap_row.specs.Fields.{Fields}
 use Rattle.cap_row.specs.Key.{fields_cmp, fields_cmp_total, fields_eq}
-use Rattle.cap_tree.specs.Tree.{get, put_entry}
+use Rattle.cap_tree.specs.Tree.{get}
 use Rattle.cap_table.specs.Sound.{is_key_of}
 use Rattle.cap_database.specs.Carried.{CarryFirstRows, is_of_row}
 use Rattle.cap_database.specs.Operation.{run}
@@ -25,17 +25,53 @@ use Rattle.cap_apply.specs.Applied.{AppliedState}
 use Rattle.cap_apply.specs.Apply.{apply}
 use Rattle.cap_apply.proofs.StayLemmas.{apply-carries}
 use Rattle.cap_txn.specs.Stale.{stale}
-use Rattle.cap_session.specs.declared.record.Record.{Record}
 use Rattle.cap_session.specs.Recording.{is_cascade, touches_of}
 use Rattle.cap_session.specs.Records.{Records, Touch, record_after, touch, with_touches}
 use Rattle.cap_session.proofs.RecordLemmas.{get-put}
 use Rattle.cap_core.specs.declared.command.Command.{Command}
 use Rattle.cap_core.specs.declared.command.Command.TheVariants as command
 use Rattle.cap_core.specs.declared.event.Event.{Event}
-use Rattle.cap_core.specs.Flags.{changes_shown, is_quiet}
+use Rattle.cap_core.specs.Flags.{changes_shown}
 use Rattle.cap_core.specs.History.{effect_of, event_effect}
-use Rattle.cap_core.specs.Outcome.{Effect, Refused as Why, applied, commit_unless, created, made, no_effect, outcome}
+use Rattle.cap_core.specs.Outcome.{Effect, applied, commit_unless, created, made, no_effect, outcome}
 use Rattle.cap_core.specs.Past.{is_accepted}
+use Rattle.cap_core.proofs.FitLemmas.{each-ok}
+
+-- what holds of the effects that a new table, operations and an application have on these tables, and of none
+module _ {A : Type 0} (now : SnapshotState A) (P : Effect A → Type 0) (none : P (no_effect now.database)) where
+  each-created : (r : Result (Tables A) Refusal) → IfOk r (λ tables. P (no_effect tables)) → P (effect_of now.database (created r))
+  each-created (Ok tables) is = is
+  each-created (Err why) is = none
+
+  abbrev HoldsOfRun : Result (OutcomeState A) RefusedAt → Type 0
+  HoldsOfRun r = IfOk r (λ left. P (record { database = left.database; changes = left.changes; report = None }))
+
+  each-made : (r : Result (OutcomeState A) RefusedAt) → HoldsOfRun r → P (effect_of now.database (made r))
+  each-made (Ok left) is = is
+  each-made (Err refused) is = none
+
+  each-commit : (why : Option Refusal) (ops : List (Op A)) → HoldsOfRun (run now.database ops) → P (effect_of now.database (commit_unless why now.database ops))
+  each-commit (Some why) ops is = none
+  each-commit None ops is = each-made (run now.database ops) is
+
+  abbrev HoldsOfApplication : Result (AppliedState A) Refusal → Type 0
+  HoldsOfApplication r = IfOk r (λ left. P (record { database = left.database; changes = left.changes; report = Some left.report }))
+
+  each-applied : (r : Result (AppliedState A) Refusal) → HoldsOfApplication r → P (effect_of now.database (applied r))
+  each-applied (Ok left) is = is
+  each-applied (Err why) is = none
+
+  -- holds of the effect of an event
+  pub event-each : (event : Event A) → ((name : List ℕ) (schema : List Bool) → IfOk (create now.database name schema) (λ tables. P (no_effect tables))) → ((ops : List (Op A)) → HoldsOfRun (run now.database ops))
+      → ((blob : Contents A) (policy : Policy) (quiet : List ℕ) → event.command ≡ command.Apply blob policy quiet → HoldsOfApplication (apply now.database blob policy)) → P (event_effect now event)
+  event-each event creates runs applies =
+      elim (is_accepted event.reply) as (λ b. P (cond b (effect_of now.database (outcome now event.command)) (no_effect now.database))) [ true ↦ inner event.command applies | false ↦ none ]
+    where
+      inner : (c : Command A) → ((blob : Contents A) (policy : Policy) (quiet : List ℕ) → c ≡ command.Apply blob policy quiet → HoldsOfApplication (apply now.database blob policy)) → P (effect_of now.database (outcome now c))
+      inner (command.CreateTable name schema) applies = each-created (create now.database name schema) (creates name schema)
+      inner (command.Commit batch) applies = each-commit (stale batch.base batch.reads now) batch.ops (runs batch.ops)
+      inner (command.Apply blob policy quiet) applies = each-applied (apply now.database blob policy) (applies blob policy quiet refl)
+      inner _ applies = none
 
 module _ {A : Type 0} where
   -- a change of a row of this table, as a touch of its key with the row before the commit
@@ -49,11 +85,7 @@ module _ {A : Type 0} where
   -- ---- a touch of a key that has a record, whatever its image
 
   touch-same : (records : Records A) (t : Touch A) (image : Option (Fields A)) → (get fields_cmp records t.key ≡ None → t.image ≡ image) → touch records t ≡ touch records (record t { image = image })
-  touch-same records t image same = ap (put_entry fields_cmp records t.key) (inner (get fields_cmp records t.key) same)
-    where
-      inner : (found : Option (Record A)) → (found ≡ None → t.image ≡ image) → record_after found t.image t.indirect ≡ record_after found image t.indirect
-      inner None same = ap (λ row. record { image = row; indirect = t.indirect }) (same refl)
-      inner (Some r) same = refl
+  touch-same records t image same = grind (arith, same)
 
   itself : (key : Fields A) → fields_eq key key ≡ true
   itself key = (Equal-is (fields_cmp key key)).1 (tied_itself fields_cmp_total key)
@@ -66,11 +98,9 @@ module _ {A : Type 0} where
     -- the key that was touched has a record
     touched-other : (records : Records A) (t : Touch A) (key : Fields A) → get fields_cmp (touch records t) key ≡ None → (fields_eq t.key key ≡ false) × (get fields_cmp records key ≡ None)
     touched-other records t key none =
-        let made = record_after (get fields_cmp records t.key) t.image t.indirect in
-        elim (fields_eq key t.key) as (λ b. fields_eq key t.key ≡ b → cond b (Some made) (get fields_cmp records key) ≡ None → (fields_eq t.key key ≡ false) × (get fields_cmp records key ≡ None)) [
-          | true ↦ λ _ clash. cc
-          | false ↦ λ apart there. ((eq_by_cmp_equiv fields_cmp_total).symm t.key key ∙ apart, there)
-        ] refl (sym (get-put records t.key made key) ∙ none)
+        let found = get-put records t.key (record_after (get fields_cmp records t.key) t.image t.indirect) key in
+        let same = (eq_by_cmp_equiv fields_cmp_total).symm t.key key in
+        (grind arith, grind arith)
 
     told-same : (changes : List (Change A)) (records : Records A) → Carried records changes → with_touches records (touches_of indirect name changes) ≡ with_touches records (told_by before indirect name changes)
     told-same [] records carry = refl
@@ -103,41 +133,10 @@ module _ {A : Type 0} where
   nothing-carries : (tables : Tables A) → CarryFirstRows tables []
   nothing-carries tables name key change is = cc
 
-  abbrev EffectCarries : Tables A → Result (Effect A) Why → Type 0
-  EffectCarries tables r = IfOk r (λ effect. CarryFirstRows tables effect.changes)
-
-  made-carries : (tables : Tables A) (r : Result (OutcomeState A) RefusedAt) → IfOk r (λ left. CarryFirstRows tables left.changes) → EffectCarries tables (made r)
-  made-carries tables (Ok left) carry = carry
-  made-carries tables (Err refused) carry = tt
-
-  commit-carries : (why : Option Refusal) (tables : Tables A) (ops : List (Op A)) → EffectCarries tables (commit_unless why tables ops)
-  commit-carries (Some why) tables ops = tt
-  commit-carries None tables ops = made-carries tables (run tables ops) (run-carries tables ops)
-
-  applied-carries : (tables : Tables A) (r : Result (AppliedState A) Refusal) → IfOk r (λ left. CarryFirstRows tables left.changes) → EffectCarries tables (applied r)
-  applied-carries tables (Ok left) carry = carry
-  applied-carries tables (Err why) carry = tt
-
-  created-carries : (tables : Tables A) (r : Result (Tables A) Refusal) → EffectCarries tables (created r)
-  created-carries tables (Ok after) = nothing-carries tables
-  created-carries tables (Err why) = tt
-
-  outcome-carries : (now : SnapshotState A) (c : Command A) → EffectCarries now.database (outcome now c)
-  outcome-carries now (command.CreateTable name schema) = created-carries now.database (create now.database name schema)
-  outcome-carries now (command.Commit batch) = commit-carries (stale batch.base batch.reads now) now.database batch.ops
-  outcome-carries now (command.Apply blob policy quiet) = applied-carries now.database (apply now.database blob policy) (apply-carries now.database blob policy)
-  outcome-carries now _ = nothing-carries now.database
-
   pub event-carries : (now : SnapshotState A) (event : Event A) → CarryFirstRows now.database (event_effect now event).changes
   event-carries now event =
-      elim (is_accepted event.reply) as (λ b. CarryFirstRows now.database (cond b (effect_of now.database (outcome now event.command)) (no_effect now.database)).changes) [
-        | true ↦ inner (outcome now event.command) (outcome-carries now event.command)
-        | false ↦ nothing-carries now.database
-      ]
-    where
-      inner : (r : Result (Effect A) Why) → EffectCarries now.database r → CarryFirstRows now.database (effect_of now.database r).changes
-      inner (Ok effect) carry = carry
-      inner (Err why) carry = nothing-carries now.database
+      event-each now (λ effect. CarryFirstRows now.database effect.changes) (nothing-carries now.database) event
+      (λ name schema. each-ok (create now.database name schema) (λ tables. nothing-carries now.database)) (run-carries now.database) (λ blob policy quiet _. apply-carries now.database blob policy)
 
   -- what was left has changes that carry the rows before
   pub ran-carries : (tables : Tables A) (ops : List (Op A)) (left : OutcomeState A) → run tables ops ≡ Ok left → CarryFirstRows tables left.changes
@@ -149,8 +148,4 @@ module _ {A : Type 0} where
   -- a session is shown all of them, or none
   pub shown-carries : (tables : Tables A) (changes : List (Change A)) (session : ℕ) (c : Command A) → CarryFirstRows tables changes → (name : List ℕ) (key : Fields A) (change : Change A)
       → find (is_of_row name key) (changes_shown session c changes) ≡ Some change → change.before ≡ row_at tables name key
-  shown-carries tables changes session c carry name key change =
-      elim (is_quiet session c) as (λ b. find (is_of_row name key) (cond b [] changes) ≡ Some change → change.before ≡ row_at tables name key) [
-        | true ↦ λ is. cc
-        | false ↦ λ is. carry name key change is
-      ]
+  shown-carries tables changes session c carry name key change = grind (arith, carry name key change)

@@ -1,9 +1,9 @@
 -- What a change leaves of a session, by what it asks for.
-use Rattle.std.proofs.Common.{◌≡◌, ◌∙◌, ◌||◌, ℕ, Bool, true, false, cond, Option, Some, None, refl, ap}
+use Rattle.std.proofs.Common.{◌≡◌, ◌||◌, ℕ, Bool, true, cond, Option, Some, refl, arith}
 use Rattle.std.specs.Option.{unwrap_or}
 use Rattle.cap_filter.specs.Rule.{Rule}
 use Rattle.cap_database.specs.Tables.{Tables}
-use Rattle.cap_session.specs.Session.{SessionState, all_unless_filter, changed_by, forget}
+use Rattle.cap_session.specs.Session.{SessionState, changed_by, forget}
 use Rattle.cap_session.specs.declared.session_change.SessionChange.{SessionChange}
 use Rattle.cap_session.specs.declared.session_change.SessionChange.TheVariants.{AttachAll, SetFilter}
 use Rattle.cap_core.specs.declared.session_command.SessionCommand.{SessionCommand}
@@ -26,14 +26,9 @@ module _ {A : Type 0} where
     pub flags : HasFlags (Change change) session left
     pub tables : left.tables ≡ cond (restarts (Some (Change change))) (forget session.tables) session.tables
 
-  rule-all : (filter : Option Rule) (all : Bool) → all_unless_filter {A = A} (rule_by filter all) ≡ rule_by filter true
-  rule-all None true = refl
-  rule-all None false = refl
-  rule-all (Some filter) all = refl
-
   pub is_changed : (change : SessionChange A) (session : SessionState A) → IsChanged change session (changed_by change session)
   is_changed AttachAll session =
-      record { flags = record { enabled = refl; indirect = refl; rule = λ filter all is. ap all_unless_filter is ∙ rule-all filter all }; tables = refl }
+      record { flags = record { enabled = refl; indirect = refl; rule = λ filter all is. grind arith }; tables = refl }
   is_changed (SetFilter chosen) session = record { flags = record { enabled = refl; indirect = refl; rule = λ filter all is. refl }; tables = refl }
   is_changed _ session = record { flags = record { enabled = refl; indirect = refl; rule = λ filter all is. is }; tables = refl }
 

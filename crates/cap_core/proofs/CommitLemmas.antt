@@ -3,7 +3,7 @@ use Rattle.std.specs.Prelude.{reverse}
 use Rattle.std.proofs.lemmas.List.{reverse-append}
 use Rattle.cap_core.specs.declared.command.Command.{Command}
 use Rattle.cap_core.specs.declared.event.Event.{Event}
-use Rattle.cap_core.specs.Answer.{IsLegal, IsLegalPast, event_by, reply_of}
+use Rattle.cap_core.specs.Answer.{IsLegal, IsLegalPast, event_by, reply_of, State, answer, snapshot_of, state, write_reply}
 use Rattle.std.proofs.Common.{◌≡◌, refl, inl, inr, ℕ, Option, Some, None, Result, List, [], ◌∷◌, ◌++◌, ap, subst}
 use Rattle.cap_value.specs.declared.refusal.Refusal.{Refusal}
 use Rattle.cap_database.specs.Outcome.{OutcomeState}
@@ -14,7 +14,6 @@ use Rattle.cap_database.specs.Tables.{EachRises}
 use Rattle.cap_txn.specs.Batch.{BatchState, WhereRead}
 use Rattle.cap_txn.specs.ReadSet.{ReadSetState}
 use Rattle.cap_txn.specs.Stale.{AreOpsOf, IsJudged, stale}
-use Rattle.cap_core.specs.Answer.{State, answer, snapshot_of, state, write_reply}
 use Rattle.cap_core.specs.Commit.{CommitsIfUnchanged}
 use Rattle.cap_core.specs.Outcome.{commit_unless, made}
 use Rattle.cap_core.specs.declared.command.Command.TheVariants as command

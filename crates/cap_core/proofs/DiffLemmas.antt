@@ -1,8 +1,7 @@
 -- What a diff finds are rows of the saved table, under their keys.
-use Rattle.std.proofs.Common.{◌≡◌, ℕ, Bool, true, false, cond, Option, Some, None, List, [], ◌∷◌, Result, Ok, Err, refl, ap₂, subst}
-use Rattle.std.specs.Prelude.{fold, IfSome, filter_map}
-use Rattle.std.specs.List.{cons_option, list_all}
-use Rattle.std.specs.Bool.{beq}
+use Rattle.std.proofs.Common.{◌≡◌, ℕ, Bool, true, false, cond, Option, Some, None, List, [], ◌∷◌, Result, Ok, Err, refl, subst, arith}
+use Rattle.std.specs.Prelude.{fold, IfSome}
+use Rattle.std.specs.List.{list_all}
 use Rattle.cap_value.specs.declared.refusal.Refusal.{Refusal}
 use Rattle.cap_value.specs.declared.refusal.Refusal.TheVariants.{Incompatible}
 use Rattle.cap_row.specs.Fields.{Fields}
@@ -18,29 +17,15 @@ use Rattle.cap_compare.specs.Compare.{compare, difference_at, differences, image
 use Rattle.cap_compare.specs.declared.difference.Difference.{Difference}
 use Rattle.cap_core.specs.CanCapture.{is_own_image}
 use Rattle.cap_core.specs.Code.Sound.{are_own_differences}
-use Rattle.cap_core.proofs.SmallLemmas.{both, first, second}
-use Rattle.cap_core.proofs.SoundLemmas.{fields_same, found-passes, list_all-map, list_all-put_entry}
-
-beq-same : (a b : Bool) → beq a b ≡ true → a ≡ b
-beq-same true true t = refl
-beq-same true false t = cc
-beq-same false true t = cc
-beq-same false false t = refl
+use Rattle.cap_core.proofs.SmallLemmas.{first}
+use Rattle.cap_core.proofs.SoundLemmas.{found-passes, list_all-filter_map, list_all-map, list_all-put_entry}
+use Rattle.cap_core.proofs.TouchedLemmas.{fields_same}
 
 flags-same : (a b : List Bool) → flags_eq a b ≡ true → a ≡ b
 flags-same [] [] t = refl
 flags-same [] (y ∷ ys) t = cc
 flags-same (x ∷ xs) [] t = cc
-flags-same (x ∷ xs) (y ∷ ys) t = ap₂ (λ a b. a ∷ b) (beq-same x y (first (beq x y) (flags_eq xs ys) t)) (flags-same xs ys (second (beq x y) (flags_eq xs ys) t))
-
-module _ {X Y : Type 0} (test : X → Bool) (check : Y → Bool) (f : X → Option Y) where
-  list_all-made : ((x : X) → test x ≡ true → IfSome (f x) (λ y. check y ≡ true)) → (xs : List X) → list_all test xs ≡ true → list_all check (filter_map f xs) ≡ true
-  list_all-made each [] all = refl
-  list_all-made each (x ∷ xs) all = inner (f x) (each x (first (test x) (list_all test xs) all)) (list_all-made each xs (second (test x) (list_all test xs) all))
-    where
-      inner : (made : Option Y) → IfSome made (λ y. check y ≡ true) → list_all check (filter_map f xs) ≡ true → list_all check (cons_option made (filter_map f xs)) ≡ true
-      inner None is rest = rest
-      inner (Some y) is rest = both (check y) _ is rest
+flags-same (x ∷ xs) (y ∷ ys) t = grind (arith, flags-same xs ys)
 
 module _ {A : Type 0} (schema : List Bool) where
   -- the row of the first table is stored under its own key
@@ -68,15 +53,12 @@ module _ {A : Type 0} (schema : List Bool) where
   difference-stands key None (Some new) is = refl
   difference-stands key (Some old) None is = is
   difference-stands key (Some old) (Some new) is =
-      elim (fields_eq old new) as (λ b. IfSome (difference_at key (cond b None (Some (Some old)))) (λ difference. is_own_image (Some schema) difference.key difference.image ≡ true)) [
-        | true ↦ tt
-        | false ↦ is
-      ]
+      elim (fields_eq old new) as (λ b. IfSome (difference_at key (cond b None (Some (Some old)))) (λ difference. is_own_image (Some schema) difference.key difference.image ≡ true)) [ true ↦ tt | false ↦ is ]
 
   differences-stand : (from to : List (Fields A × Fields A)) → list_all (λ row. is_keyed_row schema row.0 row.1) from ≡ true → are_own_differences (Some schema) (differences from to) ≡ true
   unfolding stands beside
   differences-stand from to all =
-      list_all-made stands (λ (difference : Difference A). is_own_image (Some schema) difference.key difference.image) (λ row. difference_at row.0 (image_at row.1.0 row.1.1))
+      list_all-filter_map stands (λ (difference : Difference A). is_own_image (Some schema) difference.key difference.image) (λ row. difference_at row.0 (image_at row.1.0 row.1.1))
       (λ row is. difference-stands row.0 row.1.0 row.1.1 is) (beside fields_cmp from to) (merged-stand to (alone from) (alone-stand from all))
 
 module _ {A : Type 0} where

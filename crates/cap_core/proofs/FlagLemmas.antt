@@ -1,6 +1,6 @@
 -- What a command to a session makes of it, and what any event does, by what the session was.
 use Rattle.std.proofs.lemmas.List.{append-nil}
-use Rattle.std.proofs.Common.{◌≡◌, ℕ, Bool, true, false, cond, Option, Some, None, Result, Ok, List, [], ◌∷◌, ◌++◌, ◌||◌, map, length, refl, sym, ap, ◌∙◌}
+use Rattle.std.proofs.Common.{◌≡◌, ℕ, Bool, true, false, cond, Option, Some, None, Result, Ok, List, [], ◌∷◌, ◌++◌, ◌||◌, map, length, refl, sym, ap, ◌∙◌, arith}
 use Rattle.std.specs.Prelude.{filter, fold}
 use Rattle.std.specs.Option.{unwrap_or}
 use Rattle.std.specs.Cmp.Lexicographic.{nat_list_eq_equiv}
@@ -89,16 +89,8 @@ module _ {A : Type 0} where
 
     found-told : (name table : List ℕ) (b : Bool) → bytes_eq table name ≡ b → (differences : List (Difference A))
         → map told_touch (touches_of table (map (touch_found number past name) differences)) ≡ cond b (touches_found (is_indirect number past) differences) []
-    found-told name table true is [] = refl
-    found-told name table false is [] = refl
-    found-told name table true is (difference ∷ differences) =
-        let rest = filter (λ touch. bytes_eq table touch.table) (map (touch_found number past name) differences) in
-        ap (λ b. map told_touch (map (λ touch. (touch.key, touch)) (cond b (touch_found number past name difference ∷ rest) rest))) is
-        ∙ ap (λ more. told_touch (difference.key, touch_found number past name difference) ∷ more) (found-told name table true is differences)
-    found-told name table false is (difference ∷ differences) =
-        let rest = filter (λ touch. bytes_eq table touch.table) (map (touch_found number past name) differences) in
-        ap (λ b. map told_touch (map (λ touch. (touch.key, touch)) (cond b (touch_found number past name difference ∷ rest) rest))) is
-        ∙ found-told name table false is differences
+    found-told name table b is [] = grind arith
+    found-told name table b is (difference ∷ differences) = grind (arith, found-told name table b is differences)
 
     -- the tables that a diff leaves
     diff-tables : (name : List ℕ) (differences : List (Difference A))
@@ -131,10 +123,7 @@ module _ {A : Type 0} where
         found _ = same-tables names_before
     tables-left (Change change) =
         (is_changed change (session_of past number)).tables
-        ∙ elim (restarts (Some (Change change))) as (λ b. cond b (forget (tables_by (touches number past) names_before)) (tables_by (touches number past) names_before) ≡ tables_by (cond b [] (touches number past ++ [])) names_before) [
-          | true ↦ no-tables names_before
-          | false ↦ same-tables names_before
-        ]
+        ∙ grind (arith, no-tables names_before, same-tables names_before)
     tables-left _ = same-tables names_before
 
   -- ---- the flags and the rule
@@ -174,12 +163,7 @@ module _ {A : Type 0} where
       left_by (command_to number c) now.database saved session (record_commit (changes_shown number c (effect_of now.database (outcome now c)).changes) session)
 
   done-session : (past : Past A) (number : ℕ) (c : Command A) → session_of (done c ∷ past) number ≡ session_after number c (snapshot past) (saved past) (session_of past number)
-  done-session past number c =
-      elim (command_to number c) as (λ o. command_to number c ≡ o → session_of (done c ∷ past) number
-      ≡ left_by o (main past) (saved past) (session_of past number) (record_commit (changes_shown number c (effect_of (main past) (outcome (snapshot past) c)).changes) (session_of past number))) [
-        | Some told ↦ λ is. ap (λ c. session_of (done c ∷ past) number) (is_told number c told is) ∙ here past number told
-        | None ↦ λ none. session-elsewhere number (done c) past none
-      ] refl
+  done-session past number c = grind (arith, is_told number c, here past number, session-elsewhere number (done c) past)
 
   -- a session depends on no reply, but on whether the command was accepted
   done-reply : (past : Past A) (by : ℕ) (c : Command A) (reply : Reply A) (number : ℕ) → is_accepted reply ≡ true → session_of (event_by by c reply ∷ past) number ≡ session_of (done c ∷ past) number

@@ -3,11 +3,10 @@ use Rattle.std.proofs.lemmas.List.{append-nil, map-append}
 use Rattle.std.proofs.lemmas.List.Elements.{filter-append}
 use Rattle.std.proofs.lemmas.List.Folds.{list_all-append, list_any-append}
 use Rattle.std.proofs.lemmas.Bool.Decides.{nat_tests}
-use Rattle.std.proofs.Common.{◌≡◌, ◌≤◌, ℕ, ◌+◌, Bool, true, false, cond, Option, Some, None, List, [], ◌∷◌, ◌++◌, ◌&&◌, ◌||◌, not, map, length, refl, sym, ap, ap₂, subst, append_assoc, ◌∙◌, arith}
+use Rattle.std.proofs.Common.{◌≡◌, ◌≤◌, ℕ, ◌+◌, Bool, true, false, cond, Option, Some, None, List, [], ◌∷◌, ◌++◌, ◌&&◌, ◌||◌, not, map, length, refl, sym, ap, append_assoc, ◌∙◌, arith}
 use Rattle.std.specs.Prelude.{filter, fold, nat_eq, nat_le, nat_lt}
 use Rattle.std.specs.List.{cons_option, enumerate_from, filter_map, list_all, list_any}
 use Rattle.std.specs.Option.{option_map}
-use Rattle.std.proofs.Math.Bool.{or-true}
 use Rattle.std.specs.Cmp.Lexicographic.{bytes_decides, nat_list_eq_equiv}
 use Rattle.cap_value.specs.Bytes.{bytes_eq}
 use Rattle.cap_row.specs.Fields.{Fields}
@@ -22,8 +21,8 @@ use Rattle.cap_session.specs.Session.{AttachedTables, accepts_by, attach}
 use Rattle.cap_core.specs.Flags.{changes_shown, command_to, is_enabled, is_indirect, rule as rule_of}
 use Rattle.cap_core.specs.History.{event_effect, main, snapshot}
 use Rattle.cap_core.specs.Past.{Past, is_accepted}
-use Rattle.cap_core.specs.Touch.{Attaching, Touch, attach_list, attaching_at, attaching_by, attachings, changes_touch, diff_touches, event_changes, event_diff, event_touches, first_of_each, is_in_time, is_recorded, names_attached, names_compared, restarts, touch_found, touch_of, touches, touches_of}
-use Rattle.cap_core.proofs.SmallLemmas.{both, either_false, first, other_false, second}
+use Rattle.cap_core.specs.Touch.{Attaching, Touch, attach_list, attaching_at, attaching_by, attachings, diff_touches, event_changes, event_diff, first_of_each, is_in_time, is_recorded, names_attached, names_compared, restarts, touch_found, touch_of, touches, touches_of}
+use Rattle.cap_core.proofs.SmallLemmas.{either_false}
 use Rattle.cap_core.proofs.TouchedLemmas.{told}
 
 -- the name is among these
@@ -38,49 +37,25 @@ same_bytes x = nat_list_eq_equiv.refl x
 -- a name is still listed after others are left out
 pub is_among-filter : (x y : List ℕ) (names : List (List ℕ)) → bytes_eq x y ≡ false → is_among x (filter (λ other. not (bytes_eq y other)) names) ≡ is_among x names
 is_among-filter x y [] apart = refl
-is_among-filter x y (z ∷ names) apart =
-    elim (bytes_eq y z) as (λ b. bytes_eq y z ≡ b → is_among x (cond (not b) (z ∷ filter (λ other. not (bytes_eq y other)) names) (filter (λ other. not (bytes_eq y other)) names)) ≡ (bytes_eq x z || is_among x names)) [
-      | true ↦ λ t. is_among-filter x y names apart ∙ ap (λ b. b || is_among x names) (sym apart ∙ nat_list_eq_equiv.symm x y ∙ nat_list_eq_equiv.congr y z x t ∙ nat_list_eq_equiv.symm z x)
-      | false ↦ λ t. ap (λ b. bytes_eq x z || b) (is_among-filter x y names apart)
-    ] refl
+is_among-filter x y (z ∷ names) apart = grind (arith, is_among-filter x y names apart, nat_list_eq_equiv.symm, nat_list_eq_equiv.congr)
 
 pub is_among-first_of_each : (x : List ℕ) (names : List (List ℕ)) → is_among x (first_of_each names) ≡ is_among x names
 is_among-first_of_each x [] = refl
-is_among-first_of_each x (y ∷ names) =
-    elim (bytes_eq x y) as (λ b. bytes_eq x y ≡ b → (b || is_among x (filter (λ other. not (bytes_eq y other)) (first_of_each names))) ≡ (b || is_among x names)) [
-      | true ↦ λ t. refl
-      | false ↦ λ t. is_among-filter x y (first_of_each names) t ∙ is_among-first_of_each x names
-    ] refl
+is_among-first_of_each x (y ∷ names) = grind (arith, is_among-filter x y (first_of_each names), is_among-first_of_each x names)
 
 -- a name that comes last is new or not
 pub first_of_each-push : (names : List (List ℕ)) (x : List ℕ) → first_of_each (names ++ x ∷ []) ≡ cond (is_among x (first_of_each names)) (first_of_each names) (first_of_each names ++ x ∷ [])
 first_of_each-push [] x = refl
 first_of_each-push (y ∷ names) x =
-    ap (λ (zs : List (List ℕ)). y ∷ filter (λ other. not (bytes_eq y other)) zs) (first_of_each-push names x)
-    ∙ elim (bytes_eq x y) as (λ b. bytes_eq x y ≡ b → y ∷ filter (λ other. not (bytes_eq y other)) (cond (is_among x (first_of_each names)) (first_of_each names) (first_of_each names ++ x ∷ []))
-    ≡ cond (b || is_among x (filter (λ other. not (bytes_eq y other)) (first_of_each names))) (y ∷ filter (λ other. not (bytes_eq y other)) (first_of_each names)) ((y ∷ filter (λ other. not (bytes_eq y other)) (first_of_each names)) ++ x ∷ [])) [
-      | true ↦ λ t. elim (is_among x (first_of_each names)) as (λ b. y ∷ filter (λ other. not (bytes_eq y other)) (cond b (first_of_each names) (first_of_each names ++ x ∷ [])) ≡ y ∷ filter (λ other. not (bytes_eq y other)) (first_of_each names)) [
-        | true ↦ refl
-        | false ↦ ap (λ (zs : List (List ℕ)). y ∷ zs) (filter-append (λ other. not (bytes_eq y other)) (first_of_each names) (x ∷ [])
-            ∙ ap (λ b. filter (λ other. not (bytes_eq y other)) (first_of_each names) ++ cond (not b) (x ∷ []) []) (nat_list_eq_equiv.symm y x ∙ t)
-            ∙ append-nil _)
-      ]
-      | false ↦ λ t. subst (λ b. y ∷ filter (λ other. not (bytes_eq y other)) (cond (is_among x (first_of_each names)) (first_of_each names) (first_of_each names ++ x ∷ []))
-          ≡ cond b (y ∷ filter (λ other. not (bytes_eq y other)) (first_of_each names)) ((y ∷ filter (λ other. not (bytes_eq y other)) (first_of_each names)) ++ x ∷ []))
-          (sym (is_among-filter x y (first_of_each names) t))
-          (elim (is_among x (first_of_each names)) as (λ b. y ∷ filter (λ other. not (bytes_eq y other)) (cond b (first_of_each names) (first_of_each names ++ x ∷ [])) ≡ cond b (y ∷ filter (λ other. not (bytes_eq y other)) (first_of_each names)) ((y ∷ filter (λ other. not (bytes_eq y other)) (first_of_each names)) ++ x ∷ [])) [
-            | true ↦ refl
-            | false ↦ ap (λ (zs : List (List ℕ)). y ∷ zs) (filter-append (λ other. not (bytes_eq y other)) (first_of_each names) (x ∷ [])
-                ∙ ap (λ b. filter (λ other. not (bytes_eq y other)) (first_of_each names) ++ cond (not b) (x ∷ []) []) (nat_list_eq_equiv.symm y x ∙ t))
-          ])
-    ] refl
+    let test : List ℕ → Bool = λ other. not (bytes_eq y other) in
+    let split = filter-append test (first_of_each names) (x ∷ []) in
+    let none = append-nil (filter test (first_of_each names)) in
+    grind (arith, first_of_each-push names x, is_among-filter x y (first_of_each names), nat_list_eq_equiv.symm y x)
 
 -- functions that are equal at each listed name give the same list
 pub map-listed : {X : Type 0} (f g : List ℕ → X) (names : List (List ℕ)) → ((name : List ℕ) → is_among name names ≡ true → f name ≡ g name) → map f names ≡ map g names
 map-listed f g [] same = refl
-map-listed f g (name ∷ names) same =
-    ap₂ (λ x xs. x ∷ xs) (same name (ap (λ b. b || is_among name names) (same_bytes name)))
-    (map-listed f g names (λ other listed. same other (ap (λ b. bytes_eq other name || b) listed ∙ or-true (bytes_eq other name))))
+map-listed f g (name ∷ names) same = grind (arith, same, same_bytes, map-listed f g names)
 
 -- ---- lists
 
@@ -104,11 +79,7 @@ first_of_each-append names (name ∷ more) =
     ap first_of_each (sym (append_assoc names (name ∷ []) more)) ∙ first_of_each-append (names ++ name ∷ []) more ∙ ap (λ ns. fold push_name ns more) (first_of_each-push names name)
 
 among-before : (names : List (List ℕ)) (name other : List ℕ) → is_among other (push_name names name) ≡ false → is_among other names ≡ false
-among-before names name other =
-    elim (is_among name names) as (λ b. is_among other (cond b names (names ++ name ∷ [])) ≡ false → is_among other names ≡ false) [
-      | true ↦ λ absent. absent
-      | false ↦ λ absent. either_false (is_among other names) (is_among other (name ∷ [])) (sym (list_any-append (bytes_eq other) names (name ∷ [])) ∙ absent)
-    ]
+among-before names name other = grind (arith, list_any-append (bytes_eq other) names (name ∷ []))
 
 abbrev pub table_names : List Attaching → List (List ℕ)
 table_names moments = map (λ moment. moment.table) moments
@@ -116,21 +87,28 @@ table_names moments = map (λ moment. moment.table) moments
 pub table_names-append : (moments more : List Attaching) → table_names (moments ++ more) ≡ table_names moments ++ table_names more
 table_names-append moments more = map-append {A = Attaching} {B = List ℕ} (λ moment. moment.table) moments more
 
--- what is found among the first is found among all
-any-left : {X : Type 0} (test : X → Bool) (xs ys : List X) → list_any test xs ≡ true → list_any test (xs ++ ys) ≡ true
-any-left test xs ys found = list_any-append test xs ys ∙ ap (λ b. b || list_any test ys) found
-
-any-right : {X : Type 0} (test : X → Bool) (xs ys : List X) → list_any test ys ≡ true → list_any test (xs ++ ys) ≡ true
-any-right test xs ys found = list_any-append test xs ys ∙ ap (λ b. list_any test xs || b) found ∙ or-true (list_any test xs)
+-- a name that is not among all moments is not among a part of them
+absent_before : (name : List ℕ) (before said compared changed : List Attaching) → is_among name (table_names (before ++ (said ++ compared ++ changed))) ≡ false
+    → (is_among name (table_names before) ≡ false) × (is_among name (table_names compared) ≡ false)
+absent_before name before said compared changed absent =
+    let both = λ (xs ys : List Attaching). ap (is_among name) (table_names-append xs ys) ∙ list_any-append (bytes_eq name) (table_names xs) (table_names ys) in
+    (grind (arith, both), grind (arith, both))
 
 all_attached : (place k : ℕ) → nat_lt place k ≡ true → (names : List (List ℕ)) → list_all {X = Attaching} (λ moment. nat_lt moment.event k) (map (attaching_at place 0) names) ≡ true
 all_attached place k lt [] = refl
-all_attached place k lt (name ∷ names) = both (nat_lt place k) _ lt (all_attached place k lt names)
+all_attached place k lt (name ∷ names) = grind (arith, all_attached place k lt names)
+
+said_earlier : (place k : ℕ) → nat_lt place k ≡ true → (said : Bool) (names : List (List ℕ)) → list_all {X = Attaching} (λ moment. nat_lt moment.event k) (cond said (map (attaching_at place 0) names) []) ≡ true
+said_earlier place k lt true names = all_attached place k lt names
+said_earlier place k lt false names = refl
+
+joined : {X : Type 0} (test : X → Bool) (before said compared changed : List X) → list_all test before ≡ true → list_all test said ≡ true → list_all test compared ≡ true → list_all test changed ≡ true
+    → list_all test (before ++ (said ++ compared ++ changed)) ≡ true
+joined test before said compared changed b s c d = grind (arith, list_all-append test)
 
 regroup : (moments more : List Attaching) (found : Option Attaching) (later : List Attaching) → (moments ++ more) ++ cons_option found later ≡ (moments ++ (more ++ cons_option found [])) ++ later
-regroup moments more None later = ap (λ ms. (moments ++ ms) ++ later) (sym (append-nil more))
-regroup moments more (Some moment) later =
-    sym (append_assoc (moments ++ more) (moment ∷ []) later) ∙ ap (λ ms. ms ++ later) (append_assoc moments more (moment ∷ []))
+regroup moments more None later = grind (arith, append_assoc, append-nil)
+regroup moments more (Some moment) later = grind (arith, append_assoc)
 
 at_once : (event place : ℕ) → (nat_lt event event || (nat_eq event event && nat_le place place)) ≡ true
 at_once event place = grind (arith, nat_tests)
@@ -142,12 +120,7 @@ module _ {A : Type 0} where
   tables_with records names = map (λ name. (name, records name)) names
 
   pub attach-named : (records : List ℕ → Records A) (name : List ℕ) (names : List (List ℕ)) → (is_among name names ≡ false → records name ≡ []) → attach name (tables_with records names) ≡ tables_with records (push_name names name)
-  attach-named records name names none =
-      ap (λ b. cond b (tables_with records names) (tables_with records names ++ (name, []) ∷ [])) (is_listed-map records name names)
-      ∙ elim (is_among name names) as (λ b. is_among name names ≡ b → cond b (tables_with records names) (tables_with records names ++ (name, []) ∷ []) ≡ tables_with records (cond b names (names ++ name ∷ []))) [
-        | true ↦ λ _. refl
-        | false ↦ λ absent. ap (λ kept. tables_with records names ++ (name, kept) ∷ []) (sym (none absent)) ∙ sym (map-append (λ n. (n, records n)) names (name ∷ []))
-      ] refl
+  attach-named records name names none = grind (arith, is_listed-map records name names, none, map-append {B = List ℕ × Records A} (λ n. (n, records n)) names (name ∷ []))
 
   -- a name that the rule accepts goes last unless it is there
   abbrev pub push_by : AutomaticRule A → List (List ℕ) → List ℕ → List (List ℕ)
@@ -157,12 +130,9 @@ module _ {A : Type 0} where
       → fold (attach_by rule) (tables_with records names) more ≡ tables_with records (fold (push_by rule) names more)
   attach_by-named rule records [] names none = refl
   attach_by-named rule records (name ∷ more) names none =
-      elim (accepts_by rule name) as (λ b. fold (attach_by rule) (cond b (attach name (tables_with records names)) (tables_with records names)) more ≡ tables_with records (fold (push_by rule) (cond b (push_name names name) names) more)) [
-        | true ↦
-            ap (λ tables. fold (attach_by rule) tables more) (attach-named records name names (none name))
-            ∙ attach_by-named rule records more (push_name names name) (λ other absent. none other (among-before names name other absent))
-        | false ↦ attach_by-named rule records more names none
-      ]
+      let pushed = attach_by-named rule records more (push_name names name) (λ other absent. none other (among-before names name other absent)) in
+      let left = attach_by-named rule records more names none in
+      grind (arith, attach-named records name names (none name))
 
   -- ---- moments by changes
 
@@ -170,37 +140,20 @@ module _ {A : Type 0} where
       → fold push_name names (table_names (filter_map (attaching_by session past) (enumerate_from place changes))) ≡ fold (push_by (rule_of session past)) names (map (λ change. change.table) changes)
   names-by-changes session past on place [] names = refl
   names-by-changes session past on place (change ∷ changes) names =
-      let later = filter_map (attaching_by session past) (enumerate_from (place + 1) changes) in
-      let moment : Attaching = attaching_at (length past) place change.table in
-      ap (λ b. fold push_name names (table_names (cons_option (cond (b && accepts_by (rule_of session past) change.table) (Some moment) None) later))) on
-      ∙ elim (accepts_by (rule_of session past) change.table) as (λ b. fold push_name names (table_names (cons_option (cond b (Some moment) None) later)) ≡ fold (push_by (rule_of session past)) (cond b (push_name names change.table) names) (map (λ c. c.table) changes)) [
-        | true ↦ names-by-changes session past on (place + 1) changes (push_name names change.table)
-        | false ↦ names-by-changes session past on (place + 1) changes names
-      ]
+      let later = names-by-changes session past on (place + 1) changes in
+      grind (arith, later (push_name names change.table), later names)
 
   -- a session that is not enabled attaches nothing
   pub none-by-changes : (session : ℕ) (past : Past A) → is_enabled session past ≡ false → (place : ℕ) (changes : List (Change A)) → filter_map (attaching_by session past) (enumerate_from place changes) ≡ []
   none-by-changes session past off place [] = refl
-  none-by-changes session past off place (change ∷ changes) =
-      ap (λ b. cons_option (cond (b && accepts_by (rule_of session past) change.table) (Some (attaching_at (length past) place change.table)) None) (filter_map (attaching_by session past) (enumerate_from (place + 1) changes))) off
-      ∙ none-by-changes session past off (place + 1) changes
+  none-by-changes session past off place (change ∷ changes) = grind (arith, none-by-changes session past off (place + 1) changes)
 
   -- the rule accepts the names that it attached
   pub accepted-by-changes : (session : ℕ) (past : Past A) → (name : List ℕ) (place : ℕ) (changes : List (Change A)) → is_among name (table_names (filter_map (attaching_by session past) (enumerate_from place changes))) ≡ true
       → (is_enabled session past && accepts_by (rule_of session past) name) ≡ true
   accepted-by-changes session past name place [] found = cc
   accepted-by-changes session past name place (change ∷ changes) found =
-      let later = filter_map (attaching_by session past) (enumerate_from (place + 1) changes) in
-      let moment : Attaching = attaching_at (length past) place change.table in
-      let attaches : List ℕ → Bool = λ n. is_enabled session past && accepts_by (rule_of session past) n in
-      elim (attaches change.table) as (λ b. attaches change.table ≡ b → is_among name (table_names (cons_option (cond b (Some moment) None) later)) ≡ true → attaches name ≡ true) [
-        | true ↦ λ accepted.
-            elim (bytes_eq name change.table) as (λ b. bytes_eq name change.table ≡ b → (b || is_among name (table_names later)) ≡ true → attaches name ≡ true) [
-              | true ↦ λ same _. ap attaches ((bytes_decides name change.table).0 same) ∙ accepted
-              | false ↦ λ _ more. accepted-by-changes session past name (place + 1) changes more
-            ] refl
-        | false ↦ λ _ more. accepted-by-changes session past name (place + 1) changes more
-      ] refl found
+      grind (arith, (bytes_decides name change.table).0, accepted-by-changes session past name (place + 1) changes)
 
   -- ---- touches in time
 
@@ -209,31 +162,17 @@ module _ {A : Type 0} where
       → is_among name (map (λ moment. moment.table) moments) ≡ true → is_recorded moments touch ≡ true
   recorded [] touch name same earlier listed = listed
   recorded (moment ∷ moments) touch name same earlier listed =
-      let rest = second (nat_lt moment.event touch.event) (list_all {X = Attaching} (λ m. nat_lt m.event touch.event) moments) earlier in
-      let now = first (nat_lt moment.event touch.event) (list_all {X = Attaching} (λ m. nat_lt m.event touch.event) moments) earlier in
-      let names : bytes_eq touch.table moment.table ≡ bytes_eq name moment.table = ap (λ n. bytes_eq n moment.table) (sym ((bytes_decides name touch.table).0 same)) in
-      elim (bytes_eq name moment.table) as (λ b. bytes_eq name moment.table ≡ b → (b || is_among name (map (λ m. m.table) moments)) ≡ true → is_recorded (moment ∷ moments) touch ≡ true) [
-        | true ↦ λ t _. ap (λ b. b || is_recorded moments touch) (both (bytes_eq touch.table moment.table) (is_in_time touch moment) (names ∙ t) (ap (λ b. b || (nat_eq moment.event touch.event && nat_le moment.change touch.change)) now))
-        | false ↦ λ t more. ap (λ b. (bytes_eq touch.table moment.table && is_in_time touch moment) || b) (recorded moments touch name same rest more) ∙ or-true _
-      ] refl listed
+      let own = (bytes_decides name touch.table).0 same in grind (arith, recorded moments touch name same)
 
   -- a name that is not listed has no touch
   pub not_recorded : (moments : List Attaching) (touch : Touch A) (name : List ℕ) → bytes_eq name touch.table ≡ true → is_among name (map (λ moment. moment.table) moments) ≡ false → is_recorded moments touch ≡ false
   not_recorded [] touch name same absent = refl
   not_recorded (moment ∷ moments) touch name same absent =
-      let here : bytes_eq touch.table moment.table ≡ false = ap (λ n. bytes_eq n moment.table) (sym ((bytes_decides name touch.table).0 same)) ∙ either_false (bytes_eq name moment.table) _ absent in
-      ap₂ (λ a b. (a && is_in_time touch moment) || b) here (not_recorded moments touch name same (other_false (bytes_eq name moment.table) _ absent))
+      let own = (bytes_decides name touch.table).0 same in grind (arith, not_recorded moments touch name same)
 
   pub none_of : (moments : List Attaching) (name : List ℕ) → is_among name (map (λ moment. moment.table) moments) ≡ false → (found : List (Touch A)) → touches_of name (filter (is_recorded moments) found) ≡ []
   none_of moments name absent [] = refl
-  none_of moments name absent (touch ∷ found) =
-      elim (bytes_eq name touch.table) as (λ b. bytes_eq name touch.table ≡ b → touches_of name (cond (is_recorded moments touch) (touch ∷ filter (is_recorded moments) found) (filter (is_recorded moments) found)) ≡ []) [
-        | true ↦ λ t. ap (λ b. touches_of name (cond b (touch ∷ filter (is_recorded moments) found) (filter (is_recorded moments) found))) (not_recorded moments touch name t absent) ∙ none_of moments name absent found
-        | false ↦ λ t. elim (is_recorded moments touch) as (λ b. touches_of name (cond b (touch ∷ filter (is_recorded moments) found) (filter (is_recorded moments) found)) ≡ []) [
-          | true ↦ ap (λ b. map (λ u. (u.key, u)) (cond b (touch ∷ filter (λ u. bytes_eq name u.table) (filter (is_recorded moments) found)) (filter (λ u. bytes_eq name u.table) (filter (is_recorded moments) found)))) t ∙ none_of moments name absent found
-          | false ↦ none_of moments name absent found
-        ]
-      ] refl
+  none_of moments name absent (touch ∷ found) = grind (arith, not_recorded moments touch name, none_of moments name absent found)
 
   pub touches_of-append : (name : List ℕ) (xs ys : List (Touch A)) → touches_of name (xs ++ ys) ≡ touches_of name xs ++ touches_of name ys
   touches_of-append name xs ys =
@@ -245,74 +184,42 @@ module _ {A : Type 0} where
   all_by_changes : (session : ℕ) (past : Past A) (k : ℕ) → nat_lt (length past) k ≡ true → (place : ℕ) (changes : List (Change A))
       → list_all {X = Attaching} (λ moment. nat_lt moment.event k) (filter_map (attaching_by session past) (enumerate_from place changes)) ≡ true
   all_by_changes session past k lt place [] = refl
-  all_by_changes session past k lt place (change ∷ changes) =
-      let later = filter_map (attaching_by session past) (enumerate_from (place + 1) changes) in
-      elim (is_enabled session past && accepts_by (rule_of session past) change.table) as (λ b. list_all {X = Attaching} (λ moment. nat_lt moment.event k) (cons_option (cond b (Some (attaching_at (length past) place change.table)) None) later) ≡ true) [
-        | true ↦ both (nat_lt (length past) k) _ lt (all_by_changes session past k lt (place + 1) changes)
-        | false ↦ all_by_changes session past k lt (place + 1) changes
-      ]
+  all_by_changes session past k lt place (change ∷ changes) = grind (arith, all_by_changes session past k lt (place + 1) changes)
 
   pub attachings-earlier : (session k : ℕ) (past : Past A) → length past ≤ k → list_all {X = Attaching} (λ moment. nat_lt moment.event k) (attachings session past) ≡ true
   attachings-earlier session k [] le = refl
   attachings-earlier session k (event ∷ past) le =
       let lt : nat_lt (length past) k ≡ true = grind (arith, nat_tests) in
-      let test : Attaching → Bool = λ moment. nat_lt moment.event k in
-      let by_command = cond (is_accepted event.reply) (map (attaching_at (length past) 0) (names_attached (command_to session event.command))) [] in
-      let by_diff = map (attaching_at (length past) 0) (names_compared (event_diff session event past)) in
-      let by_changes = filter_map (attaching_by session past) (event_changes session event past) in
-      let commanded : list_all test by_command ≡ true =
-      elim (is_accepted event.reply) as (λ b. list_all test (cond b (map (attaching_at (length past) 0) (names_attached (command_to session event.command))) []) ≡ true) [
-        | true ↦ all_attached (length past) k lt (names_attached (command_to session event.command))
-        | false ↦ refl
-      ] in
-      let compared : list_all test by_diff ≡ true = all_attached (length past) k lt (names_compared (event_diff session event past)) in
-      let changed : list_all test by_changes ≡ true = all_by_changes session past k lt 0 (changes_shown session event.command (event_effect (snapshot past) event).changes) in
-      list_all-append test (attachings session past) (by_command ++ by_diff ++ by_changes)
-      ∙ both (list_all test (attachings session past)) _ (attachings-earlier session k past (omega arith))
-      (list_all-append test (by_command ++ by_diff) by_changes
-      ∙ both (list_all test (by_command ++ by_diff)) (list_all test by_changes)
-      (list_all-append test by_command by_diff ∙ both (list_all test by_command) (list_all test by_diff) commanded compared) changed)
+      joined (λ moment. nat_lt moment.event k) (attachings session past) _ _ _ (attachings-earlier session k past (omega arith))
+      (said_earlier (length past) k lt (is_accepted event.reply) (names_attached (command_to session event.command)))
+      (all_attached (length past) k lt (names_compared (event_diff session event past)))
+      (all_by_changes session past k lt 0 (changes_shown session event.command (event_effect (snapshot past) event).changes))
 
   -- ---- a table that is not attached has no touch
 
   apart_found : (session : ℕ) (past : Past A) (name other : List ℕ) → bytes_eq name other ≡ false → (differences : List (Difference A)) → touches_of name (map (touch_found session past other) differences) ≡ []
   apart_found session past name other apart [] = refl
-  apart_found session past name other apart (difference ∷ differences) =
-      let rest = filter (λ touch. bytes_eq name touch.table) (map (touch_found session past other) differences) in
-      ap (λ b. map (λ touch. (touch.key, touch)) (cond b (touch_found session past other difference ∷ rest) rest)) apart ∙ apart_found session past name other apart differences
+  apart_found session past name other apart (difference ∷ differences) = grind (arith, apart_found session past name other apart differences)
 
   apart_diff : (session : ℕ) (past : Past A) (name : List ℕ) (found : Option (List ℕ × List (Difference A))) → is_among name (table_names (map (attaching_at (length past) 0) (names_compared found))) ≡ false
       → touches_of name (diff_touches session past found) ≡ []
   apart_diff session past name None absent = refl
   apart_diff session past name (Some compared) absent = apart_found session past name compared.0 (either_false (bytes_eq name compared.0) false absent) compared.1
 
+  none_left : (name : List ℕ) (restarted on : Bool) (before changed compared : List (Touch A)) → touches_of name before ≡ [] → touches_of name changed ≡ [] → touches_of name compared ≡ []
+      → touches_of name (cond restarted [] (before ++ (cond on changed [] ++ compared))) ≡ []
+  none_left name restarted on before changed compared b c d = grind (arith, touches_of-append name)
+
   pub touches-none : (session : ℕ) (name : List ℕ) (past : Past A) → is_among name (attach_list session past) ≡ false → touches_of name (touches session past) ≡ []
   touches-none session name [] absent = refl
   touches-none session name (event ∷ past) absent =
-      let before = attachings session past in
-      let by_command = cond (is_accepted event.reply) (map (attaching_at (length past) 0) (names_attached (command_to session event.command))) [] in
-      let by_diff = map (attaching_at (length past) 0) (names_compared (event_diff session event past)) in
-      let by_changes = filter_map (attaching_by session past) (event_changes session event past) in
-      let now : is_among name (table_names (before ++ (by_command ++ by_diff ++ by_changes))) ≡ false = sym (is_among-first_of_each name (table_names (before ++ (by_command ++ by_diff ++ by_changes)))) ∙ absent in
-      let parts : (xs ys : List Attaching) → is_among name (table_names (xs ++ ys)) ≡ (is_among name (table_names xs) || is_among name (table_names ys)) =
-      λ xs ys. ap (is_among name) (table_names-append xs ys) ∙ list_any-append (bytes_eq name) (table_names xs) (table_names ys) in
-      let first_none : is_among name (table_names before) ≡ false = either_false (is_among name (table_names before)) _ (sym (parts before (by_command ++ by_diff ++ by_changes)) ∙ now) in
-      let others_none = other_false (is_among name (table_names before)) _ (sym (parts before (by_command ++ by_diff ++ by_changes)) ∙ now) in
-      let said_none = either_false (is_among name (table_names (by_command ++ by_diff))) _ (sym (parts (by_command ++ by_diff) by_changes) ∙ others_none) in
-      let diff_none : is_among name (table_names by_diff) ≡ false = other_false (is_among name (table_names by_command)) _ (sym (parts by_command by_diff) ∙ said_none) in
-      let changed : touches_of name (changes_touch session event past) ≡ [] =
-      elim (is_enabled session past) as (λ b. touches_of name (cond b (filter (is_recorded (attachings session (event ∷ past))) (filter_map (touch_of session past) (event_changes session event past))) []) ≡ []) [
-        | true ↦ none_of (attachings session (event ∷ past)) name now _
-        | false ↦ refl
-      ] in
-      elim (is_accepted event.reply && restarts (command_to session event.command)) as (λ b. touches_of name (cond b [] (touches session past ++ event_touches session event past)) ≡ []) [
-        | true ↦ refl
-        | false ↦
-            touches_of-append name (touches session past) (event_touches session event past)
-            ∙ ap₂ (λ a b. a ++ b) (touches-none session name past (is_among-first_of_each name (table_names before) ∙ first_none))
-            (touches_of-append name (changes_touch session event past) (diff_touches session past (event_diff session event past))
-            ∙ ap₂ (λ a b. a ++ b) changed (apart_diff session past name (event_diff session event past) diff_none))
-      ]
+      let now = sym (is_among-first_of_each name (table_names (attachings session (event ∷ past)))) ∙ absent in
+      let apart = absent_before name (attachings session past) _ (map (attaching_at (length past) 0) (names_compared (event_diff session event past))) _ now in
+      none_left name (is_accepted event.reply && restarts (command_to session event.command)) (is_enabled session past)
+      (touches session past) _ (diff_touches session past (event_diff session event past))
+      (touches-none session name past (is_among-first_of_each name (table_names (attachings session past)) ∙ apart.0))
+      (none_of (attachings session (event ∷ past)) name now (filter_map (touch_of session past) (event_changes session event past)))
+      (apart_diff session past name (event_diff session event past) apart.1)
 
   -- ---- the touches by changes are those that a session records
 
@@ -337,24 +244,15 @@ module _ {A : Type 0} where
       let tail : map told (touches_of name rest) ≡ others =
       ap (λ ms. map told (touches_of name (filter (is_recorded ms) later))) (regroup moments more here later_moments)
       ∙ touches-told session past name moments seen (place + 1) changes (more ++ cons_option here []) in
-      let drop : (b : Bool) → others ≡ cons_option (cond b None None) others = λ b. elim b as (λ b. others ≡ cons_option (cond b None None) others) [ true ↦ refl | false ↦ refl ] in
       elim change.key as (λ k. map told (touches_of name (filter (is_recorded all) (cons_option (option_map (touch_at session past place change) k) later)))
       ≡ cons_option (cond (bytes_eq name change.table) (option_map (λ key. record { key = key; image = row_at (main past) name key; indirect = is_indirect session past || is_cascade change.cause }) k) None) others) [
-        | None ↦ tail ∙ drop (bytes_eq name change.table)
+        | None ↦ grind (arith, tail)
         | Some key ↦
             let touch = touch_at session past place change key in
             let made : List ℕ → _ = λ n. told (key, record touch { image = row_at (main past) n key }) in
             elim (bytes_eq name change.table) as (λ b. bytes_eq name change.table ≡ b → map told (touches_of name (cond (is_recorded all touch) (touch ∷ rest) rest)) ≡ cons_option (cond b (Some (made name)) None) others) [
-              | true ↦ λ t.
-                  ap (λ b. map told (touches_of name (cond b (touch ∷ rest) rest))) (seen more place change key later_moments t)
-                  ∙ ap (λ b. map told (map (λ u. (u.key, u)) (cond b (touch ∷ filter (λ u. bytes_eq name u.table) rest) (filter (λ u. bytes_eq name u.table) rest)))) t
-                  ∙ ap₂ (λ n xs. made n ∷ xs) (sym ((bytes_decides name change.table).0 t)) tail
-              | false ↦ λ t.
-                  elim (is_recorded all touch) as (λ b. map told (touches_of name (cond b (touch ∷ rest) rest)) ≡ map told (touches_of name rest)) [
-                    | true ↦ ap (λ b. map told (map (λ u. (u.key, u)) (cond b (touch ∷ filter (λ u. bytes_eq name u.table) rest) (filter (λ u. bytes_eq name u.table) rest)))) t
-                    | false ↦ refl
-                  ]
-                  ∙ tail
+              | true ↦ λ t. let own = (bytes_decides name change.table).0 t in let shown = seen more place change key later_moments t in grind (arith, tail)
+              | false ↦ λ t. grind (arith, tail)
             ] refl
       ]
 
@@ -364,9 +262,8 @@ module _ {A : Type 0} where
       → is_recorded ((attachings session past ++ more) ++ later) (touch_at session past place change key) ≡ true
   seen_before session past name listed more place change key later same =
       let touch = touch_at session past place change key in
-      let test : Attaching → Bool = λ moment. bytes_eq touch.table moment.table && is_in_time touch moment in
-      any-left test (attachings session past ++ more) later
-      (any-left test (attachings session past) more (recorded (attachings session past) touch name same (attachings-earlier session (length past) past (omega arith)) listed))
+      let all = recorded (attachings session past) touch name same (attachings-earlier session (length past) past (omega arith)) listed in
+      grind (arith, list_any-append (λ (moment : Attaching). bytes_eq touch.table moment.table && is_in_time touch moment))
 
   -- a table that a change attaches is attached in time for the touch by this change
   pub seen_now : (session : ℕ) (past : Past A) (name : List ℕ) → (is_enabled session past && accepts_by (rule_of session past) name) ≡ true
@@ -374,9 +271,4 @@ module _ {A : Type 0} where
       → is_recorded ((moments ++ more) ++ cons_option (attaching_by session past (place, change)) later) (touch_at session past place change key) ≡ true
   seen_now session past name accepted moments more place change key later same =
       let touch = touch_at session past place change key in
-      let test : Attaching → Bool = λ moment. bytes_eq touch.table moment.table && is_in_time touch moment in
-      let moment : Attaching = attaching_at (length past) place change.table in
-      let attaches : (is_enabled session past && accepts_by (rule_of session past) change.table) ≡ true = ap (λ n. is_enabled session past && accepts_by (rule_of session past) n) (sym ((bytes_decides name change.table).0 same)) ∙ accepted in
-      ap (λ b. list_any test ((moments ++ more) ++ cons_option (cond b (Some moment) None) later)) attaches
-      ∙ any-right test (moments ++ more) (moment ∷ later)
-      (ap (λ b. b || list_any test later) (both (bytes_eq change.table change.table) (is_in_time touch moment) (same_bytes change.table) (at_once (length past) place)))
+      grind (arith, (bytes_decides name change.table).0 same, same_bytes, at_once (length past) place, list_any-append (λ (moment : Attaching). bytes_eq touch.table moment.table && is_in_time touch moment))

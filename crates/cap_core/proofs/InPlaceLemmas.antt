@@ -8,12 +8,10 @@ use Rattle.cap_value.specs.declared.refusal.Refusal.{Refusal}
 use Rattle.cap_row.specs.Fields.{Fields}
 use Rattle.cap_database.specs.Carried.{CarryFirstRows}
 use Rattle.cap_database.specs.KeptKey.{AreOfKey, change_of}
-use Rattle.cap_database.specs.Operation.{and_then, changes, run, step}
-use Rattle.cap_database.specs.Outcome.{OutcomeState}
+use Rattle.cap_database.specs.Operation.{changes, run, step}
 use Rattle.cap_database.specs.Tables.{Tables, schema_of}
 use Rattle.cap_database.specs.declared.change.Change.{Change}
 use Rattle.cap_database.specs.declared.op.Op.{Op}
-use Rattle.cap_database.specs.declared.refused_at.RefusedAt.{RefusedAt}
 use Rattle.cap_database.proofs.StayLemmas.{CarriesRow, step-carries}
 use Rattle.cap_session.specs.declared.delta.Delta.{Delta}
 use Rattle.cap_session.specs.Delta.{published}
@@ -35,9 +33,7 @@ one_item (y ∷ z ∷ rest) x few is = absurd (omega arith)
 
 module _ {A : Type 0} (tables : Tables A) (op : Op A) where
   one_run : (after : Tables A) → step tables op ≡ Ok after → run tables (op ∷ []) ≡ Ok (record { database = after; changes = changes tables op })
-  one_run after is =
-      ap (λ (r : Result (Tables A) Refusal). and_then (changes tables op) r (λ next. run next [])) is
-      ∙ ap (λ (cs : List (Change A)). let left : Result (OutcomeState A) RefusedAt = Ok (record { database = after; changes = cs }) in left) (append-nil (changes tables op))
+  one_run after is = grind (arith, append-nil)
 
   pub one_made : (after : Tables A) → step tables op ≡ Ok after → made (run tables (op ∷ [])) ≡ Ok (record { database = after; changes = changes tables op; report = None })
   one_made after is = ap made (one_run after is)

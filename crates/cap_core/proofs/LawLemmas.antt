@@ -1,22 +1,15 @@
 -- Laws of histories, sessions and captures.
-use Rattle.std.proofs.Common.{◌≡◌, ◌+◌, ℕ, Bool, true, false, cond, Option, Some, None, Result, Ok, Err, List, [], ◌∷◌, ◌++◌, map, refl, sym, ap, ap₂, ◌∙◌, T, IsTrue, nat_le, length}
+use Rattle.std.proofs.Common.{◌≡◌, ℕ, Bool, true, false, Option, Some, None, List, [], ◌∷◌, ◌++◌, map, refl, sym, ap, ap₂, ◌∙◌, T, IsTrue, arith}
 use Rattle.std.specs.Option.{option_map}
-use Rattle.std.specs.Prelude.{is_some}
-use Rattle.std.specs.List.{cons_option}
-use Rattle.std.specs.Ordering.{is_eq}
-use Rattle.cap_value.specs.Bytes.{bytes_cmp}
 use Rattle.cap_row.specs.Fields.{Fields}
 use Rattle.cap_row.specs.Key.{fields_cmp, fields_cmp-Equal}
-use Rattle.cap_changes.specs.Change.{change_of, new_field, old_field}
-use Rattle.cap_changes.specs.Column.{by_column}
-use Rattle.cap_changes.specs.declared.row_change.RowChange.{RowChange}
-use Rattle.cap_changes.specs.declared.row_change.RowChange.TheVariants.{Update}
-use Rattle.cap_tree.specs.Tree.{get, put_entry, take_entry}
+use Rattle.cap_changes.specs.Change.{change_of}
+use Rattle.cap_tree.specs.Tree.{get}
 use Rattle.cap_table.specs.Table.{TableState}
 use Rattle.cap_database.specs.Tables.{Tables, table_of}
 use Rattle.cap_session.specs.declared.record.Record.{Record}
 use Rattle.cap_session.specs.Records.{Records}
-use Rattle.cap_session.specs.Session.{SessionState, new_session}
+use Rattle.cap_session.specs.Session.{SessionState}
 use Rattle.cap_session.specs.Sessions.{session_numbered}
 use Rattle.cap_core.specs.declared.command.Command.{Command}
 use Rattle.cap_core.specs.declared.command.Command.TheVariants as command
@@ -24,15 +17,14 @@ use Rattle.cap_core.specs.declared.session_command.SessionCommand.{SessionComman
 use Rattle.cap_core.specs.declared.session_command.SessionCommand.TheVariants.{Change}
 use Rattle.cap_core.specs.declared.event.Event.{Event}
 use Rattle.cap_core.specs.declared.reply.Reply.{Reply}
-use Rattle.cap_core.specs.Answer.{IsLegal, IsLegalPast, State, answer, application, event_by, has_room_for, reply_of, session_answer, session_reply, snapshot_of, state, state_after, write_reply}
+use Rattle.cap_core.specs.Answer.{IsLegal, IsLegalPast, State, answer, event_by, reply_of, session_answer, session_reply, state, state_after}
 use Rattle.cap_core.specs.Capture.{change_now, changes_of, session_changes, table_changes}
 use Rattle.cap_core.specs.History.{main}
-use Rattle.cap_core.specs.Outcome.{Effect, Refused as Why, outcome}
 use Rattle.cap_core.specs.Past.{Past, is_accepted}
 use Rattle.cap_core.specs.Replies.{replies_after}
 use Rattle.cap_core.specs.Session.{all_indirect, records_of, session_of}
 use Rattle.cap_core.specs.Touch.{Touch, attach_list, touches, touches_of}
-use Rattle.cap_core.specs.Transition.{after_session, after_write, next, one_more, session_left}
+use Rattle.cap_core.specs.Transition.{next, one_more}
 use Rattle.cap_core.proofs.NextLemmas.{IsLegal-push, after_refusal, next-is, state-push}
 use Rattle.cap_core.proofs.TouchedLemmas.{find-records_of, get-find, records_of-none, touched_at}
 
@@ -43,9 +35,7 @@ module _ {A : Type 0} where
 
   untouched_tables : (database : Tables A) (records : List ℕ → Records A) → ((name : List ℕ) → records name ≡ []) → (names : List (List ℕ)) → changes_of database (map (λ name. (name, records name)) names) ≡ []
   untouched_tables database records none [] = refl
-  untouched_tables database records none (name ∷ names) =
-      ap (λ first. cons_option first (changes_of database (map (λ name. (name, records name)) names))) (ap (λ r. table_changes (name, r) (table_of database name)) (none name) ∙ no_changes name (table_of database name))
-      ∙ untouched_tables database records none names
+  untouched_tables database records none (name ∷ names) = grind (arith, none name, no_changes name (table_of database name), untouched_tables database records none names)
 
   pub untouched : (past : Past A) (session : ℕ) → touches session past ≡ [] → session_changes (main past) (session_of past session) ≡ []
   untouched past session none =
@@ -59,9 +49,7 @@ module _ {A : Type 0} where
 
   restored_by : (schema : List Bool) (indirect : Bool) (image : Option (Fields A)) → change_of schema indirect image image ≡ None
   restored_by schema indirect None = refl
-  restored_by schema indirect (Some row) =
-      let changed : Option (RowChange A) = Some (Update indirect (by_column old_field schema row row) (by_column new_field schema row row)) in
-      ap (λ b. cond b None changed) (ap is_eq ((fields_cmp-Equal row row).1 refl))
+  restored_by schema indirect (Some row) = let same = (fields_cmp-Equal row row).1 refl in grind arith
 
   pub restored : (table : TableState A) (key : Fields A) (touched : Record A) → touched.image ≡ get fields_cmp table.keyed key → change_now table (key, touched) ≡ None
   restored table key touched same = ap (change_of table.schema touched.indirect touched.image) (sym same) ∙ restored_by table.schema touched.indirect touched.image
@@ -91,43 +79,25 @@ module _ {A : Type 0} where
       ap (λ replies. answer (state_after past) c ∷ replies)
       (from-state (event_by 0 c (answer (state_after past) c) ∷ past) (refl, legal) commands ∙ ap (λ s. replies_from s commands) (sym (next-is past 0 c legal)))
 
-  write_reply-one_more : (s : State A) (r : Result (Effect A) Why) → write_reply (one_more s) r ≡ write_reply s r
-  write_reply-one_more s (Ok effect) = refl
-  write_reply-one_more s (Err why) = refl
-
   reply-one_more : (s : State A) (told : SessionCommand A) (session : SessionState A) → session_reply (one_more s) told session ≡ session_reply s told session
   reply-one_more s (Change change) session = refl
   reply-one_more s _ session = refl
 
   answer-one_more : (s : State A) (c : Command A) → answer (one_more s) c ≡ answer s c
-  answer-one_more s (command.CreateTable name schema) = write_reply-one_more s (outcome (snapshot_of s) (command.CreateTable name schema))
-  answer-one_more s (command.Commit batch) = write_reply-one_more s (outcome (snapshot_of s) (command.Commit batch))
-  answer-one_more s (command.Apply blob policy quiet) = write_reply-one_more s (application s blob policy quiet)
+  answer-one_more s (command.CreateTable name schema) = grind arith
+  answer-one_more s (command.Commit batch) = grind arith
+  answer-one_more s (command.Apply blob policy quiet) = grind arith
   answer-one_more s (command.Session number told) = λ i. session_answer (session_numbered s.sessions number) (λ session. reply-one_more s told session i)
   answer-one_more s _ = refl
 
-  after_write-one_more : (s : State A) (quiet : List ℕ) (r : Result (Effect A) Why) → after_write (one_more s) quiet r ≡ one_more (after_write s quiet r)
-  after_write-one_more s quiet (Ok effect) = refl
-  after_write-one_more s quiet (Err why) = refl
-
-  one_more-either : (b : Bool) (s t : State A) → cond b (one_more s) (one_more t) ≡ one_more (cond b s t)
-  one_more-either true s t = refl
-  one_more-either false s t = refl
-
-  after_session-one_more : (s : State A) (number : ℕ) (found : Option (SessionState A)) (left : SessionState A → Option (SessionState A)) → after_session (one_more s) number found left ≡ one_more (after_session s number found left)
-  after_session-one_more s number None left = refl
-  after_session-one_more s number (Some session) left = refl
-
   next-one_more : (s : State A) (c : Command A) → next (one_more s) c ≡ one_more (next s c)
-  next-one_more s (command.CreateTable name schema) = after_write-one_more s [] (outcome (snapshot_of s) (command.CreateTable name schema))
-  next-one_more s (command.Commit batch) = after_write-one_more s [] (outcome (snapshot_of s) (command.Commit batch))
-  next-one_more s (command.Apply blob policy quiet) = after_write-one_more s quiet (application s blob policy quiet)
-  next-one_more s (command.SaveAs name) = one_more-either (has_room_for s.saved name) (record (one_more s) { saved = put_entry bytes_cmp s.saved name s.main }) (one_more s)
-  next-one_more s (command.DropDatabase name) = one_more-either (is_some (get bytes_cmp s.saved name)) (record (one_more s) { saved = take_entry bytes_cmp s.saved name }) (one_more s)
-  next-one_more s command.NewSession =
-      one_more-either (nat_le 64 (length s.sessions)) (one_more s)
-      (record (one_more s) { sessions_made = s.sessions_made + 1; sessions = s.sessions ++ (s.sessions_made + 1, new_session) ∷ [] })
-  next-one_more s (command.Session number told) = after_session-one_more s number (session_numbered s.sessions number) (session_left s.main s.saved told)
+  next-one_more s (command.CreateTable name schema) = grind arith
+  next-one_more s (command.Commit batch) = grind arith
+  next-one_more s (command.Apply blob policy quiet) = grind arith
+  next-one_more s (command.SaveAs name) = grind arith
+  next-one_more s (command.DropDatabase name) = grind arith
+  next-one_more s command.NewSession = grind arith
+  next-one_more s (command.Session number told) = grind arith
   next-one_more s _ = refl
 
   one_more-same : (s : State A) (commands : List (Command A)) → replies_from (one_more s) commands ≡ replies_from s commands

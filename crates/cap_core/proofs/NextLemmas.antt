@@ -1,17 +1,16 @@
 -- The state after one more event is what its command makes of the state before.
 use Rattle.std.proofs.lemmas.List.{length-reverse, map-append, reverse-append}
-use Rattle.std.proofs.Common.{◌≡◌, ℕ, ◌+◌, ◌<◌, Bool, true, false, cond, Option, Some, None, Result, Ok, Err, List, [], ◌∷◌, ◌++◌, ◌&&◌, ◌||◌, not, map, length, refl, sym, ap, ap₂, subst, ◌∙◌, arith, nat_eq, nat_le, add-one}
-use Rattle.std.specs.Prelude.{filter, is_some, reverse}
+use Rattle.std.proofs.Common.{◌≡◌, ℕ, ◌+◌, ◌<◌, Bool, true, false, cond, Option, Some, None, Ok, Err, List, [], ◌∷◌, ◌++◌, ◌&&◌, ◌||◌, not, map, length, refl, sym, ap, ap₂, subst, ◌∙◌, arith, nat_eq, add-one}
+use Rattle.std.specs.Prelude.{filter, reverse}
 use Rattle.std.specs.List.{range_with_len}
 use Rattle.std.specs.Option.{unwrap_or}
 use Rattle.cap_value.specs.Bytes.{bytes_cmp}
 use Rattle.cap_value.specs.declared.refusal.Refusal.{Refusal}
 use Rattle.cap_value.specs.declared.refusal.Refusal.TheVariants.{NoDatabase, NoSession, TooMany}
-use Rattle.cap_tree.specs.Tree.{get, put_entry, take_entry}
+use Rattle.cap_tree.specs.Tree.{put_entry, take_entry}
 use Rattle.cap_codec.specs.declared.read.Contents.{Contents}
 use Rattle.cap_apply.specs.Report.{ReportState}
 use Rattle.cap_apply.specs.declared.policy.Policy.{Policy}
-use Rattle.cap_compare.specs.declared.difference.Difference.{Difference}
 use Rattle.cap_database.specs.Tables.{Tables}
 use Rattle.cap_session.specs.Recording.{record_commit}
 use Rattle.cap_session.specs.Session.{SessionState, new_session}
@@ -23,16 +22,15 @@ use Rattle.cap_core.specs.declared.session_command.SessionCommand.{SessionComman
 use Rattle.cap_core.specs.declared.session_command.SessionCommand.TheVariants.{Change, Delete, Diff}
 use Rattle.cap_core.specs.declared.reply.Reply.{Reply}
 use Rattle.cap_core.specs.declared.reply.Reply.TheVariants.{Done, Refused, Session as SessionMade}
-use Rattle.cap_core.specs.Answer.{IsLegal, IsLegalPast, State, answer, diffed, effect_unless, drop_reply, event_by, has_room_for, new_session_reply, refusal, refused_quiet, reply_of, save_reply, session_answer, session_reply, state, state_after, version_reply, write_reply}
-use Rattle.cap_core.specs.Diff.{diff}
+use Rattle.cap_core.specs.Answer.{IsLegal, IsLegalPast, State, answer, drop_reply, event_by, new_session_reply, refusal, reply_of, save_reply, session_answer, session_reply, state, state_after, version_reply, write_reply}
 use Rattle.cap_core.specs.Flags.{changes_shown, command_to, deletes, is_dropped, is_quiet, live_sessions, makes_session, quiet_sessions, sessions_made}
 use Rattle.cap_core.specs.History.{Databases, effect_of, event_effect, is_write, main, saved, saved_after, snapshot, version}
 use Rattle.cap_core.specs.Outcome.{Effect, no_effect, outcome}
 use Rattle.cap_core.specs.Past.{Past, is_accepted}
 use Rattle.cap_core.specs.Session.{session_of, sessions}
-use Rattle.cap_core.specs.Transition.{after_drop, after_new_session, after_save, after_session, after_write, compared, next, one_more, session_left, with_left, with_sessions, written}
+use Rattle.cap_core.specs.Transition.{after_drop, after_new_session, after_save, after_write, next, one_more, session_left, with_left, with_sessions, written}
 use Rattle.cap_core.proofs.HistoryLemmas.{map-map}
-use Rattle.cap_core.proofs.SessionLemmas.{and_false, effect-refused, effect-told, record_commit-new, session-apart, session-elsewhere, session-refused, shown-recorded}
+use Rattle.cap_core.proofs.SessionLemmas.{effect-refused, effect-told, record_commit-new, session-apart, session-elsewhere, session-refused, shown-recorded}
 use Rattle.cap_core.proofs.NumberLemmas.{lookup-beyond, lookup-passing, made_before, numbered, passing, passing-push, with-passing, without-passing}
 use Rattle.cap_core.proofs.SessionStandLemmas.{with-same}
 use Rattle.cap_core.proofs.ChangeLemmas.{change-accepted}
@@ -60,11 +58,7 @@ module _ {A : Type 0} where
       ap (λ c. is_accepted (answer s c)) (is_told number c told is) ∙ ap (λ found. is_accepted (session_answer found (session_reply s told))) none
 
   unknown-stays : (s : State A) (number : ℕ) → session_numbered s.sessions number ≡ None → (c : Command A) → (is_accepted (answer s c) && deletes (command_to number c)) ≡ false
-  unknown-stays s number none c =
-      elim (command_to number c) as (λ o. command_to number c ≡ o → (is_accepted (answer s c) && deletes o) ≡ false) [
-        | Some told ↦ λ is. ap (λ b. b && deletes (Some told)) (unknown-refused s number none c told is)
-        | None ↦ λ _. and_false (is_accepted (answer s c))
-      ] refl
+  unknown-stays s number none c = grind (arith, unknown-refused s number none c)
 
   not_made : (past : Past A) (number : ℕ) → IsLegalPast past → sessions_made past < number → (session_of past number ≡ new_session) × (is_dropped past number ≡ false)
   not_made [] number legal lt = (refl, refl)
@@ -138,51 +132,45 @@ module _ {A : Type 0} where
   next-apply : (past : Past A) (by : ℕ) (blob : Contents A) (policy : Policy) (quiet : List ℕ)
       → next (state_after past) (command.Apply blob policy quiet) ≡ state_after (event_by by (command.Apply blob policy quiet) (answer (state_after past) (command.Apply blob policy quiet)) ∷ past)
   next-apply past by blob policy quiet =
-      let s = state_after past in
       let c : Command A = command.Apply blob policy quiet in
-      elim (refused_quiet (sessions past) quiet) as (λ o. after_write s quiet (effect_unless o (outcome (snapshot past) c)) ≡ state_after (event_by by c (write_reply s (effect_unless o (outcome (snapshot past) c))) ∷ past)) [
-        | None ↦ next-write past by c (record { writes = refl; makes = refl; saves = λ _ _. refl; apart = λ _. refl })
-        | Some why ↦ after_refusal (event_by by c (Refused None why)) past refl
-      ]
+      grind (arith, next-write past by c (record { writes = refl; makes = refl; saves = λ _ _. refl; apart = λ _. refl }), λ (why : Refusal). after_refusal (event_by by c (Refused None why)) past refl)
 
   next-save : (past : Past A) (by : ℕ) (name : List ℕ) → after_save (state_after past) name ≡ state_after (event_by by (command.SaveAs name) (save_reply (saved past) name) ∷ past)
   next-save past by name =
-      elim (has_room_for (saved past) name) as (λ b. cond b (record (one_more (state_after past)) { saved = put_entry bytes_cmp (saved past) name (main past) }) (one_more (state_after past))
-      ≡ state_after (event_by by (command.SaveAs name) (cond b Done (refusal TooMany)) ∷ past)) [
-        | true ↦ let event : Event A = event_by by (command.SaveAs name) Done in same_state _ _ (add-one (length past)) refl refl refl refl (sessions-still event past (λ _. refl) refl)
-        | false ↦ after_refusal (event_by by (command.SaveAs name) (refusal TooMany)) past refl
-      ]
+      let event : Event A = event_by by (command.SaveAs name) Done in
+      let saved : record (one_more (state_after past)) { saved = put_entry bytes_cmp (saved past) name (main past) } ≡ state_after (event ∷ past) =
+      same_state _ _ (add-one (length past)) refl refl refl refl (sessions-still event past (λ _. refl) refl) in
+      let refused = after_refusal (event_by by (command.SaveAs name) (refusal TooMany)) past refl in
+      grind arith
 
   next-drop : (past : Past A) (by : ℕ) (name : List ℕ) → after_drop (state_after past) name ≡ state_after (event_by by (command.DropDatabase name) (drop_reply (saved past) name) ∷ past)
   next-drop past by name =
-      elim (is_some (get bytes_cmp (saved past) name)) as (λ b. cond b (record (one_more (state_after past)) { saved = take_entry bytes_cmp (saved past) name }) (one_more (state_after past))
-      ≡ state_after (event_by by (command.DropDatabase name) (cond b Done (refusal NoDatabase)) ∷ past)) [
-        | true ↦ let event : Event A = event_by by (command.DropDatabase name) Done in same_state _ _ (add-one (length past)) refl refl refl refl (sessions-still event past (λ _. refl) refl)
-        | false ↦ after_refusal (event_by by (command.DropDatabase name) (refusal NoDatabase)) past refl
-      ]
+      let event : Event A = event_by by (command.DropDatabase name) Done in
+      let dropped : record (one_more (state_after past)) { saved = take_entry bytes_cmp (saved past) name } ≡ state_after (event ∷ past) =
+      same_state _ _ (add-one (length past)) refl refl refl refl (sessions-still event past (λ _. refl) refl) in
+      let refused = after_refusal (event_by by (command.DropDatabase name) (refusal NoDatabase)) past refl in
+      grind arith
 
   -- ---- the sessions
 
   next-new_session : (past : Past A) (by : ℕ) → IsLegalPast past
       → after_new_session (state_after past) ≡ state_after (event_by by command.NewSession (new_session_reply (state_after past)) ∷ past)
   next-new_session past by legal =
-      elim (nat_le 64 (length (sessions past))) as (λ b. cond b (one_more (state_after past)) (record (one_more (state_after past)) { sessions_made = sessions_made past + 1; sessions = sessions past ++ (sessions_made past + 1, new_session) ∷ [] })
-      ≡ state_after (event_by by command.NewSession (cond b (refusal TooMany) (SessionMade (sessions_made past + 1))) ∷ past)) [
-        | true ↦ after_refusal (event_by by command.NewSession (refusal TooMany)) past refl
-        | false ↦
-            let event : Event A = event_by by command.NewSession (SessionMade (sessions_made past + 1)) in
-            let n = sessions_made past in
-            let lt : n < 1 + n = omega arith in
-            let same : 1 + n ≡ n + 1 = omega arith in
-            let new = not_made past (1 + n) legal lt in
-            let here : session_of (event ∷ past) (1 + n) ≡ new_session =
-            session-apart (1 + n) event past refl refl ∙ new.0 in
-            same_state _ _ (add-one (length past)) refl refl refl refl
-            (sym (ap (λ k. numbered (session_of (event ∷ past)) (passing (is_live past) 1 k)) (add-one n)
-            ∙ ap (numbered (session_of (event ∷ past))) (passing-push (is_live past) n ∙ ap (λ b. live_sessions past ++ cond (not b) ((1 + n) ∷ []) []) new.1)
-            ∙ map-append (λ number. (number, session_of (event ∷ past) number)) (live_sessions past) ((1 + n) ∷ [])
-            ∙ ap₂ (λ xs x. xs ++ x ∷ []) (sym (sessions-still event past (λ _. refl) refl)) (ap₂ (λ k x. (k, x)) same here)))
-      ]
+      let event : Event A = event_by by command.NewSession (SessionMade (sessions_made past + 1)) in
+      let n = sessions_made past in
+      let lt : n < 1 + n = omega arith in
+      let same : 1 + n ≡ n + 1 = omega arith in
+      let new = not_made past (1 + n) legal lt in
+      let here = session-apart (1 + n) event past refl refl ∙ new.0 in
+      let added : sessions past ++ (n + 1, new_session) ∷ [] ≡ sessions (event ∷ past) =
+      sym (ap (λ k. numbered (session_of (event ∷ past)) (passing (is_live past) 1 k)) (add-one n)
+      ∙ ap (numbered (session_of (event ∷ past))) (passing-push (is_live past) n ∙ ap (λ b. live_sessions past ++ cond (not b) ((1 + n) ∷ []) []) new.1)
+      ∙ map-append (λ number. (number, session_of (event ∷ past) number)) (live_sessions past) ((1 + n) ∷ [])
+      ∙ ap₂ (λ xs x. xs ++ x ∷ []) (sym (sessions-still event past (λ _. refl) refl)) (ap₂ (λ k x. (k, x)) same here)) in
+      let made : record (one_more (state_after past)) { sessions_made = n + 1; sessions = sessions past ++ (n + 1, new_session) ∷ [] } ≡ state_after (event ∷ past) =
+      same_state _ _ (add-one (length past)) refl refl refl refl added in
+      let refused = after_refusal (event_by by command.NewSession (refusal TooMany)) past refl in
+      grind arith
 
   -- ---- one session
 
@@ -190,12 +178,6 @@ module _ {A : Type 0} where
   others-stay : (past : Past A) (event : Event A) (number : ℕ) (told : SessionCommand A) → event.command ≡ command.Session number told → (other : ℕ) → (other ≡ number → ⊥) → session_of (event ∷ past) other ≡ session_of past other
   others-stay past event number told is other apart =
       session-apart other event past (ap (command_to other) is ∙ to_others other number told apart) (ap (λ e. e.changes) (effect-told past event number told is))
-
-  changed-sessions : (past : Past A) (by number : ℕ) (told : SessionCommand A) (reply : Reply A) (left : SessionState A) → left ≡ session_of (event_by by (command.Session number told) reply ∷ past) number
-      → with_session (sessions past) number left ≡ numbered (session_of (event_by by (command.Session number told) reply ∷ past)) (live_sessions past)
-  changed-sessions past by number told reply left is =
-      let event : Event A = event_by by (command.Session number told) reply in
-      with-passing (is_live past) (session_of past) (session_of (event ∷ past)) 1 (sessions_made past) number left is (λ j other. sym (others-stay past event number told refl j other))
 
   -- what a command to a session leaves where it is there
   abbrev Leaves : Past A → ℕ → ℕ → SessionCommand A → Type 0
@@ -229,16 +211,13 @@ module _ {A : Type 0} where
       (sym (λ i. cond (accepted i && false) (version past + 1) (version past)))
       (sym (λ i. cond (accepted i) (saved past) (saved past)))
       (sym made)
-      (changed-sessions past by number told reply left changed ∙ ap (numbered (session_of (event ∷ past))) (sym live))
+      (with-passing (is_live past) (session_of past) (session_of (event ∷ past)) 1 (sessions_made past) number left changed (λ j other. sym (others-stay past event number told refl j other))
+      ∙ ap (numbered (session_of (event ∷ past))) (sym live))
 
   -- a command that a session refuses leaves it as it is
   pub refused-left : (s : State A) (told : SessionCommand A) (session : SessionState A) → is_accepted (session_reply s told session) ≡ false → session_left s.main s.saved told session ≡ Some session
   refused-left s (Change change) session is = let clash : true ≡ false = sym (change-accepted change s.version s.main session) ∙ is in cc
-  refused-left s (Diff from name) session is = inner (diff s.main s.saved from name) is
-    where
-      inner : (r : Result (Option (List (Difference A))) Refusal) → is_accepted (diffed {A = A} r) ≡ false → Some (compared name r session) ≡ Some session
-      inner (Ok found) none = cc
-      inner (Err why) none = refl
+  refused-left s (Diff from name) session is = grind arith
   refused-left s _ session is = cc
 
   leaves : (past : Past A) (by number : ℕ) (told : SessionCommand A) → Leaves past by number told
@@ -246,22 +225,15 @@ module _ {A : Type 0} where
   leaves past by number told = λ session is.
       let s = state_after past in
       let reply = session_reply s told session in
-      elim (is_accepted reply) as (λ b. is_accepted reply ≡ b → with_sessions s (with_left (sessions past) number (session_left (main past) (saved past) told session)) ≡ state_after (event_by by (command.Session number told) reply ∷ past)) [
-        | true ↦ λ accepted. leaves-left past by number told refl session (unwrap_or (session_left (main past) (saved past) told session) session) is refl reply accepted
-        | false ↦ λ refused.
-            ap (λ left. with_sessions s (with_left (sessions past) number left)) (refused-left s told session refused)
-            ∙ ap (with_sessions s) (with-same number (sessions past) session is) ∙ after_refusal (event_by by (command.Session number told) reply) past refused
-      ] refl
+      let left = unwrap_or (session_left (main past) (saved past) told session) session in
+      let refused = after_refusal (event_by by (command.Session number told) reply) past in
+      grind (arith, leaves-left past by number told refl session left is refl reply, refused-left s told session, with-same number (sessions past) session is)
 
   next-told : (past : Past A) (by number : ℕ) (told : SessionCommand A)
       → next (state_after past) (command.Session number told) ≡ state_after (event_by by (command.Session number told) (answer (state_after past) (command.Session number told)) ∷ past)
   next-told past by number told =
-      let s = state_after past in
-      let c : Command A = command.Session number told in
-      elim (session_numbered (sessions past) number) as (λ o. session_numbered (sessions past) number ≡ o → after_session s number o (session_left s.main s.saved told) ≡ state_after (event_by by c (session_answer o (session_reply s told)) ∷ past)) [
-        | None ↦ λ is. after_refusal (event_by by c (refusal NoSession)) past refl
-        | Some session ↦ λ is. leaves past by number told session is
-      ] refl
+      let refused = after_refusal (event_by by (command.Session number told) (refusal NoSession)) past refl in
+      grind (arith, leaves past by number told)
 
   -- ---- any command
 

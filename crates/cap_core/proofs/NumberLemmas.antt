@@ -1,7 +1,7 @@
 -- Sessions under their numbers, among the numbers that were given.
 use Rattle.std.proofs.lemmas.List.Elements.{filter-append}
 use Rattle.std.proofs.lemmas.Bool.Decides.{nat_tests}
-use Rattle.std.proofs.Common.{◌≡◌, ℕ, suc, zero, ◌+◌, ◌<◌, ◌≤◌, Bool, true, false, cond, Some, None, List, [], ◌∷◌, ◌++◌, map, refl, sym, ap, ap₂, ◌∙◌, arith, nat_eq, add-zero}
+use Rattle.std.proofs.Common.{◌≡◌, ℕ, suc, zero, ◌+◌, ◌<◌, ◌≤◌, Bool, true, false, cond, Some, None, List, [], ◌∷◌, ◌++◌, map, refl, sym, ap, ◌∙◌, arith, nat_eq, add-zero}
 use Rattle.std.specs.Prelude.{filter}
 use Rattle.std.specs.List.{range_with_len}
 use Rattle.std.specs.Map.{lookup}
@@ -26,9 +26,6 @@ equal_numbers m n is = grind (arith, nat_tests)
 pub unequal_numbers : (m n : ℕ) → nat_eq m n ≡ false → m ≡ n → ⊥
 unequal_numbers m n is e = let clash : true ≡ false = sym (same_number n) ∙ ap (λ k. nat_eq k n) (sym e) ∙ is in cc
 
-pub same_some : (m n : ℕ) → Some m ≡ Some n → m ≡ n
-same_some m n is = cc
-
 -- the numbers from a on that pass
 abbrev pub passing : (ℕ → Bool) → ℕ → ℕ → List ℕ
 passing p a n = filter p (range_with_len a n)
@@ -44,80 +41,37 @@ module _ {X : Type 0} where
   module _ (p : ℕ → Bool) where
     pub lookup-passing : (f : ℕ → X) (a n number : ℕ) (x : X) → lookup (nat_eq number) (numbered f (passing p a n)) ≡ Some x → (number < a + n) × (x ≡ f number)
     lookup-passing f a zero number x is = cc
-    lookup-passing f a (suc n) number x is =
-        let rest = passing p (a + 1) n in
-        elim (p a) as (λ b. lookup (nat_eq number) (numbered f (cond b (a ∷ rest) rest)) ≡ Some x → (number < a + suc n) × (x ≡ f number)) [
-          | true ↦
-              elim (nat_eq number a) as (λ b. nat_eq number a ≡ b → cond b (Some (f a)) (lookup (nat_eq number) (numbered f rest)) ≡ Some x → (number < a + suc n) × (x ≡ f number)) [
-                | true ↦ λ t found. let same = equal_numbers number a t in let here : f a ≡ x = cc in (omega arith, sym here ∙ ap f (sym same))
-                | false ↦ λ _ found. let later = lookup-passing f (a + 1) n number x found in (let lt = later.0 in omega arith, later.1)
-              ] refl
-          | false ↦ λ found. let later = lookup-passing f (a + 1) n number x found in (let lt = later.0 in omega arith, later.1)
-        ] is
+    lookup-passing f a (suc n) number x is = grind (arith, nat_tests, lookup-passing f (a + 1) n number x)
 
     pub lookup-beyond : (f : ℕ → X) (a n number : ℕ) → a + n ≤ number → lookup (nat_eq number) (numbered f (passing p a n)) ≡ None
     lookup-beyond f a zero number le = refl
-    lookup-beyond f a (suc n) number le =
-        let apart : nat_eq number a ≡ false = grind (arith, nat_tests) in
-        let rest = passing p (a + 1) n in
-        let later : lookup (nat_eq number) (numbered f rest) ≡ None = lookup-beyond f (a + 1) n number (omega arith) in
-        elim (p a) as (λ b. lookup (nat_eq number) (numbered f (cond b (a ∷ rest) rest)) ≡ None) [
-          | true ↦ ap (λ b. cond b (Some (f a)) (lookup (nat_eq number) (numbered f rest))) apart ∙ later
-          | false ↦ later
-        ]
+    lookup-beyond f a (suc n) number le = grind (arith, nat_tests, lookup-beyond f (a + 1) n number)
 
     passing-same : (f g : ℕ → X) (q : ℕ → Bool) (a n : ℕ) → ((j : ℕ) → a ≤ j → (f j ≡ g j) × (p j ≡ q j)) → numbered f (passing p a n) ≡ numbered g (filter q (range_with_len a n))
     passing-same f g q a zero same = refl
     passing-same f g q a (suc n) same =
         let here = same a (omega arith) in
         let later = passing-same f g q (a + 1) n (λ j le. same j (omega arith)) in
-        ap (λ b. numbered f (cond b (a ∷ passing p (a + 1) n) (passing p (a + 1) n))) here.1
-        ∙ elim (q a) as (λ b. numbered f (cond b (a ∷ passing p (a + 1) n) (passing p (a + 1) n)) ≡ numbered g (cond b (a ∷ filter q (range_with_len (a + 1) n)) (filter q (range_with_len (a + 1) n)))) [
-          | true ↦ ap₂ (λ x xs. (a, x) ∷ xs) here.0 later
-          | false ↦ later
-        ]
+        grind arith
 
 module _ {A : Type 0} (p : ℕ → Bool) where
   pub with-passing : (f g : ℕ → SessionState A) (a n number : ℕ) (new : SessionState A) → new ≡ g number → ((j : ℕ) → (j ≡ number → ⊥) → f j ≡ g j)
       → with_session (numbered f (passing p a n)) number new ≡ numbered g (passing p a n)
   with-passing f g a zero number new is others = refl
   with-passing f g a (suc n) number new is others =
-      let rest = passing p (a + 1) n in
-      elim (p a) as (λ b. with_session (numbered f (cond b (a ∷ rest) rest)) number new ≡ numbered g (cond b (a ∷ rest) rest)) [
-        | true ↦
-            elim (nat_eq number a) as (λ b. nat_eq number a ≡ b → cond b ((a, new) ∷ numbered f rest) ((a, f a) ∷ with_session (numbered f rest) number new) ≡ (a, g a) ∷ numbered g rest) [
-              | true ↦ λ t.
-                  let same = equal_numbers number a t in
-                  ap₂ (λ x xs. (a, x) ∷ xs) (is ∙ ap g same) (passing-same p f g p (a + 1) n (λ j le. (others j (λ e. omega arith), refl)))
-              | false ↦ λ t. ap₂ (λ x xs. (a, x) ∷ xs) (others a (λ e. unequal_numbers number a t (sym e))) (with-passing f g (a + 1) n number new is others)
-            ] refl
-        | false ↦ with-passing f g (a + 1) n number new is others
-      ]
+      let later = with-passing f g (a + 1) n number new is others in
+      let here = λ (t : nat_eq number a ≡ true). passing-same p f g p (a + 1) n (λ j le. (others j (λ e. let at = equal_numbers number a t in omega arith), refl)) in
+      let apart = λ (t : nat_eq number a ≡ false). others a (λ e. unequal_numbers number a t (sym e)) in
+      grind (arith, equal_numbers number a)
 
   pub without-passing : (q : ℕ → Bool) (f g : ℕ → SessionState A) (a n number : ℕ) → q number ≡ false → ((j : ℕ) → (j ≡ number → ⊥) → (f j ≡ g j) × (p j ≡ q j))
       → without_session (numbered f (passing p a n)) number ≡ numbered g (filter q (range_with_len a n))
   without-passing q f g a zero number gone others = refl
   without-passing q f g a (suc n) number gone others =
-      let rest = passing p (a + 1) n in
-      let left = filter q (range_with_len (a + 1) n) in
-      elim (nat_eq number a) as (λ b. nat_eq number a ≡ b → without_session (numbered f (cond (p a) (a ∷ rest) rest)) number ≡ numbered g (cond (q a) (a ∷ left) left)) [
-        | true ↦ λ t.
-            let here : number ≡ a = equal_numbers number a t in
-            let later : numbered f rest ≡ numbered g left = passing-same p f g q (a + 1) n (λ j le. others j (λ e. omega arith)) in
-            elim (p a) as (λ b. without_session (numbered f (cond b (a ∷ rest) rest)) number ≡ numbered g left) [
-              | true ↦ ap (λ b. cond b (numbered f rest) ((a, f a) ∷ without_session (numbered f rest) number)) t ∙ later
-              | false ↦ without-passing q f g (a + 1) n number gone others
-            ]
-            ∙ ap (λ b. numbered g (cond b (a ∷ left) left)) (sym (ap q (sym here) ∙ gone))
-        | false ↦ λ t.
-            let later = without-passing q f g (a + 1) n number gone others in
-            let here : (f a ≡ g a) × (p a ≡ q a) = others a (λ e. unequal_numbers number a t (sym e)) in
-            ap (λ c. without_session (numbered f (cond c (a ∷ rest) rest)) number) here.1
-            ∙ elim (q a) as (λ c. without_session (numbered f (cond c (a ∷ rest) rest)) number ≡ numbered g (cond c (a ∷ left) left)) [
-              | true ↦ ap (λ b. cond b (numbered f rest) ((a, f a) ∷ without_session (numbered f rest) number)) t ∙ ap₂ (λ x xs. (a, x) ∷ xs) here.0 later
-              | false ↦ later
-            ]
-      ] refl
+      let later = without-passing q f g (a + 1) n number gone others in
+      let here = λ (t : nat_eq number a ≡ true). passing-same p f g q (a + 1) n (λ j le. others j (λ e. let at = equal_numbers number a t in omega arith)) in
+      let apart = λ (t : nat_eq number a ≡ false). others a (λ e. unequal_numbers number a t (sym e)) in
+      grind (arith, equal_numbers number a)
 
 pub made_before : (b : Bool) (n number : ℕ) → cond b (n + 1) n < number → n < number
 made_before true n number lt = omega arith

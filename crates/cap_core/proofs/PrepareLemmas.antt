@@ -1,23 +1,9 @@
 -- What one more event makes of a history, said of results and of lists of commands.
-use Rattle.std.proofs.Common.{◌≡◌, ℕ, suc, Result, Ok, Err, List, [], ◌∷◌, ◌++◌, length, refl, sym, ap, subst, ◌∙◌, IfOk, arith}
+use Rattle.std.proofs.Common.{◌≡◌, suc, List, [], ◌∷◌, ◌++◌, length, refl, sym, ap, subst, ◌∙◌, arith}
 use Rattle.cap_core.specs.declared.command.Command.{Command}
-use Rattle.cap_core.specs.declared.event.Event.{Event}
 use Rattle.cap_core.specs.declared.reply.Reply.{Reply}
-use Rattle.cap_core.specs.Answer.{State, answer, event_by, history_of, IsLegal, reply_of, state}
-use Rattle.cap_core.specs.Transition.{next}
-use Rattle.cap_core.proofs.NextLemmas.{state-push, IsLegal-push, events-state}
-
-module _ {A E : Type 0} where
-  -- what is so of a state is so after each legal history that leaves it
-  pub prepared : (s : State A) (c : Command A) (r : Result (State A × Reply A) E) → IfOk r (λ p. (p.0 ≡ next s c) × (p.1 ≡ answer s c)) → (h : List (Event A)) (by : ℕ) → IsLegal h → state h ≡ s
-      → IfOk r (λ p. (p.1 ≡ reply_of h c) × (p.0 ≡ state (h ++ event_by by c p.1 ∷ [])))
-  prepared s c (Ok p) met h by legal is = let pushed = state-push h by c s p.1 legal is met.1 in (pushed.0, met.0 ∙ pushed.1)
-  prepared s c (Err e) met h by legal is = tt
-
-  pub prepared-legal : (s : State A) (c : Command A) (r : Result (State A × Reply A) E) → IfOk r (λ p. (p.0 ≡ next s c) × (p.1 ≡ answer s c)) → (h : List (Event A)) (by : ℕ) → IsLegal h → state h ≡ s
-      → IfOk r (λ p. IsLegal (h ++ event_by by c p.1 ∷ []))
-  prepared-legal s c (Ok p) met h by legal is = IsLegal-push h (event_by by c p.1) legal (state-push h by c s p.1 legal is met.1).0
-  prepared-legal s c (Err e) met h by legal is = tt
+use Rattle.cap_core.specs.Answer.{State, event_by, history_of, IsLegal, reply_of, state}
+use Rattle.cap_core.proofs.NextLemmas.{IsLegal-push, events-state}
 
 module _ {A : Type 0} where
   pub history_of-push : (commands : List (Command A)) (replies : List (Reply A)) (c : Command A) (r : Reply A) → length commands ≡ length replies

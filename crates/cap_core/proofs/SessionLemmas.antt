@@ -1,18 +1,18 @@
 -- What one more event makes of a session.
 use Rattle.std.proofs.lemmas.List.{append-nil}
 use Rattle.std.proofs.lemmas.List.Folds.{list_any-append}
-use Rattle.std.proofs.Common.{◌≡◌, ℕ, Bool, true, false, cond, None, List, [], ◌∷◌, ◌++◌, ◌&&◌, ◌||◌, map, length, refl, sym, ap, ap₂, ◌∙◌}
+use Rattle.std.proofs.Common.{◌≡◌, ℕ, Bool, true, false, cond, Option, Some, None, List, [], ◌∷◌, ◌++◌, ◌&&◌, ◌||◌, map, length, refl, sym, ap, ◌∙◌, arith}
 use Rattle.std.specs.Prelude.{filter, fold}
 use Rattle.std.specs.List.{enumerate_from, filter_map}
 use Rattle.std.specs.Option.{unwrap_or}
 use Rattle.cap_value.specs.Bytes.{bytes_eq}
 use Rattle.cap_database.specs.Snapshot.{SnapshotState}
 use Rattle.cap_database.specs.declared.change.Change.{Change}
-use Rattle.cap_session.specs.declared.rule.AutomaticRule.TheVariants.{Nothing}
-use Rattle.cap_session.specs.Recording.{attach_by, attach_by_rule, record_commit, touch_tables, touches_of as carried_by}
+use Rattle.cap_session.specs.Recording.{attach_by_rule, record_commit, touch_tables, touches_of as carried_by}
 use Rattle.cap_core.proofs.CarriedLemmas.{carried-told, event-carries, shown-carries, told_by}
+use Rattle.cap_session.proofs.TableLemmas.{nothing-attached}
 use Rattle.cap_session.specs.Records.{Records, Touch as RowTouch, with_touches}
-use Rattle.cap_session.specs.Session.{AttachedTables, SessionState, new_session}
+use Rattle.cap_session.specs.Session.{SessionState, new_session}
 use Rattle.cap_core.specs.declared.command.Command.{Command}
 use Rattle.cap_core.specs.declared.command.Command.TheVariants as command
 use Rattle.cap_core.specs.declared.session_command.SessionCommand.{SessionCommand}
@@ -22,7 +22,7 @@ use Rattle.cap_core.specs.History.{effect_of, event_effect, main, snapshot}
 use Rattle.cap_core.specs.Outcome.{no_effect, outcome}
 use Rattle.cap_core.specs.Past.{Past, is_accepted}
 use Rattle.cap_core.specs.Session.{records_of, session_of}
-use Rattle.cap_core.specs.Touch.{Attaching, attach_list, attaching_at, attaching_by, attachings, changes_touch, diff_by, diff_touches, event_changes, event_diff, first_of_each, is_recorded, names_attached, names_compared, restarts, touch_of, touches, touches_of}
+use Rattle.cap_core.specs.Touch.{Attaching, attach_list, attaching_at, attaching_by, attachings, changes_touch, diff_by, diff_touches, event_changes, first_of_each, is_recorded, names_attached, names_compared, restarts, touch_of, touches, touches_of}
 use Rattle.cap_core.proofs.HistoryLemmas.{accepted-by-changes, attach_by-named, first_of_each-append, is_among, is_among-first_of_each, map-listed, map-map, names-by-changes, none-by-changes, push_by, seen_before, seen_now, table_names, table_names-append, touches-none, touches-told, touches_of-append}
 use Rattle.cap_core.proofs.TouchedLemmas.{records_of-append, records_of-none, told}
 
@@ -33,9 +33,6 @@ cond-same false x = refl
 pub and_false : (b : Bool) → (b && false) ≡ false
 and_false true = refl
 and_false false = refl
-
-either_true : (a b : Bool) → (a || b) ≡ true → a ≡ false → b ≡ true
-either_true a b is none = cc
 
 map-same : {X : Type 0} (xs : List X) → map (λ x. x) xs ≡ xs
 map-same [] = refl
@@ -52,12 +49,30 @@ module _ {A : Type 0} where
   pub same_session : (s t : SessionState A) → s.enabled ≡ t.enabled → s.indirect ≡ t.indirect → s.rule ≡ t.rule → s.tables ≡ t.tables → s ≡ t
   same_session s t e n r k = λ i. record { enabled = e i; indirect = n i; rule = r i; tables = k i }
 
-  -- ---- a command that neither attaches a table to a session nor restarts it
+  -- ---- an event that says nothing to a session: it was refused, or its command is not to it
 
-  pub record IsSilent (session : ℕ) (event : Event A) (past : Past A) : Type 0 where
-    pub attached : cond (is_accepted event.reply) (map (attaching_at (length past) 0) (names_attached (command_to session event.command))) [] ≡ []
-    pub compared : event_diff session event past ≡ None
-    pub restarts : (is_accepted event.reply && restarts (command_to session event.command)) ≡ false
+  pub record IsSilentBy (session : ℕ) (past : Past A) (accepted : Bool) (told : Option (SessionCommand A)) : Type 0 where
+    pub attached : cond accepted (map (attaching_at (length past) 0) (names_attached told)) [] ≡ []
+    pub compared : cond accepted (diff_by told past) None ≡ None
+    pub restarts : (accepted && restarts told) ≡ false
+    pub enabled : cond accepted (unwrap_or (asks_enabled told) (is_enabled session past)) (is_enabled session past) ≡ is_enabled session past
+    pub indirect : cond accepted (unwrap_or (asks_indirect told) (is_indirect session past)) (is_indirect session past) ≡ is_indirect session past
+    pub rule : rule_by (cond accepted (later (filter_set told) (last_filter session past)) (last_filter session past)) ((accepted && asks_for_all told) || wants_all session past) ≡ rule_of session past
+
+  abbrev pub IsSilent : ℕ → Event A → Past A → Type 0
+  IsSilent session event past = IsSilentBy session past (is_accepted event.reply) (command_to session event.command)
+
+  silent-by : (session : ℕ) (past : Past A) (accepted : Bool) (told : Option (SessionCommand A)) → cond accepted told None ≡ None → IsSilentBy session past accepted told
+  silent-by session past true None none = record { attached = refl; compared = refl; restarts = refl; enabled = refl; indirect = refl; rule = refl }
+  silent-by session past true (Some told) none = cc
+  silent-by session past false told none = record { attached = refl; compared = refl; restarts = refl; enabled = refl; indirect = refl; rule = refl }
+
+  -- the command is not to the session
+  pub silent-elsewhere : (session : ℕ) (event : Event A) (past : Past A) → command_to session event.command ≡ None → IsSilent session event past
+  silent-elsewhere session event past none = silent-by session past _ _ (ap (λ told. cond (is_accepted event.reply) told None) none ∙ cond-same (is_accepted event.reply) None)
+
+  silent-refused : (session : ℕ) (event : Event A) (past : Past A) → is_accepted event.reply ≡ false → IsSilent session event past
+  silent-refused session event past refused = silent-by session past _ _ (ap (λ b. cond b (command_to session event.command) None) refused)
 
   module _ (session : ℕ) (event : Event A) (past : Past A) (silent : IsSilent session event past) where
     abbrev changes_made : List (Change A)
@@ -107,7 +122,7 @@ module _ {A : Type 0} where
             | true ↦ λ attached.
                 touches-told session past name moments_before (λ more place change key later same. seen_before session past name attached more place change key _ same) 0 changes_made []
             | false ↦ λ absent.
-                let accepted = accepted-by-changes session past name 0 changes_made (either_true _ _ among absent) in
+                let accepted = accepted-by-changes session past name 0 changes_made (let now : is_among name (table_names by_changes) ≡ true = cc in now) in
                 touches-told session past name moments_before (λ more place change key later same. seen_now session past name accepted moments_before more place change key later same) 0 changes_made []
           ] refl
 
@@ -147,33 +162,21 @@ module _ {A : Type 0} where
     -- the tables of a session after an event that is silent to it
     pub tables-silent : (session_of (event ∷ past) session).tables
         ≡ cond (is_enabled session past) (touch_tables (is_indirect session past) changes_made (attach_by_rule (rule_of session past) changes_made (session_of past session).tables)) (session_of past session).tables
-    tables-silent =
-        let staged = touch_tables (is_indirect session past) changes_made (attach_by_rule (rule_of session past) changes_made (session_of past session).tables) in
-        elim (is_enabled session past) as (λ b. is_enabled session past ≡ b → (session_of (event ∷ past) session).tables ≡ cond b staged (session_of past session).tables) [
-          | true ↦ λ on. tables-on on
-          | false ↦ λ off. tables-off off
-        ] refl
+    tables-silent = grind (arith, tables-on, tables-off)
 
   -- ---- recording changes
 
   record_commit-is : (changes : List (Change A)) (s : SessionState A)
       → record_commit changes s ≡ record s { tables = cond s.enabled (touch_tables s.indirect changes (attach_by_rule s.rule changes s.tables)) s.tables }
-  record_commit-is changes s =
-      let tables = touch_tables s.indirect changes (attach_by_rule s.rule changes s.tables) in
-      elim s.enabled as (λ b. cond b (record s { tables = tables }) s ≡ record s { tables = cond b tables s.tables }) [ true ↦ refl | false ↦ refl ]
+  record_commit-is changes s = grind arith
 
   pub record_commit-nothing : (s : SessionState A) → record_commit [] s ≡ s
   record_commit-nothing s =
       ap (λ tables. cond s.enabled (record s { tables = tables }) s) (map-same s.tables) ∙ cond-same s.enabled s
 
-  attach_by-nothing : (names : List (List ℕ)) (tables : AttachedTables A) → fold (attach_by Nothing) tables names ≡ tables
-  attach_by-nothing [] tables = refl
-  attach_by-nothing (name ∷ names) tables = attach_by-nothing names tables
-
   -- a new session attaches nothing, so that no change touches it
   pub record_commit-new : (changes : List (Change A)) → record_commit changes new_session ≡ new_session
-  record_commit-new changes =
-      ap (λ tables. record new_session { tables = touch_tables false changes tables }) (attach_by-nothing (map (λ change. change.table) changes) [])
+  record_commit-new changes = ap (λ tables. record new_session { tables = touch_tables false changes tables }) (nothing-attached changes [])
 
   -- no changes are none to each session
   pub shown-none : (session : ℕ) (c : Command A) (changes : List (Change A)) → changes ≡ [] → changes_shown session c changes ≡ []
@@ -184,81 +187,38 @@ module _ {A : Type 0} where
   shown-recorded changes true s = sym (record_commit-nothing s)
   shown-recorded changes false s = refl
 
-  -- ---- an event of another session's, or that was refused
+  -- ---- a session after such an event
 
-  pub record KeepsFlags (session : ℕ) (event : Event A) (past : Past A) : Type 0 where
-    pub enabled : is_enabled session (event ∷ past) ≡ is_enabled session past
-    pub indirect : is_indirect session (event ∷ past) ≡ is_indirect session past
-    pub rule : rule_of session (event ∷ past) ≡ rule_of session past
-
-  pub session-recorded : (session : ℕ) (event : Event A) (past : Past A) → IsSilent session event past → KeepsFlags session event past
+  session-recorded : (session : ℕ) (event : Event A) (past : Past A) → IsSilent session event past
       → session_of (event ∷ past) session ≡ record_commit (changes_shown session event.command (event_effect (snapshot past) event).changes) (session_of past session)
-  session-recorded session event past silent flags =
-      same_session _ _ flags.enabled flags.indirect flags.rule (tables-silent session event past silent)
+  session-recorded session event past silent =
+      same_session _ _ silent.enabled silent.indirect silent.rule (tables-silent session event past silent)
       ∙ sym (record_commit-is (changes_shown session event.command (event_effect (snapshot past) event).changes) (session_of past session))
-
-  -- the command is not to the session
-  pub silent-elsewhere : (session : ℕ) (event : Event A) (past : Past A) → command_to session event.command ≡ None → IsSilent session event past
-  silent-elsewhere session event past none =
-      let accepted = is_accepted event.reply in
-      record {
-        attached = ap (λ told. cond accepted (map (attaching_at (length past) 0) (names_attached told)) []) none ∙ cond-same accepted [];
-        compared = ap (λ told. cond accepted (diff_by told past) None) none ∙ cond-same accepted None;
-        restarts = ap (λ told. accepted && restarts told) none ∙ and_false accepted;
-      }
-
-  pub flags-elsewhere : (session : ℕ) (event : Event A) (past : Past A) → command_to session event.command ≡ None → KeepsFlags session event past
-  flags-elsewhere session event past none =
-      let accepted = is_accepted event.reply in
-      let last = last_filter session past in
-      record {
-        enabled = ap (λ told. cond accepted (unwrap_or (asks_enabled told) (is_enabled session past)) (is_enabled session past)) none ∙ cond-same accepted (is_enabled session past);
-        indirect = ap (λ told. cond accepted (unwrap_or (asks_indirect told) (is_indirect session past)) (is_indirect session past)) none ∙ cond-same accepted (is_indirect session past);
-        rule = ap (λ told. rule_by (cond accepted (later (filter_set told) last) last) ((accepted && asks_for_all told) || wants_all session past)) none
-            ∙ ap₂ (λ filter b. rule_by filter (b || wants_all session past)) (cond-same accepted last) (and_false accepted);
-      }
 
   -- a command to a session changes no row
   pub effect-told : (past : Past A) (event : Event A) (number : ℕ) (told : SessionCommand A) → event.command ≡ command.Session number told → event_effect (snapshot past) event ≡ no_effect (main past)
   effect-told past event number told is =
       ap (λ c. cond (is_accepted event.reply) (effect_of (main past) (outcome (snapshot past) c)) (no_effect (main past))) is ∙ cond-same (is_accepted event.reply) (no_effect (main past))
 
-  pub silent-refused : (session : ℕ) (event : Event A) (past : Past A) → is_accepted event.reply ≡ false → IsSilent session event past
-  silent-refused session event past refused = record {
-    attached = ap (λ b. cond b (map (attaching_at (length past) 0) (names_attached (command_to session event.command))) []) refused;
-    compared = ap (λ b. cond b (diff_by (command_to session event.command) past) None) refused;
-    restarts = ap (λ b. b && restarts (command_to session event.command)) refused;
-  }
-
-  pub flags-refused : (session : ℕ) (event : Event A) (past : Past A) → is_accepted event.reply ≡ false → KeepsFlags session event past
-  flags-refused session event past refused = record {
-    enabled = ap (λ b. cond b (unwrap_or (asks_enabled (command_to session event.command)) (is_enabled session past)) (is_enabled session past)) refused;
-    indirect = ap (λ b. cond b (unwrap_or (asks_indirect (command_to session event.command)) (is_indirect session past)) (is_indirect session past)) refused;
-    rule = λ i.
-        rule_by (cond (refused i) (later (filter_set (command_to session event.command)) (last_filter session past)) (last_filter session past))
-        ((refused i && asks_for_all (command_to session event.command)) || wants_all session past);
-  }
-
   pub effect-refused : (event : Event A) (now : SnapshotState A) → is_accepted event.reply ≡ false → event_effect now event ≡ no_effect now.database
   effect-refused event now refused = ap (λ b. cond b (effect_of now.database (outcome now event.command)) (no_effect now.database)) refused
 
   -- a session whose event changed no row
-  pub session-quiet : (session : ℕ) (event : Event A) (past : Past A) → IsSilent session event past → KeepsFlags session event past → (event_effect (snapshot past) event).changes ≡ []
-      → session_of (event ∷ past) session ≡ session_of past session
-  session-quiet session event past silent flags none =
-      session-recorded session event past silent flags ∙ ap (λ changes. record_commit changes (session_of past session)) (shown-none session event.command _ none) ∙ record_commit-nothing (session_of past session)
+  session-quiet : (session : ℕ) (event : Event A) (past : Past A) → IsSilent session event past → (event_effect (snapshot past) event).changes ≡ [] → session_of (event ∷ past) session ≡ session_of past session
+  session-quiet session event past silent none =
+      session-recorded session event past silent ∙ ap (λ changes. record_commit changes (session_of past session)) (shown-none session event.command _ none) ∙ record_commit-nothing (session_of past session)
 
   pub session-refused : (session : ℕ) (event : Event A) (past : Past A) → is_accepted event.reply ≡ false → session_of (event ∷ past) session ≡ session_of past session
   session-refused session event past refused =
-      session-quiet session event past (silent-refused session event past refused) (flags-refused session event past refused) (ap (λ effect. effect.changes) (effect-refused event (snapshot past) refused))
+      session-quiet session event past (silent-refused session event past refused) (ap (λ effect. effect.changes) (effect-refused event (snapshot past) refused))
 
   -- a session that the command is not to
   pub session-apart : (session : ℕ) (event : Event A) (past : Past A) → command_to session event.command ≡ None → (event_effect (snapshot past) event).changes ≡ [] → session_of (event ∷ past) session ≡ session_of past session
-  session-apart session event past apart = session-quiet session event past (silent-elsewhere session event past apart) (flags-elsewhere session event past apart)
+  session-apart session event past apart = session-quiet session event past (silent-elsewhere session event past apart)
 
   pub session-elsewhere : (session : ℕ) (event : Event A) (past : Past A) → command_to session event.command ≡ None
       → session_of (event ∷ past) session ≡ record_commit (changes_shown session event.command (event_effect (snapshot past) event).changes) (session_of past session)
-  session-elsewhere session event past is = session-recorded session event past (silent-elsewhere session event past is) (flags-elsewhere session event past is)
+  session-elsewhere session event past is = session-recorded session event past (silent-elsewhere session event past is)
 
   -- a command that leaves a session as it is
 

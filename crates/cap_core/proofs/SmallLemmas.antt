@@ -1,10 +1,6 @@
 -- Truth values.
 use Rattle.std.proofs.Common.{◌≡◌, Bool, true, false, ◌&&◌, ◌||◌, refl}
 
-pub both : (a b : Bool) → a ≡ true → b ≡ true → (a && b) ≡ true
-both true b p q = q
-both false b p q = p
-
 pub first : (a b : Bool) → (a && b) ≡ true → a ≡ true
 first true b p = refl
 first false b p = p

@@ -1,22 +1,20 @@
 -- Images that stand under their own keys: after what changes sessions, and where one is found.
-use Rattle.std.proofs.Common.{◌≡◌, ℕ, ◌+◌, ◌<◌, Bool, true, false, cond, Option, Some, None, List, [], ◌∷◌, ◌&&◌, ◌||◌, ◌++◌, map, length, refl, sym, ap, ap₂, subst, ◌∙◌, arith, not, Ordering, Less, Equal, Greater, IsTrue, Bor, Result, Ok, get_or, take, drop, drop-cons, add-one, nat_eq}
+use Rattle.std.proofs.Common.{◌≡◌, ℕ, ◌+◌, ◌<◌, Bool, true, false, cond, Option, Some, None, List, [], ◌∷◌, ◌++◌, map, length, refl, sym, ap, subst, ◌∙◌, arith, Ordering, Result, Ok, get_or, take, add-one, nat_eq, IsTrue, Bor}
 use Rattle.std.specs.Prelude.{IfSome, IfOk, nat_le, is_some, filter_map, option_and_then}
-use Rattle.std.specs.Option.{option_copied, option_map}
-use Rattle.std.specs.List.{cons_option, list_all, list_any}
-use Rattle.std.specs.Ordering.{eq_by_cmp, is_eq, match_ordering}
+use Rattle.std.specs.Option.{option_map, option_copied}
+use Rattle.std.specs.List.{cons_option, list_all}
+use Rattle.std.specs.Ordering.{is_eq}
 use Rattle.std.specs.FinMap.{IsAntisymmetric}
-use Rattle.std.specs.Cmp.{Equal-is}
 use Rattle.std.specs.Cmp.Lexicographic.{bytes_decides}
 use Rattle.std.proofs.Math.Seq.{take-suc}
+use Rattle.std.proofs.lemmas.Bool.{and_from}
 use Rattle.std.proofs.lemmas.Bool.Decides.{nat_tests}
 use Rattle.std.proofs.lemmas.List.Folds.{list_all-append}
 use Rattle.cap_value.specs.Bytes.{bytes_eq}
-use Rattle.cap_value.specs.Value.{is_null}
 use Rattle.cap_row.specs.Fields.{Fields}
 use Rattle.cap_row.specs.Key.{fields_cmp, fields_cmp-Equal, key_of, key_from, key_fields}
 use Rattle.cap_row.specs.Schema.{has_key}
 use Rattle.cap_changes.specs.Change.{IsKeyedRow}
-use Rattle.cap_changes.specs.Touched.{is_changed}
 use Rattle.cap_compare.specs.declared.difference.Difference.{Difference}
 use Rattle.cap_table.specs.Sound.{IsRising, IsTable, is_key_of, is_keyed_row}
 use Rattle.cap_table.specs.Table.{TableState}
@@ -30,68 +28,62 @@ use Rattle.cap_database.specs.declared.op.Op.{Op}
 use Rattle.cap_database.proofs.KeptLemmas.{each-found}
 use Rattle.cap_session.specs.declared.record.Record.{Record}
 use Rattle.cap_session.specs.declared.rule.AutomaticRule.{AutomaticRule}
-use Rattle.cap_session.specs.Recording.{attach_by, attach_by_rule, is_cascade, record_commit, record_diff, touch_tables, touches_found, touches_of}
-use Rattle.cap_core.proofs.CarriedLemmas.{carried-told, told_by, told_of}
+use Rattle.cap_session.specs.Recording.{attach_by, attach_by_rule, record_commit, record_diff, touch_tables, touches_found, touches_of}
+use Rattle.cap_core.proofs.CarriedLemmas.{carried-told, told_by}
 use Rattle.cap_database.specs.Carried.{CarryFirstRows}
 use Rattle.cap_session.specs.Records.{Records, Touch, record_after, touch, with_touches}
-use Rattle.cap_session.specs.Session.{AttachedTables, SessionState, accepts_by, attach, forget, is_listed, new_session}
+use Rattle.cap_session.specs.Session.{AttachedTables, SessionState, attach, forget}
 use Rattle.cap_session.specs.Sessions.{NumberedSessions, is_one_of, record_commit_each, session_numbered, with_session, without_session}
 use Rattle.cap_core.specs.CanCapture.{are_own_records, are_own_tables, is_own_image, is_own_session}
 use Rattle.cap_core.specs.Code.Sound.{KeepsColumns, are_own_differences, are_own_sessions}
-use Rattle.cap_core.proofs.SmallLemmas.{both, first, second}
-
-tied : {K : Type 0} (R : K → K → Ordering) (x y : K) → IsAntisymmetric R → eq_by_cmp R x y ≡ true → x ≡ y
-tied R x y same t = same x y ((Equal-is (R x y)).0 t)
-
-pub fields_same : {A : Type 0} → IsAntisymmetric (fields_cmp {A = A})
-fields_same a b = (fields_cmp-Equal a b).0
+use Rattle.cap_core.proofs.TouchedLemmas.{fields_same, tied}
+use Rattle.cap_core.proofs.SmallLemmas.{first, second}
+use Rattle.cap_changes.specs.Touched.{is_changed}
 
 module _ {K X : Type 0} (R : K → K → Ordering) (test : K × X → Bool) where
   -- what passes the test of a list passes it after a put of what passes it
   pub list_all-put_entry : (es : List (K × X)) (k : K) (v : X) → list_all test es ≡ true → test (k, v) ≡ true → list_all test (put_entry R es k v) ≡ true
-  list_all-put_entry [] k v all new = both (test (k, v)) true new refl
-  list_all-put_entry (e ∷ es) k v all new =
-      elim (R k e.0) as (λ r. list_all test (match_ordering r ((k, v) ∷ e ∷ es) ((k, v) ∷ es) (e ∷ put_entry R es k v)) ≡ true) [
-        | Less ↦ both (test (k, v)) _ new all
-        | Equal ↦ both (test (k, v)) _ new (second (test e) (list_all test es) all)
-        | Greater ↦ both (test e) _ (first (test e) (list_all test es) all) (list_all-put_entry es k v (second (test e) (list_all test es) all) new)
-      ]
+  list_all-put_entry [] k v all new = grind arith
+  list_all-put_entry (e ∷ es) k v all new = grind (arith, list_all-put_entry es k v)
 
   -- what is found passes
   pub found-passes : IsAntisymmetric R → (es : List (K × X)) (k : K) (v : X) → list_all test es ≡ true → get R es k ≡ Some v → test (k, v) ≡ true
   found-passes same [] k v all found = cc
-  found-passes same (e ∷ es) k v all found =
-      elim (eq_by_cmp R k e.0) as (λ b. eq_by_cmp R k e.0 ≡ b → cond b (Some e.1) (get R es k) ≡ Some v → test (k, v) ≡ true) [
-        | true ↦ λ t is. let values : e.1 ≡ v = cc in let keys : k ≡ e.0 = tied R k e.0 same t in
-            subst (λ key. test (key, v) ≡ true) (sym keys) (subst (λ value. test (e.0, value) ≡ true) values (first (test e) (list_all test es) all))
-        | false ↦ λ t is. found-passes same es k v (second (test e) (list_all test es) all) is
-      ] refl found
+  found-passes same (e ∷ es) k v all found = grind (arith, tied R k e.0 same, found-passes same es k v)
 
 module _ {X Y : Type 0} where
   pub list_all-map : (test : X → Bool) (check : Y → Bool) (f : X → Y) → ((x : X) → test x ≡ true → check (f x) ≡ true) → (xs : List X) → list_all test xs ≡ true → list_all check (map f xs) ≡ true
   list_all-map test check f keeps [] all = refl
-  list_all-map test check f keeps (x ∷ xs) all = both (check (f x)) _ (keeps x (first (test x) (list_all test xs) all)) (list_all-map test check f keeps xs (second (test x) (list_all test xs) all))
+  list_all-map test check f keeps (x ∷ xs) all = grind (arith, keeps x, list_all-map test check f keeps xs)
 
-  list_all-filter_map : (check : Y → Bool) (f : X → Option Y) → ((x : X) → IfSome (f x) (λ y. check y ≡ true)) → (xs : List X) → list_all check (filter_map f xs) ≡ true
-  list_all-filter_map check f each [] = refl
-  list_all-filter_map check f each (x ∷ xs) = inner (f x) (each x) (list_all-filter_map check f each xs)
+  -- of what passes one test, a function makes what passes another, if anything
+  pub list_all-filter_map : (test : X → Bool) (check : Y → Bool) (f : X → Option Y) → ((x : X) → test x ≡ true → IfSome (f x) (λ y. check y ≡ true)) → (xs : List X) → list_all test xs ≡ true → list_all check (filter_map f xs) ≡ true
+  list_all-filter_map test check f each [] all = refl
+  list_all-filter_map test check f each (x ∷ xs) all = inner (f x) (each x (first (test x) _ all)) (list_all-filter_map test check f each xs (second (test x) _ all))
     where
       inner : (made : Option Y) → IfSome made (λ y. check y ≡ true) → list_all check (filter_map f xs) ≡ true → list_all check (cons_option made (filter_map f xs)) ≡ true
       inner None is rest = rest
-      inner (Some y) is rest = both (check y) _ is rest
+      inner (Some y) is rest = and_from (check y) _ is rest
 
 module _ {X : Type 0} (test : X → Bool) where
   list_all-weaker : (check : X → Bool) → ((x : X) → test x ≡ true → check x ≡ true) → (xs : List X) → list_all test xs ≡ true → list_all check xs ≡ true
   list_all-weaker check keeps [] all = refl
-  list_all-weaker check keeps (x ∷ xs) all = both (check x) _ (keeps x (first (test x) (list_all test xs) all)) (list_all-weaker check keeps xs (second (test x) (list_all test xs) all))
+  list_all-weaker check keeps (x ∷ xs) all = grind (arith, keeps x, list_all-weaker check keeps xs)
 
   list_all-push : (xs : List X) (v : X) → list_all test xs ≡ true → test v ≡ true → list_all test (xs ++ v ∷ []) ≡ true
-  list_all-push xs v all new = list_all-append test xs (v ∷ []) ∙ both (list_all test xs) _ all (both (test v) true new refl)
+  list_all-push xs v all new = grind (arith, list_all-append test xs (v ∷ []))
 
 module _ {A : Type 0} where
   -- a row that is found is stored under its own key
   pub is_keyed_row-found : (table : TableState A) (key row : Fields A) → IsTable table → get fields_cmp table.keyed key ≡ Some row → is_keyed_row table.schema key row ≡ true
   is_keyed_row-found table key row sound is = found-passes fields_cmp (λ row. is_keyed_row table.schema row.0 row.1) fields_same table.keyed key row sound.keyed is
+
+  pub row-stands : (table : TableState A) (key : Fields A) → IsTable table → is_own_image (Some table.schema) key (get fields_cmp table.keyed key) ≡ true
+  row-stands table key sound = inner (get fields_cmp table.keyed key) refl
+    where
+      inner : (row : Option (Fields A)) → get fields_cmp table.keyed key ≡ row → is_own_image (Some table.schema) key row ≡ true
+      inner None is = refl
+      inner (Some row) is = is_keyed_row-found table key row sound is
 
   pub found-is_keyed_row-own : (table : TableState A) (key : Fields A) (found : Option (Bor (Fields A))) → IsTable table → option_copied found ≡ get fields_cmp table.keyed key → IfSome found (λ row. IsTrue (is_keyed_row table.schema key row.now))
   found-is_keyed_row-own table key None sound is = tt
@@ -99,14 +91,10 @@ module _ {A : Type 0} where
 
   -- ---- tables that keep their columns
 
-  is_own_image-none : (schema : Option (List Bool)) (key : Fields A) (image : Option (Fields A)) → is_own_image None key image ≡ true → is_own_image schema key image ≡ true
-  is_own_image-none None key None is = refl
-  is_own_image-none (Some schema) key None is = refl
-  is_own_image-none schema key (Some row) is = cc
-
   is_own_image-kept : (before after : Option (List Bool)) → ((schema : List Bool) → before ≡ Some schema → after ≡ Some schema) → (key : Fields A) (image : Option (Fields A)) → is_own_image before key image ≡ true → is_own_image after key image ≡ true
-  is_own_image-kept None after kept key image is = is_own_image-none after key image is
-  is_own_image-kept (Some schema) after kept key image is = subst (λ found. is_own_image found key image ≡ true) (sym (kept schema refl)) is
+  is_own_image-kept before after kept key None is = grind arith
+  is_own_image-kept None after kept key (Some row) is = cc
+  is_own_image-kept (Some schema) after kept key (Some row) is = subst (λ found. is_own_image found key (Some row) ≡ true) (sym (kept schema refl)) is
 
   -- what is sound stays sound where each table keeps its columns
   is_own_session-kept : (before after : Tables A) → KeepsColumns before after → (session : SessionState A) → is_own_session before session ≡ true → is_own_session after session ≡ true
@@ -121,48 +109,26 @@ module _ {A : Type 0} where
   abbrev touch_stands : Option (List Bool) → Touch A → Bool
   touch_stands schema touch = is_own_image schema touch.key touch.image
 
-  record_after-stands : (schema : Option (List Bool)) (key : Fields A) (found : Option (Record A)) (image : Option (Fields A)) (indirect : Bool) → ((old : Record A) → found ≡ Some old → is_own_image schema key old.image ≡ true)
-      → is_own_image schema key image ≡ true → is_own_image schema key (record_after found image indirect).image ≡ true
-  record_after-stands schema key None image indirect old new = new
-  record_after-stands schema key (Some there) image indirect old new = old there refl
-
   touch-stands : (schema : Option (List Bool)) (t : Touch A) (records : Records A) → touch_stands schema t ≡ true → are_own_records schema records ≡ true → are_own_records schema (touch records t) ≡ true
   touch-stands schema t records new all =
       let test : Fields A × Record A → Bool = λ kept. is_own_image schema kept.0 kept.1.image in
-      list_all-put_entry fields_cmp test records t.key (record_after (get fields_cmp records t.key) t.image t.indirect) all
-      (record_after-stands schema t.key (get fields_cmp records t.key) t.image t.indirect (λ old found. found-passes fields_cmp test fields_same records t.key old all found) new)
+      grind (arith, list_all-put_entry fields_cmp test records t.key (record_after (get fields_cmp records t.key) t.image t.indirect), found-passes fields_cmp test fields_same records t.key)
 
   with_touches-stand : (schema : Option (List Bool)) (touches : List (Touch A)) (records : Records A) → list_all (touch_stands schema) touches ≡ true → are_own_records schema records ≡ true → are_own_records schema (with_touches records touches) ≡ true
   with_touches-stand schema [] records new all = all
-  with_touches-stand schema (t ∷ touches) records new all =
-      with_touches-stand schema touches (touch records t) (second (touch_stands schema t) (list_all (touch_stands schema) touches) new)
-      (touch-stands schema t records (first (touch_stands schema t) (list_all (touch_stands schema) touches) new) all)
+  with_touches-stand schema (t ∷ touches) records new all = grind (arith, touch-stands schema t records, with_touches-stand schema touches (touch records t))
 
   -- the row before an event is a row of its table
   image_before : (before : Tables A) → EachRises before → (name : List ℕ) (key : Fields A) → is_own_image (schema_of before name) key (row_at before name key) ≡ true
   image_before before rises name key = inner (table_of before name) refl
     where
-      found : (table : TableState A) → IsTable table → (row : Option (Fields A)) → get fields_cmp table.keyed key ≡ row → is_own_image (Some table.schema) key row ≡ true
-      found table sound None is = refl
-      found table sound (Some row) is = is_keyed_row-found table key row sound is
-
       inner : (there : Option (TableState A)) → table_of before name ≡ there → is_own_image (option_map (λ table. table.schema) there) key (option_and_then (λ table. get fields_cmp table.keyed key) there) ≡ true
       inner None is = refl
-      inner (Some table) is = let rising = each-found IsRising before name table rises is in found table rising.sound (get fields_cmp table.keyed key) refl
-
-  told_of-stands : (before : Tables A) → EachRises before → (indirect : Bool) (name : List ℕ) (change : Change A) → IfSome (told_of before indirect name change) (λ t. touch_stands (schema_of before name) t ≡ true)
-  told_of-stands before rises indirect name change =
-      elim (bytes_eq name change.table) as (λ b. IfSome (cond b (option_map (λ key. let t : Touch A = record { key = key; image = row_at before name key; indirect = indirect || is_cascade change.cause } in t) change.key) None) (λ t. touch_stands (schema_of before name) t ≡ true)) [
-        | true ↦ keyed change.key
-        | false ↦ tt
-      ]
-    where
-      keyed : (found : Option (Fields A)) → IfSome (option_map (λ key. let t : Touch A = record { key = key; image = row_at before name key; indirect = indirect || is_cascade change.cause } in t) found) (λ t. touch_stands (schema_of before name) t ≡ true)
-      keyed None = tt
-      keyed (Some key) = image_before before rises name key
+      inner (Some table) is = let rising = each-found IsRising before name table rises is in row-stands table key rising.sound
 
   told_by-stand : (before : Tables A) → EachRises before → (indirect : Bool) (name : List ℕ) (changes : List (Change A)) → list_all (touch_stands (schema_of before name)) (told_by before indirect name changes) ≡ true
-  told_by-stand before rises indirect name changes = list_all-filter_map (touch_stands (schema_of before name)) (told_of before indirect name) (told_of-stands before rises indirect name) changes
+  told_by-stand before rises indirect name [] = refl
+  told_by-stand before rises indirect name (change ∷ changes) = grind (arith, image_before before rises name, told_by-stand before rises indirect name changes)
 
   -- ---- what changes a session
 
@@ -175,18 +141,10 @@ module _ {A : Type 0} where
       ∙ with_touches-stand (schema_of before attached.0) (told_by before indirect attached.0 changes) attached.1 (told_by-stand before rises indirect attached.0 changes) all)
 
   pub attach-stands : (database : Tables A) (name : List ℕ) (tables : AttachedTables A) → are_own_tables database tables ≡ true → are_own_tables database (attach name tables) ≡ true
-  attach-stands database name tables all =
-      elim (is_listed name tables) as (λ b. are_own_tables database (cond b tables (tables ++ (name, []) ∷ [])) ≡ true) [
-        | true ↦ all
-        | false ↦ list_all-push (λ attached. are_own_records (schema_of database attached.0) attached.1) tables (name, []) all refl
-      ]
+  attach-stands database name tables all = grind (arith, list_all-push (λ attached. are_own_records (schema_of database attached.0) attached.1) tables (name, []))
 
   attach_by-stands : (database : Tables A) (rule : AutomaticRule A) (name : List ℕ) (tables : AttachedTables A) → are_own_tables database tables ≡ true → are_own_tables database (attach_by rule tables name) ≡ true
-  attach_by-stands database rule name tables all =
-      elim (accepts_by rule name) as (λ b. are_own_tables database (cond b (attach name tables) tables) ≡ true) [
-        | true ↦ attach-stands database name tables all
-        | false ↦ all
-      ]
+  attach_by-stands database rule name tables all = grind (arith, attach-stands database name tables)
 
   attach_by_rule-stands : (database : Tables A) (rule : AutomaticRule A) (changes : List (Change A)) (tables : AttachedTables A) → are_own_tables database tables ≡ true → are_own_tables database (attach_by_rule rule changes tables) ≡ true
   attach_by_rule-stands database rule [] tables all = all
@@ -195,20 +153,14 @@ module _ {A : Type 0} where
 
   record_commit-stands : (before : Tables A) → EachRises before → (changes : List (Change A)) → CarryFirstRows before changes → (session : SessionState A) → is_own_session before session ≡ true → is_own_session before (record_commit changes session) ≡ true
   record_commit-stands before rises changes carry session all =
-      elim session.enabled as (λ b. is_own_session before (cond b (record session { tables = touch_tables session.indirect changes (attach_by_rule session.rule changes session.tables) }) session) ≡ true) [
-        | true ↦ touch_tables-stand before rises session.indirect changes carry (attach_by_rule session.rule changes session.tables) (attach_by_rule-stands before session.rule changes session.tables all)
-        | false ↦ all
-      ]
+      let attached = attach_by_rule session.rule changes session.tables in
+      grind (arith, attach_by_rule-stands before session.rule changes session.tables, touch_tables-stand before rises session.indirect changes carry attached)
 
   -- the sessions after a commit that keeps the columns of the tables
   pub record_commit_each-stand : (before after : Tables A) → EachRises before → KeepsColumns before after → (changes : List (Change A)) → CarryFirstRows before changes → (quiet : List ℕ) (sessions : NumberedSessions A) → are_own_sessions before sessions ≡ true → are_own_sessions after (record_commit_each changes quiet sessions) ≡ true
   record_commit_each-stand before after rises kept changes carry quiet =
       list_all-map (λ session. is_own_session before session.1) (λ session. is_own_session after session.1) (λ session. (session.0, cond (is_one_of quiet session.0) session.1 (record_commit changes session.1)))
-      (λ session all. is_own_session-kept before after kept (cond (is_one_of quiet session.0) session.1 (record_commit changes session.1)) (each session all (is_one_of quiet session.0)))
-    where
-      each : (session : ℕ × SessionState A) → is_own_session before session.1 ≡ true → (b : Bool) → is_own_session before (cond b session.1 (record_commit changes session.1)) ≡ true
-      each session all true = all
-      each session all false = record_commit-stands before rises changes carry session.1 all
+      (λ session all. grind (arith, is_own_session-kept before after kept session.1, is_own_session-kept before after kept (record_commit changes session.1), record_commit-stands before rises changes carry session.1))
 
   -- a session after a diff of a table, which found rows of the table's width under their own keys
   pub record_diff-stands : (database : Tables A) (name : List ℕ) (differences : List (Difference A)) (session : SessionState A) → are_own_differences (schema_of database name) differences ≡ true → is_own_session database session ≡ true
@@ -225,11 +177,7 @@ module _ {A : Type 0} where
 
       each : (attached : List ℕ × Records A) → are_own_records (schema_of database attached.0) attached.1 ≡ true → (let t = cond (bytes_eq name attached.0) (attached.0, with_touches attached.1 touches) attached in are_own_records (schema_of database t.0) t.1) ≡ true
       each attached is =
-          elim (bytes_eq name attached.0) as (λ b. bytes_eq name attached.0 ≡ b → (let t = cond b (attached.0, with_touches attached.1 touches) attached in are_own_records (schema_of database t.0) t.1) ≡ true) [
-            | true ↦ λ same. with_touches-stand (schema_of database attached.0) touches attached.1
-                (found-stand (schema_of database attached.0) differences (subst (λ n. are_own_differences (schema_of database n) differences ≡ true) ((bytes_decides name attached.0).0 same) new)) is
-            | false ↦ λ other. is
-          ] refl
+          grind (arith, (bytes_decides name attached.0).0, found-stand (schema_of database name) differences new, with_touches-stand (schema_of database name) touches attached.1)
 
   pub forgotten-stand : (database : Tables A) (tables : AttachedTables A) → are_own_tables database (forget tables) ≡ true
   forgotten-stand database [] = refl
@@ -241,30 +189,15 @@ module _ {A : Type 0} where
   -- removed
   pub numbered-stands : (database : Tables A) (sessions : NumberedSessions A) (number : ℕ) (session : SessionState A) → are_own_sessions database sessions ≡ true → session_numbered sessions number ≡ Some session → is_own_session database session ≡ true
   numbered-stands database [] number session all found = cc
-  numbered-stands database (s ∷ sessions) number session all found =
-      elim (nat_eq number s.0) as (λ b. cond b (Some s.1) (session_numbered sessions number) ≡ Some session → is_own_session database session ≡ true) [
-        | true ↦ λ is. let same : s.1 ≡ session = cc in subst (λ t. is_own_session database t ≡ true) same (first (is_own_session database s.1) (are_own_sessions database sessions) all)
-        | false ↦ λ is. numbered-stands database sessions number session (second (is_own_session database s.1) (are_own_sessions database sessions) all) is
-      ] found
+  numbered-stands database (s ∷ sessions) number session all found = grind (arith, numbered-stands database sessions number session)
 
   pub with_session-stands : (database : Tables A) (sessions : NumberedSessions A) (number : ℕ) (new : SessionState A) → are_own_sessions database sessions ≡ true → is_own_session database new ≡ true → are_own_sessions database (with_session sessions number new) ≡ true
   with_session-stands database [] number new all one = refl
-  with_session-stands database (s ∷ sessions) number new all one =
-      elim (nat_eq number s.0) as (λ b. are_own_sessions database (cond b ((s.0, new) ∷ sessions) (s ∷ with_session sessions number new)) ≡ true) [
-        | true ↦ both (is_own_session database new) _ one (second (is_own_session database s.1) (are_own_sessions database sessions) all)
-        | false ↦ both (is_own_session database s.1) _ (first (is_own_session database s.1) (are_own_sessions database sessions) all) (with_session-stands database sessions number new (second (is_own_session database s.1) (are_own_sessions database sessions) all) one)
-      ]
+  with_session-stands database (s ∷ sessions) number new all one = grind (arith, with_session-stands database sessions number new)
 
   pub without_session-stands : (database : Tables A) (sessions : NumberedSessions A) (number : ℕ) → are_own_sessions database sessions ≡ true → are_own_sessions database (without_session sessions number) ≡ true
   without_session-stands database [] number all = refl
-  without_session-stands database (s ∷ sessions) number all =
-      elim (nat_eq number s.0) as (λ b. are_own_sessions database (cond b sessions (s ∷ without_session sessions number)) ≡ true) [
-        | true ↦ second (is_own_session database s.1) (are_own_sessions database sessions) all
-        | false ↦ both (is_own_session database s.1) _ (first (is_own_session database s.1) (are_own_sessions database sessions) all) (without_session-stands database sessions number (second (is_own_session database s.1) (are_own_sessions database sessions) all))
-      ]
-
-  pub added-stands : (database : Tables A) (sessions : NumberedSessions A) (number : ℕ) → are_own_sessions database sessions ≡ true → are_own_sessions database (sessions ++ (number, new_session) ∷ []) ≡ true
-  added-stands database sessions number all = list_all-push (λ session. is_own_session database session.1) sessions (number, new_session) all refl
+  without_session-stands database (s ∷ sessions) number all = grind (arith, without_session-stands database sessions number)
 
   -- ---- rows with keys
 
@@ -287,12 +220,8 @@ module _ {A : Type 0} where
   pub is_keyed_row-IsKeyedRow : (schema : List Bool) (key row : Fields A) → is_keyed_row schema key row ≡ true → IsKeyedRow schema row
   is_keyed_row-IsKeyedRow schema key row is = record { wide = is_keyed_row-wide schema key row is; keyed = ap is_some (is_keyed_row-key_of schema key row is) }
 
-  pub is_keyed_row-same_key : (schema : List Bool) (key row other : Fields A) → is_keyed_row schema key row ≡ true → is_keyed_row schema key other ≡ true → key_of schema row ≡ key_of schema other
-  is_keyed_row-same_key schema key row other a b = is_keyed_row-key_of schema key row a ∙ sym (is_keyed_row-key_of schema key other b)
-
   key_from-some : (fields key : Fields A) → key_from fields ≡ Some key → nat_le 1 (length fields) ≡ true
-  key_from-some fields key is =
-      elim (nat_le 1 (length fields)) as (λ b. cond (b && not (list_any is_null fields)) (Some fields) None ≡ Some key → b ≡ true) [ true ↦ λ _. refl | false ↦ λ e. cc ] is
+  key_from-some fields key is = grind arith
 
   pub is_keyed_row-has_key : (schema : List Bool) (key row : Fields A) → is_keyed_row schema key row ≡ true → has_key schema ≡ true
   is_keyed_row-has_key schema key row is = key_fields-has_key schema row (key_from-some (key_fields schema row) key (is_keyed_row-key_of schema key row is))
@@ -300,7 +229,7 @@ module _ {A : Type 0} where
   -- a row as wide as the table is stored under its own key
   pub is_keyed_row-own : (schema : List Bool) (key row : Fields A) → length row ≡ length schema → key_of schema row ≡ Some key → is_keyed_row schema key row ≡ true
   is_keyed_row-own schema key row wide own =
-      both (nat_eq (length row) (length schema)) _ (grind (arith, nat_tests))
+      and_from (nat_eq (length row) (length schema)) _ (grind (arith, nat_tests))
       (subst (λ found. is_key_of found key ≡ true) (sym own) (ap is_eq ((fields_cmp-Equal key key).1 refl)))
 
   pub image-IsKeyedRow : (schema : List Bool) (key : Fields A) (image : Option (Fields A)) (row : Fields A) → is_own_image (Some schema) key image ≡ true → image ≡ Some row → is_keyed_row schema key row ≡ true
@@ -322,28 +251,19 @@ module _ {A : Type 0} where
       let same = kept_by (λ (o : OutcomeState A). (name : List ℕ) → schema_of o.database name ≡ schema_of tables name) (run tables ops) left is (law tables ops) in
       record { each = λ name columns there. same name ∙ there }
 
--- the item at a place, and what comes after it
-pub drop-item : {X : Type 0} (xs : List X) (i : ℕ) (x : X) → i < length xs → x ≡ get_or xs i x → drop i xs ≡ x ∷ drop (i + 1) xs
-drop-item xs i x lt is = drop-cons xs i x lt ∙ ap₂ (λ y k. y ∷ drop k xs) (sym is) (sym (add-one i))
-
 -- one more item
 pub take-item : {X : Type 0} (xs : List X) (i : ℕ) (x : X) → i < length xs → x ≡ get_or xs i x → take (i + 1) xs ≡ take i xs ++ x ∷ []
 take-item xs i x lt is = ap (λ k. take k xs) (add-one i) ∙ take-suc xs i x lt ∙ ap (λ y. take i xs ++ y ∷ []) (sym is)
 
 module _ {A : Type 0} where
-  found-stands : (schema : List Bool) (key : Fields A) (found : Option (Bor (Fields A))) → IfSome found (λ row. IsTrue (is_keyed_row schema key row.now)) → is_own_image (Some schema) key (option_copied found) ≡ true
-  found-stands schema key None is = refl
-  found-stands schema key (Some row) is = is
-
   pub found-image : (schema : List Bool) (key : Fields A) (found : Option (Bor (Fields A))) → IfSome found (λ row. IsTrue (is_keyed_row schema key row.now)) → is_own_image (Some schema) key (option_copied found) ≡ true
-  found-image = found-stands
+  found-image schema key None is = refl
+  found-image schema key (Some row) is = is
 
   pub images-same_key : (schema : List Bool) (key : Fields A) (image now : Option (Fields A)) → is_own_image (Some schema) key image ≡ true → is_own_image (Some schema) key now ≡ true
       → (x : Fields A) → image ≡ Some x → (y : Fields A) → now ≡ Some y → key_of schema x ≡ key_of schema y
-  images-same_key schema key image now a b x is y at = is_keyed_row-same_key schema key x y (image-IsKeyedRow schema key image x a is) (image-IsKeyedRow schema key now y b at)
-
-  pub images-keyed : (schema : List Bool) (key : Fields A) (image : Option (Fields A)) → is_own_image (Some schema) key image ≡ true → (x : Fields A) → image ≡ Some x → IsKeyedRow schema x
-  images-keyed schema key image a x is = is_keyed_row-IsKeyedRow schema key x (image-IsKeyedRow schema key image x a is)
+  images-same_key schema key image now a b x is y at =
+      is_keyed_row-key_of schema key x (image-IsKeyedRow schema key image x a is) ∙ sym (is_keyed_row-key_of schema key y (image-IsKeyedRow schema key now y b at))
 
   -- a key whose row has changed is one of a table with a key
   pub changed-keyed : (schema : List Bool) (key : Fields A) (image now : Option (Fields A)) → is_own_image (Some schema) key image ≡ true → is_own_image (Some schema) key now ≡ true → is_changed image now ≡ true → has_key schema ≡ true
