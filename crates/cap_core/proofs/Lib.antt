@@ -1,7 +1,6 @@
 pub mod AppliedCaptureLemmas
 pub mod BytesLemmas
 pub mod CanCaptureLemmas
-pub mod ChangesetBytesLemmas
 pub mod CarriedLemmas
 pub mod ChangeLemmas
 pub mod CommitLemmas
@@ -17,7 +16,6 @@ pub mod LawLemmas
 pub mod ListedLemmas
 pub mod NextLemmas
 pub mod NumberLemmas
-pub mod OutcomeLemmas
 pub mod PrepareLemmas
 pub mod RefusedLemmas
 pub mod SessionLemmas

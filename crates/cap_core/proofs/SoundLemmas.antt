@@ -1,7 +1,7 @@
 -- Images that stand under their own keys: after what changes sessions, and where one is found.
-use Rattle.std.proofs.Common.{◌≡◌, ℕ, ◌+◌, ◌<◌, Bool, true, false, cond, Option, Some, None, List, [], ◌∷◌, ◌++◌, map, length, refl, sym, ap, subst, ◌∙◌, arith, Ordering, Result, Ok, get_or, take, add-one, nat_eq, IsTrue, Bor}
+use Rattle.std.proofs.Common.{◌≡◌, ℕ, ◌+◌, ◌<◌, Bool, true, false, cond, Option, Some, None, List, [], ◌∷◌, ◌++◌, map, length, refl, sym, ap, subst, ◌∙◌, arith, Ordering, Result, Ok, get_or, take, add-one, nat_eq}
 use Rattle.std.specs.Prelude.{IfSome, IfOk, nat_le, is_some, filter_map, option_and_then}
-use Rattle.std.specs.Option.{option_map, option_copied}
+use Rattle.std.specs.Option.{option_map}
 use Rattle.std.specs.List.{cons_option, list_all}
 use Rattle.std.specs.Ordering.{is_eq}
 use Rattle.std.specs.FinMap.{IsAntisymmetric}
@@ -34,11 +34,11 @@ use Rattle.cap_database.specs.Carried.{CarryFirstRows}
 use Rattle.cap_session.specs.Records.{Records, Touch, record_after, touch, with_touches}
 use Rattle.cap_session.specs.Session.{AttachedTables, SessionState, attach, forget}
 use Rattle.cap_session.specs.Sessions.{NumberedSessions, is_one_of, record_commit_each, session_numbered, with_session, without_session}
+use Rattle.cap_core.specs.Capture.{change_now}
 use Rattle.cap_core.specs.CanCapture.{are_own_records, are_own_tables, is_own_image, is_own_session}
 use Rattle.cap_core.specs.Code.Sound.{KeepsColumns, are_own_differences, are_own_sessions}
 use Rattle.cap_core.proofs.TouchedLemmas.{fields_same, tied}
 use Rattle.cap_core.proofs.SmallLemmas.{first, second}
-use Rattle.cap_changes.specs.Touched.{is_changed}
 
 module _ {K X : Type 0} (R : K → K → Ordering) (test : K × X → Bool) where
   -- what passes the test of a list passes it after a put of what passes it
@@ -84,10 +84,6 @@ module _ {A : Type 0} where
       inner : (row : Option (Fields A)) → get fields_cmp table.keyed key ≡ row → is_own_image (Some table.schema) key row ≡ true
       inner None is = refl
       inner (Some row) is = is_keyed_row-found table key row sound is
-
-  pub found-is_keyed_row-own : (table : TableState A) (key : Fields A) (found : Option (Bor (Fields A))) → IsTable table → option_copied found ≡ get fields_cmp table.keyed key → IfSome found (λ row. IsTrue (is_keyed_row table.schema key row.now))
-  found-is_keyed_row-own table key None sound is = tt
-  found-is_keyed_row-own table key (Some row) sound is = is_keyed_row-found table key row.now sound (sym is)
 
   -- ---- tables that keep their columns
 
@@ -256,17 +252,19 @@ pub take-item : {X : Type 0} (xs : List X) (i : ℕ) (x : X) → i < length xs �
 take-item xs i x lt is = ap (λ k. take k xs) (add-one i) ∙ take-suc xs i x lt ∙ ap (λ y. take i xs ++ y ∷ []) (sym is)
 
 module _ {A : Type 0} where
-  pub found-image : (schema : List Bool) (key : Fields A) (found : Option (Bor (Fields A))) → IfSome found (λ row. IsTrue (is_keyed_row schema key row.now)) → is_own_image (Some schema) key (option_copied found) ≡ true
-  found-image schema key None is = refl
-  found-image schema key (Some row) is = is
-
   pub images-same_key : (schema : List Bool) (key : Fields A) (image now : Option (Fields A)) → is_own_image (Some schema) key image ≡ true → is_own_image (Some schema) key now ≡ true
       → (x : Fields A) → image ≡ Some x → (y : Fields A) → now ≡ Some y → key_of schema x ≡ key_of schema y
   images-same_key schema key image now a b x is y at =
       is_keyed_row-key_of schema key x (image-IsKeyedRow schema key image x a is) ∙ sym (is_keyed_row-key_of schema key y (image-IsKeyedRow schema key now y b at))
 
-  -- a key whose row has changed is one of a table with a key
-  pub changed-keyed : (schema : List Bool) (key : Fields A) (image now : Option (Fields A)) → is_own_image (Some schema) key image ≡ true → is_own_image (Some schema) key now ≡ true → is_changed image now ≡ true → has_key schema ≡ true
-  changed-keyed schema key (Some x) now a b is = is_keyed_row-has_key schema key x a
-  changed-keyed schema key None (Some y) a b is = is_keyed_row-has_key schema key y b
-  changed-keyed schema key None None a b is = cc
+  own-none : (schema : List Bool) (key : Fields A) (image : Option (Fields A)) → is_own_image (Some schema) key image ≡ true → has_key schema ≡ false → image ≡ None
+  own-none schema key None own none = refl
+  own-none schema key (Some row) own none = let clash = is_keyed_row-has_key schema key row own in cc
+
+  -- where a table has no key column, no row is touched
+  pub unkeyed-unchanged : (table : TableState A) → IsTable table → has_key table.schema ≡ false → (records : Records A) → are_own_records (Some table.schema) records ≡ true → filter_map (change_now table) records ≡ []
+  unkeyed-unchanged table sound none [] all = refl
+  unkeyed-unchanged table sound none (kept ∷ records) all =
+      let image = own-none table.schema kept.0 kept.1.image in
+      let now = own-none table.schema kept.0 (get fields_cmp table.keyed kept.0) (row-stands table kept.0 sound) none in
+      grind (arith, image, now, unkeyed-unchanged table sound none records)

@@ -1,5 +1,5 @@
 //! Captures: the changes of a session as a list and as bytes.
-ghost use Rattle.std.specs.Prelude.{◌≡◌, [], ◌++◌, Some, IfOk, IfSome, IsTrue, OnOk};
+ghost use Rattle.std.specs.Prelude.{◌≡◌, [], ◌++◌, Some, IfOk, IsTrue, OnOk};
 ghost use Rattle.std.specs.List.{cons_option, filter_map, list_all};
 ghost use Rattle.std.specs.Option.{option_copied, option_map, ForSome};
 ghost use Rattle.cap_row.specs.Key.{fields_cmp};
@@ -14,15 +14,14 @@ ghost use Rattle.cap_codec.specs.Patchset.{patch_list_bytes, patch_list_bytes_wi
 ghost use Rattle.cap_codec.specs.Writable.{IsWritable};
 ghost use Rattle.cap_codec.specs.declared.read.Contents.TheVariants as contents;
 ghost use Rattle.cap_core.specs.Capture.{changes_of, session_changes, table_changes};
-ghost use Rattle.cap_core.specs.Code.Grouped.{IsGroupOf, changes_in};
 ghost use Rattle.cap_core.specs.CanCapture.{are_own_records, are_own_tables, is_own_image, is_own_session};
 
-use crate::changeset_bytes::changeset_of;
 use cap_changes::{ChangeList, Group, is_changed, to_patches};
-use cap_codec::{KeyFlags, changes_are_writable, write_patches, write_patches_with};
+use cap_codec::{
+    KeyFlags, changes_are_writable, write_changes_with, write_patches, write_patches_with,
+};
 use cap_database::Database;
-use cap_row::{Key, Row, Schema};
-use cap_session::{Attached, Record, Records, Session};
+use cap_session::{Attached, Records, Session};
 use cap_table::Table;
 use cap_value::{AllocHandle, Name, OutOfMemory};
 use std::marker::Model;
@@ -85,7 +84,8 @@ impl<A: AllocHandle> Capture<A> {
     pub fn changeset_with(&self, alloc: A, key_flags: KeyFlags) -> Result<Vec<u8, A>, OutOfMemory>
         ensures { IfOk result (λ bytes. bytes.items ≡ list_bytes_with key_flags self.now.changes) }
     {
-        changeset_of(alloc, key_flags, self.session.attached(), &self.main)
+        let changes = self.changes(alloc)?;
+        write_changes_with(alloc, key_flags, &changes)
     }
 
     /// The bytes of the patchset (The Session Extension, "sqlite3session_patchset").
@@ -186,66 +186,19 @@ fn group_of<A: AllocHandle>(
     requires { IsTrue (are_own_records (Some table.now.schema) records.now) }
     ensures { IfOk result (λ group. group ≡ table_changes (name.now, records.now) (Some table.now)) }
 {
-    let mut group = None;
+    let rows = table.keyed();
+    if !table.schema().has_key() {
+        return Ok(None);
+    }
+    let mut group = Group::new(alloc, name.copy()?, table.schema().copy()?);
     for (key, kept) in records {
-        let now = row_now(table, key);
+        let now = rows.get(key);
         if is_changed(kept.image.as_ref(), now) {
-            let more = with_change(alloc, name, table.schema(), group, kept, now)?;
-            group = Some(more);
+            group.push_between(kept.indirect, kept.image.as_ref(), now)?;
         }
     }
-    Ok(group)
-}
-
-// The row with this primary key, if there is one.
-pub(crate) fn row_now<'a, A: AllocHandle>(table: &'a Table<A>, key: &Key<A>) -> Option<&'a Row<A>>
-    ensures row { option_copied result ≡ get fields_cmp table.now.keyed key.now }
-    ensures sound { IfSome result (λ row. IsTrue (is_keyed_row table.now.schema key.now row.now)) }
-{
-    table.keyed().get(key)
-}
-
-// The group with the change of a key that has changed appended, or a new group of this change.
-fn with_change<A: AllocHandle>(
-    alloc: A,
-    name: &Name<A>,
-    schema: &Schema<A>,
-    group: Option<Group<A>>,
-    kept: &Record<A>,
-    now: Option<&Row<A>>,
-) -> Result<Group<A>, OutOfMemory>
-    requires keyed { IsTrue (has_key schema.now) }
-    requires image_keyed { ForSome kept.now.image (IsKeyedRow schema.now) }
-    requires now_keyed { ForSome (option_copied now) (IsKeyedRow schema.now) }
-    requires same_key { ForSome kept.now.image (λ before.
-        ForSome (option_copied now) (HaveSameKey schema.now before)) }
-    requires changed { IsTrue (is_changed kept.now.image (option_copied now)) }
-    requires same { ForSome group (IsGroupOf name.now schema.now) }
-    ensures { IfOk result (λ g. g ≡ record {
-      table = name.now;
-      schema = schema.now;
-      changes = changes_in group ++ cons_option
-          (change_of schema.now kept.now.indirect kept.now.image (option_copied now.entry)) [];
-    }) }
-{
-    let mut group = group_or_new(alloc, name, schema, group)?;
-    group.push_between(kept.indirect, kept.image.as_ref(), now)?;
-    Ok(group)
-}
-
-fn group_or_new<A: AllocHandle>(
-    alloc: A,
-    name: &Name<A>,
-    schema: &Schema<A>,
-    group: Option<Group<A>>,
-) -> Result<Group<A>, OutOfMemory>
-    requires keyed { IsTrue (has_key schema.now) }
-    requires same { ForSome group (IsGroupOf name.now schema.now) }
-    ensures { IfOk result (λ g. g
-        ≡ record { table = name.now; schema = schema.now; changes = changes_in group }) }
-{
-    match group {
-        Some(group) => Ok(group),
-        None => Ok(Group::new(alloc, name.copy()?, schema.copy()?)),
+    if group.changes().is_empty() {
+        return Ok(None);
     }
+    Ok(Some(group))
 }

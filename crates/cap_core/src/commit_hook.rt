@@ -1,16 +1,13 @@
 //! The commit hook, which may refuse a command before it takes effect.
-ghost use Rattle.std.specs.Prelude.{◌≡◌, Result, Ok, IfErr, IfOk, OnOk};
-ghost use Rattle.std.specs.Option.{option_copied};
+ghost use Rattle.std.specs.Prelude.{◌≡◌, Result, Ok, IfErr, OnOk};
 ghost use Rattle.cap_core.specs.declared.reply.Reply.{Reply};
-ghost use Rattle.cap_database.specs.KeptKey.{change_of};
 ghost use Rattle.cap_value.specs.Memory.{MatchFault};
 
 use crate::Reply;
-use cap_database::{Change, Op};
-use cap_row::{Key, Row};
+use cap_database::{Change, WriteHook};
 use cap_session::{Delta, Sessions};
 use cap_tree::Hook;
-use cap_value::{AllocHandle, Fault, OutOfMemory};
+use cap_value::{AllocHandle, Fault};
 
 /// A commit hook (sqlite3_commit_hook): asked before a command takes effect, when its reply is computed and
 /// all memory is reserved. Where it refuses, nothing changes. Unlike SQLite's it is asked about every
@@ -91,63 +88,36 @@ impl<'a, 'b, V, A: AllocHandle, C: CommitHook<A>> Hook<V> for ReplyHook<'a, 'b, 
     }
 }
 
-// The commit hook as a row's tree asks it about one operation: what the change that carries the row before it
-// adds to the sessions is reserved first.
+// The commit hook as the database asks it about the changes of operations: what they add to the sessions is
+// reserved first.
 #[derive(Drop)]
 pub(crate) struct RecordingHook<'a, 'b, 'c, 'd, A: AllocHandle, C: CommitHook<A>> {
     pub(crate) sessions: &'a mut Sessions<A>,
     pub(crate) delta: &'d mut Option<Delta<A>>,
-    pub(crate) op: &'b Op<A>,
-    pub(crate) key: &'b Key<A>,
     pub(crate) reply: &'b Reply<A>,
     pub(crate) hook: &'c mut C,
 }
 
-impl<'a, 'b, 'c, 'd, A: AllocHandle, C: CommitHook<A>> Hook<Row<A>>
+impl<'a, 'b, 'c, 'd, A: AllocHandle, C: CommitHook<A>> WriteHook<A>
     for RecordingHook<'a, 'b, 'c, 'd, A, C> {
-    type Refusal = Fault<C::Refusal>;
+    type Refusal = C::Refusal;
 
-    ghost use Rattle.std.specs.Prelude.{◌≡◌, [], ◌∷◌};
-    ghost use Rattle.cap_database.specs.KeptKey.{change_of};
+    ghost use Rattle.std.specs.Prelude.{◌≡◌, []};
     ghost use Rattle.cap_session.specs.Sessions.{record_commit_each};
     ghost use Rattle.cap_core.specs.Code.CommandOutcome.{GivesRecorded};
 
-    ghost can_ask = { λ own present next. C.can_ask own.hook.now own.reply.now };
+    ghost can_ask = { λ own. C.can_ask own.hook.now own.reply.now };
 
-    ghost gives = { λ old present next answer new. (new.hook.ghost_name ≡ old.hook.ghost_name)
+    ghost gives = { λ old changes answer new. (new.hook.ghost_name ≡ old.hook.ghost_name)
         × (new.sessions.ghost_name ≡ old.sessions.ghost_name)
         × (new.delta.ghost_name ≡ old.delta.ghost_name) × (new.sessions.now ≡ old.sessions.now)
         × GivesRecorded C.gives old.reply.now old.sessions.now
-        (record_commit_each (change_of old.op.now old.key.now present ∷ []) [] old.sessions.now)
-        new.delta.now old.hook.now new.hook.now answer };
+        (record_commit_each changes [] old.sessions.now) new.delta.now old.hook.now new.hook.now answer };
 
-    fn before_change(
-        &mut self,
-        present: Option<&Row<A>>,
-        _next: Option<&Row<A>>,
-    ) -> Result<(), Fault<C::Refusal>> {
-        let change = change_of(self.op, self.key, present)?;
-        *self.delta = Some(self.sessions.reserve(&[change], &[])?);
-        ask(self.hook, self.reply)
+    fn before_write(&mut self, changes: &[Change<A>]) -> Result<(), Fault<C::Refusal>> {
+        let delta = self.sessions.reserve(changes, &[])?;
+        ask(self.hook, self.reply)?;
+        *self.delta = Some(delta);
+        Ok(())
     }
-}
-
-// The change of the row of this key by an operation, with the row before it.
-fn change_of<A: AllocHandle>(
-    op: &Op<A>,
-    key: &Key<A>,
-    before: Option<&Row<A>>,
-) -> Result<Change<A>, OutOfMemory>
-    ensures { IfOk result (λ change. change ≡ change_of op.now key.now (option_copied before.entry)) }
-{
-    let before = match before {
-        Some(row) => Some(row.copy()?),
-        None => None,
-    };
-    Ok(Change {
-        table: op.table.copy()?,
-        key: Some(key.copy()?),
-        cause: op.cause,
-        before,
-    })
 }

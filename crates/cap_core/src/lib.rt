@@ -2,7 +2,6 @@
 #![tactic(auto)]
 
 mod capture;
-mod changeset_bytes;
 mod command;
 mod commit_hook;
 mod diff;

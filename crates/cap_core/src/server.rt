@@ -103,7 +103,10 @@ impl<A: AllocHandle> Core<A> {
             IfOk result (λ reply. BlobsFit (h ++ event_by by command.now reply ∷ [])) }
     {
         command.blob_fits();
-        self.reply_to(command, hook)
+        match self.reply_to(command, hook) {
+            Ok(reply) => Ok(reply),
+            Err(fault) => Err(fault),
+        }
     }
 
     /// The reply to a command, and a copy of the server after it. This server does not change.

@@ -1,55 +1,46 @@
-use Rattle.std.proofs.Common.{◌≡◌, Some, true, ◌∷◌, ◌++◌, ap, sym, ◌∙◌}
-use Rattle.std.specs.List.{filter_map}
+use Rattle.std.proofs.Common.{◌≡◌, Bool, true, false, List, Some, ◌∷◌, ap, sym, subst, ◌∙◌}
 use Rattle.std.specs.Option.{option_copied}
-use Rattle.cap_changes.specs.Change.{change_of}
-use Rattle.cap_changes.specs.Group.{TableChanges}
-use Rattle.cap_changes.specs.Touched.{is_changed}
-use Rattle.cap_session.specs.Records.{Records}
-use Rattle.cap_core.specs.Capture.{change_now}
-use Rattle.cap_core.specs.Code.Grouped.{changes_in}
+use Rattle.cap_row.specs.Key.{fields_cmp}
+use Rattle.cap_row.specs.Schema.{has_key}
+use Rattle.cap_changes.specs.Change.{HaveSameKey, IsKeyedRow}
+use Rattle.cap_tree.specs.Tree.{get}
+use Rattle.cap_core.specs.Capture.{group_of}
 use Rattle.cap_core.specs.CanCapture.{are_own_records, is_own_image}
-use Rattle.cap_core.proofs.GroupLemmas.{filter_map-more, more_of}
-use Rattle.cap_core.proofs.SmallLemmas.{first, second}
-use Rattle.cap_core.proofs.SoundLemmas.{changed-keyed, found-image, images-same_key}
+use Rattle.cap_core.proofs.SmallLemmas.{first}
+use Rattle.cap_core.proofs.SoundLemmas.{image-IsKeyedRow, images-same_key, is_keyed_row-IsKeyedRow, row-stands, unkeyed-unchanged}
 use Rattle.cap_core.proofs.capture.group_of.Goals as goal
 
-pub with_change-requires-clause-keyed : goal.with_change-requires-clause-keyed
-with_change-requires-clause-keyed g c =
+pub returns-then-not-has_key : goal.returns-then-not-has_key
+returns-then-not-has_key g c =
+    let table = c.args.table.now in
+    let none : has_key table.schema ≡ false = rw c.schema.ensures at (sym c.has_key.ensures ∙ c.if-not-has_key.true) in
+    sym (ap (group_of c.args.name.now table.schema) (unkeyed-unchanged table c.keyed-rows.ensures.sound none c.args.records.now c.requires))
+
+pub push_between-requires-clause-image_keyed : goal.push_between-requires-clause-image_keyed
+push_between-requires-clause-image_keyed g c = λ x is.
     let schema = c.args.table.now.schema in
     let key = c.in-Some.key.now in
     let image = c.in-Some.kept.now.image in
-    let now = option_copied c.row_now-now.result in
-    let all : are_own_records (Some schema) ((key, c.in-Some.kept.now) ∷ c.next.new.self) ≡ true = ap (are_own_records (Some schema)) (sym c.in-Some.ensures.steps) ∙ c.loop-key.invariant.2 in
-    let changed : is_changed image now ≡ true = ap (λ i. is_changed i now) (sym c.as_ref.ensures.value) ∙ sym c.is_changed.ensures ∙ c.if-is_changed.true in
-    rw c.schema.ensures
-    (changed-keyed schema key image now (first (is_own_image (Some schema) key image) (are_own_records (Some schema) c.next.new.self) all) (found-image schema key c.row_now-now.result c.row_now-now.ensures.sound) changed)
+    let all : are_own_records (Some schema) ((key, c.in-Some.kept.now) ∷ c.next.new.self) ≡ true = ap (are_own_records (Some schema)) (sym c.in-Some.ensures.steps) ∙ c.loop-key.invariant.3 in
+    let own : is_own_image (Some schema) key image ≡ true = first (is_own_image (Some schema) key image) (are_own_records (Some schema) c.next.new.self) all in
+    subst (λ (flags : List Bool). IsKeyedRow flags x) (sym c.loop-key.invariant.1) (is_keyed_row-IsKeyedRow schema key x (image-IsKeyedRow schema key image x own (sym c.as_ref-then-is_changed.ensures.value ∙ is)))
 
-pub with_change-requires-clause-same_key : goal.with_change-requires-clause-same_key
-with_change-requires-clause-same_key g c =
-    let schema = c.args.table.now.schema in
+pub push_between-requires-clause-now_keyed : goal.push_between-requires-clause-now_keyed
+push_between-requires-clause-now_keyed g c = λ x is.
+    let table = c.args.table.now in
     let key = c.in-Some.key.now in
-    let image = c.in-Some.kept.now.image in
-    let now = option_copied c.row_now-now.result in
-    let all : are_own_records (Some schema) ((key, c.in-Some.kept.now) ∷ c.next.new.self) ≡ true = ap (are_own_records (Some schema)) (sym c.in-Some.ensures.steps) ∙ c.loop-key.invariant.2 in
-    rw c.schema.ensures
-    (images-same_key schema key image now (first (is_own_image (Some schema) key image) (are_own_records (Some schema) c.next.new.self) all) (found-image schema key c.row_now-now.result c.row_now-now.ensures.sound))
+    let found : option_copied c.get-now.result ≡ get fields_cmp table.keyed key = rw c.keyed-rows.ensures.rows at c.get-now.ensures in
+    subst (λ (flags : List Bool). IsKeyedRow flags x) (sym c.loop-key.invariant.1)
+    (is_keyed_row-IsKeyedRow table.schema key x (image-IsKeyedRow table.schema key (get fields_cmp table.keyed key) x (row-stands table key c.keyed-rows.ensures.sound) (sym found ∙ is)))
 
-pub loop-key-preserved-then-is_changed : goal.loop-key-preserved-then-is_changed
-loop-key-preserved-then-is_changed g c =
+pub push_between-requires-clause-same_key : goal.push_between-requires-clause-same_key
+push_between-requires-clause-same_key g c = λ x is y at.
     let table = c.args.table.now in
     let schema = table.schema in
     let key = c.in-Some.key.now in
-    let kept = c.in-Some.kept.now in
-    let now = option_copied c.row_now-now.result in
-    let rest = c.next.new.self in
-    let all = sym c.in-Some.ensures.steps in
-    let changed : is_changed kept.image now ≡ true = ap (λ i. is_changed i now) (sym c.as_ref.ensures.value) ∙ sym c.is_changed.ensures ∙ c.if-is_changed.true in
-    let made = rw c.schema.ensures at c.in_ok-more.ensures in (
-      filter_map-more (change_now table) (changes_in c.loop-key.group) c.in_ok-more.more.changes rest (key, kept) (change_of schema kept.indirect kept.image now) (ap (λ (g : TableChanges g.row.A.Denot). g.changes) made) (ap (change_of schema kept.indirect kept.image) c.row_now-now.ensures.row)
-          ∙ ap (λ (records : Records g.row.A.Denot). changes_in c.loop-key.group ++ filter_map (change_now table) records) all ∙ c.loop-key.invariant.0,
-      more_of c.args.name.now schema kept.indirect kept.image now (changes_in c.loop-key.group) c.in_ok-more.more changed made,
-      second (is_own_image (Some schema) key kept.image) (are_own_records (Some schema) rest) (ap (are_own_records (Some schema)) all ∙ c.loop-key.invariant.2),
-    )
-
-pub with_change-requires-clause-same : goal.with_change-requires-clause-same
-with_change-requires-clause-same g c = rw c.schema.ensures c.loop-key.invariant.1
+    let image = c.in-Some.kept.now.image in
+    let all : are_own_records (Some schema) ((key, c.in-Some.kept.now) ∷ c.next.new.self) ≡ true = ap (are_own_records (Some schema)) (sym c.in-Some.ensures.steps) ∙ c.loop-key.invariant.3 in
+    let own : is_own_image (Some schema) key image ≡ true = first (is_own_image (Some schema) key image) (are_own_records (Some schema) c.next.new.self) all in
+    let found : option_copied c.get-now.result ≡ get fields_cmp table.keyed key = rw c.keyed-rows.ensures.rows at c.get-now.ensures in
+    subst (λ (flags : List Bool). HaveSameKey flags x y) (sym c.loop-key.invariant.1)
+    (images-same_key schema key image (get fields_cmp table.keyed key) own (row-stands table key c.keyed-rows.ensures.sound) x (sym c.as_ref-then-is_changed.ensures.value ∙ is) y (sym found ∙ at))
