@@ -1,21 +1,11 @@
 -- Groups to which changes were added, and how they go back.
-use Rattle.std.proofs.Common.{◌≡◌, ℕ, zero, suc, ◌+◌, ◌<◌, ◌≤◌, List, [], ◌∷◌, ◌++◌, length, map, take, drop, get_or, set, refl, ap, sym, ◌∙◌, append-nil, append_assoc, arith}
+use Rattle.std.proofs.Common.{◌≡◌, ℕ, zero, suc, ◌<◌, ◌≤◌, List, [], ◌∷◌, ◌++◌, Option, Some, None, length, take, get_or, set, refl, ap, sym, ◌∙◌, append_assoc, arith}
+use Rattle.std.proofs.lemmas.List.{take_all}
 use Rattle.std.proofs.Math.Seq.{take-append_seam}
 use Rattle.cap_changes.specs.Entries.{TableEntries}
-use Rattle.cap_group.specs.Grown.{HaveGrown, IsGrown, cut_back}
+use Rattle.cap_group.specs.Grown.{IsGrown, before, cut_at, taken_back}
 
 module _ {X : Type 0} where
-  pub grown_same : (g : TableEntries X) → IsGrown g g
-  grown_same g = ([], λ i. record { table = g.table; schema = g.schema; changes = sym (append-nil g.changes) i })
-
-  pub grown_more : (a b c : TableEntries X) → IsGrown a b → IsGrown b c → IsGrown a c
-  grown_more a b c (m, is) (n, then) = (
-    m ++ n,
-    then
-        ∙ ap (λ (g : TableEntries X). record { table = g.table; schema = g.schema; changes = g.changes ++ n }) is
-        ∙ (λ i. record { table = a.table; schema = a.schema; changes = append_assoc a.changes m n i }),
-  )
-
   -- some of the changes are pushed, and these are left
   pub record Pushed (first now : TableEntries X) (left all : List X) : Type 0 where
     pub more : List X
@@ -34,64 +24,46 @@ module _ {X : Type 0} where
     parts = append_assoc so_far.more (x ∷ []) rest ∙ ap (λ (l : List X). so_far.more ++ l) (sym parts) ∙ so_far.parts;
   }
 
-  pub all_same : (gs : List (TableEntries X)) → HaveGrown gs gs
-  all_same [] = tt
-  all_same (g ∷ gs) = (grown_same g, all_same gs)
+  -- ---- the last step is taken back first
 
-  pub all_more : (gs hs ks : List (TableEntries X)) → HaveGrown gs hs → HaveGrown hs ks → HaveGrown gs ks
-  all_more [] hs ks p q = tt
-  all_more (g ∷ gs) [] ks p q = absurd p
-  all_more (g ∷ gs) (h ∷ hs) [] p q = absurd q
-  all_more (g ∷ gs) (h ∷ hs) (k ∷ ks) p q = (grown_more g h k p.0 q.0, all_more gs hs ks p.1 q.1)
+  pub before_last : (steps : List (ℕ × Option ℕ)) (step : ℕ × Option ℕ) (gs : List (TableEntries X)) → before (steps ++ step ∷ []) gs ≡ before steps (taken_back step gs)
+  before_last [] step gs = refl
+  before_last (s ∷ steps) step gs = ap (taken_back s) (before_last steps step gs)
 
-  pub all_pushed : (gs more : List (TableEntries X)) → HaveGrown gs (gs ++ more)
-  all_pushed [] more = tt
-  all_pushed (g ∷ gs) more = (grown_same g, all_pushed gs more)
+  -- a table was added, or none
+  pub before_copy : (steps : List (ℕ × Option ℕ)) (gs more : List (TableEntries X)) → before (steps ++ (length gs, None) ∷ []) (gs ++ more) ≡ before steps gs
+  before_copy steps gs more = before_last steps (length gs, None) (gs ++ more) ∙ ap (before steps) (take-append_seam gs more)
 
-  pub all_set : (gs : List (TableEntries X)) (i : ℕ) (g d : TableEntries X) → i < length gs → IsGrown (get_or gs i d) g → HaveGrown gs (set gs i g)
-  all_set [] i g d within h = tt
-  all_set (f ∷ gs) zero g d within h = (h, all_same gs)
-  all_set (f ∷ gs) (suc i) g d within h = (grown_same f, all_set gs i g d (omega arith) h)
+  pub before_none : (steps : List (ℕ × Option ℕ)) (gs : List (TableEntries X)) → before (steps ++ (length gs, None) ∷ []) gs ≡ before steps gs
+  before_none steps gs = before_last steps (length gs, None) gs ∙ ap (before steps) (take_all (length gs) gs (omega arith))
 
-  pub all_long : (gs hs : List (TableEntries X)) → HaveGrown gs hs → length gs ≤ length hs
-  all_long [] hs p = omega arith
-  all_long (g ∷ gs) [] p = absurd p
-  all_long (g ∷ gs) (h ∷ hs) p = let more = all_long gs hs p.1 in omega (arith, more)
+  -- changes were added to a table
+  cut_set : (gs : List (TableEntries X)) (i : ℕ) (g d : TableEntries X) → i < length gs → IsGrown (get_or gs i d) g → cut_at i (length (get_or gs i d).changes) (set gs i g) ≡ gs
+  cut_set [] i g d within grown = refl
+  cut_set (f ∷ gs) zero g d within (m, is) =
+      ap (λ (t : TableEntries X). record { table = t.table; schema = t.schema; changes = take (length f.changes) t.changes } ∷ gs) is
+      ∙ ap (λ (l : List X). record { table = f.table; schema = f.schema; changes = l } ∷ gs) (take-append_seam f.changes m)
+  cut_set (f ∷ gs) (suc i) g d within grown = ap (λ l. f ∷ l) (cut_set gs i g d (omega arith) grown)
 
-  abbrev counts : List (TableEntries X) → List ℕ
-  counts gs = map (λ (g : TableEntries X). length g.changes) gs
+  pub before_grown : (steps new : List (ℕ × Option ℕ)) (gs : List (TableEntries X)) (i n : ℕ) (g d : TableEntries X) → i < length gs → new ≡ steps ++ (i, Some n) ∷ [] →
+      n ≡ length (get_or gs i d).changes → IsGrown (get_or gs i d) g → before new (set gs i g) ≡ before steps gs
+  before_grown steps new gs i n g d within is long grown =
+      ap (λ l. before l (set gs i g)) is ∙ before_last steps (i, Some n) (set gs i g) ∙ ap (λ k. before steps (cut_at i k (set gs i g))) long ∙ ap (before steps) (cut_set gs i g d within grown)
 
-  pub all_back : (gs hs : List (TableEntries X)) → HaveGrown gs hs → cut_back (counts gs) hs ≡ gs
-  all_back [] hs p = refl
-  all_back (g ∷ gs) [] p = absurd p
-  all_back (g ∷ gs) (h ∷ hs) ((m, is), p) =
-      let one : record { table = h.table; schema = h.schema; changes = take (length g.changes) h.changes } ≡ g =
-      ap (λ (t : TableEntries X). record { table = t.table; schema = t.schema; changes = take (length g.changes) t.changes }) is
-      ∙ (λ i. record { table = g.table; schema = g.schema; changes = take-append_seam g.changes m i }) in
-      λ i. one i ∷ all_back gs hs p i
+  -- a table is as it was, or is not there any more
+  cut_is : (gs : List (TableEntries X)) (i n : ℕ) (d : TableEntries X) → i < length gs → set gs i (record { table = (get_or gs i d).table; schema = (get_or gs i d).schema; changes = take n (get_or gs i d).changes }) ≡ cut_at i n gs
+  cut_is [] i n d within = refl
+  cut_is (g ∷ gs) zero n d within = refl
+  cut_is (g ∷ gs) (suc i) n d within = ap (λ l. g ∷ l) (cut_is gs i n d (omega arith))
 
-  pub cut_front : (ns : List ℕ) (gs : List (TableEntries X)) → cut_back ns (take (length ns) gs) ≡ cut_back ns gs
-  cut_front [] gs = refl
-  cut_front (n ∷ ns) [] = refl
-  cut_front (n ∷ ns) (g ∷ gs) = ap (λ l. record { table = g.table; schema = g.schema; changes = take n g.changes } ∷ l) (cut_front ns gs)
+  cut_none : (gs : List (TableEntries X)) (i n : ℕ) → length gs ≤ i → cut_at i n gs ≡ gs
+  cut_none [] i n beyond = refl
+  cut_none (g ∷ gs) zero n beyond = absurd (omega arith)
+  cut_none (g ∷ gs) (suc i) n beyond = ap (λ l. g ∷ l) (cut_none gs i n (omega arith))
 
-  -- the groups below a place are cut
-  abbrev pub cut_below : ℕ → List ℕ → List (TableEntries X) → List (TableEntries X)
-  cut_below i ns gs = cut_back (take i ns) (take i gs) ++ drop i gs
+  pub back_to : (steps : List (ℕ × Option ℕ)) (gs : List (TableEntries X)) (i n : ℕ) (g d : TableEntries X) → i < length gs →
+      g ≡ record { table = (get_or gs i d).table; schema = (get_or gs i d).schema; changes = take n (get_or gs i d).changes } → before (steps ++ (i, Some n) ∷ []) gs ≡ before steps (set gs i g)
+  back_to steps gs i n g d within is = before_last steps (i, Some n) gs ∙ ap (before steps) (sym (ap (set gs i) is ∙ cut_is gs i n d within))
 
-  cut_more : (i : ℕ) (ns : List ℕ) (gs : List (TableEntries X)) (d : TableEntries X) (e : ℕ) → length ns ≡ length gs → i < length gs →
-      set (cut_below i ns gs) i (record { table = (get_or (cut_below i ns gs) i d).table; schema = (get_or (cut_below i ns gs) i d).schema; changes = take (get_or ns i e) (get_or (cut_below i ns gs) i d).changes })
-      ≡ cut_below (suc i) ns gs
-  cut_more zero (n ∷ ns) (g ∷ gs) d e long within = refl
-  cut_more (suc i) (n ∷ ns) (g ∷ gs) d e long within =
-      ap (λ l. record { table = g.table; schema = g.schema; changes = take n g.changes } ∷ l) (cut_more i ns gs d e (omega arith) (omega arith))
-  cut_more i ns gs d e long within = absurd (omega arith)
-
-  pub cut_step : (i : ℕ) (ns : List ℕ) (gs now next : List (TableEntries X)) (g : TableEntries X) (d : TableEntries X) (e : ℕ) → length ns ≡ length gs → i < length gs → now ≡ cut_below i ns gs →
-      g ≡ record { table = (get_or now i d).table; schema = (get_or now i d).schema; changes = take (get_or ns i e) (get_or now i d).changes } → next ≡ set now i g → next ≡ cut_below (i + 1) ns gs
-  cut_step i ns gs now next g d e long within so_far is put =
-      let n : suc i ≡ i + 1 = omega arith in
-      put ∙ ap (set now i) is
-      ∙ ap (λ (l : List (TableEntries X)). set l i (record { table = (get_or l i d).table; schema = (get_or l i d).schema; changes = take (get_or ns i e) (get_or l i d).changes })) so_far
-      ∙ cut_more i ns gs d e long within
-      ∙ ap (λ (k : ℕ). cut_below k ns gs) n
+  pub back_none : (steps : List (ℕ × Option ℕ)) (gs : List (TableEntries X)) (i n : ℕ) → length gs ≤ i → before (steps ++ (i, Some n) ∷ []) gs ≡ before steps gs
+  back_none steps gs i n beyond = before_last steps (i, Some n) gs ∙ ap (before steps) (cut_none gs i n beyond)

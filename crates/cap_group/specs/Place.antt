@@ -2,9 +2,8 @@
 use Rattle.std.specs.Prelude.{◌≡◌, Bool, List, Option, IsTrue}
 use Rattle.std.specs.declared.cmp.Ordering.{Ordering}
 use Rattle.std.specs.Ordering.{is_eq}
-use Rattle.std.specs.Cmp.{IsTotalOrder}
 use Rattle.cap_row.specs.Fields.{Fields}
-use Rattle.cap_row.specs.Key.{fields_cmp, fields_cmp_total}
+use Rattle.cap_row.specs.Key.{fields_cmp}
 
 -- a change and the key of its row
 pub record Place (A X : Type 0) : Type 0 where
@@ -18,13 +17,6 @@ module _ {A X : Type 0} where
 
   abbrev pub place_eq : Place A X → Place A X → Bool
   place_eq a b = is_eq (place_cmp a b)
-
-  pub place_cmp_total : IsTotalOrder place_cmp
-  place_cmp_total = record {
-    antisymm = λ a b. fields_cmp_total.antisymm a.key b.key;
-    trans = λ a b c. fields_cmp_total.trans a.key b.key c.key;
-    congr = λ a b c. fields_cmp_total.congr a.key b.key c.key;
-  }
 
   abbrev pub place_of : (List Bool → X → Fields A) → List Bool → X → Place A X
   place_of key flags change = record { key = key flags change; change = change }

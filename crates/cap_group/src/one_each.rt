@@ -20,7 +20,7 @@ pub(crate) fn one_each<C: Combine<A> + Drop, A: AllocHandle>(
     ensures again { IfOk result (λ made. keyed_of C.key C.combined made ≡ keyed_of C.key C.combined group.now) }
 {
     let mut places = places_of(alloc, group)?;
-    places.sort()?;
+    places.sort_by(|one, other| one.order(other))?;
     let mut made = TableGroup::new(alloc, group.table().copy()?, group.schema().copy()?);
     push_rows(alloc, &mut made, group.schema().flags(), places.as_slice())?;
     Ok(made)

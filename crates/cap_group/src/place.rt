@@ -11,7 +11,7 @@ use cap_value::{AllocHandle, OutOfMemory};
 use std::cmp::Ordering;
 use std::marker::Model;
 
-// A change and its key, both in place. Places are compared by their keys.
+// A change and its key, both in place.
 #[derive(Drop)]
 pub(crate) struct Place<'a, C: Combine<A> + Drop, A: AllocHandle> {
     // The first value of the key, and the others.
@@ -64,7 +64,7 @@ impl<'a, C: Combine<A> + Drop, A: AllocHandle> Place<'a, C, A> {
     }
 
     #[inline(always)]
-    fn order(&self, other: &Self) -> Ordering
+    pub(crate) fn order(&self, other: &Self) -> Ordering
         ensures { result ≡ fields_cmp self.now.key other.now.key }
     {
         match (self.first, other.first) {
@@ -76,60 +76,6 @@ impl<'a, C: Combine<A> + Drop, A: AllocHandle> Place<'a, C, A> {
             (None, Some(_)) => Ordering::Less,
             (None, None) => Ordering::Equal,
         }
-    }
-}
-
-impl<'a, C: Combine<A> + Drop, A: AllocHandle> PartialEq for Place<'a, C, A> {
-    ghost use Rattle.std.specs.Cmp.{eq_by_cmp_equiv, partial_equiv_from_equiv};
-    ghost use Rattle.cap_group.specs.Place.{place_eq, place_cmp_total};
-
-    ghost eq = { place_eq };
-
-    ghost laws = { partial_equiv_from_equiv (eq_by_cmp_equiv place_cmp_total) };
-
-    fn eq(&self, other: &Self) -> bool {
-        self.order(other).is_eq()
-    }
-}
-
-impl<'a, C: Combine<A> + Drop, A: AllocHandle> Eq for Place<'a, C, A> {
-    ghost use Rattle.std.specs.Cmp.{eq_by_cmp_equiv};
-    ghost use Rattle.cap_group.specs.Place.{place_cmp_total};
-
-    ghost laws = { eq_by_cmp_equiv place_cmp_total };
-}
-
-impl<'a, C: Combine<A> + Drop, A: AllocHandle> PartialOrd for Place<'a, C, A> {
-    ghost use Rattle.std.proofs.Common.{refl};
-    ghost use Rattle.std.specs.Cmp.{partial_order_from_agreeing_total};
-    ghost use Rattle.std.specs.Ordering.{as_partial_cmp};
-    ghost use Rattle.cap_group.specs.Place.{place_cmp, place_cmp_total};
-
-    ghost partial_cmp = { as_partial_cmp place_cmp };
-
-    ghost laws = { partial_order_from_agreeing_total place_cmp place_cmp_total
-        (λ x y. refl) (λ x y. refl) };
-
-    fn partial_cmp(&self, other: &Self) -> Option<Ordering> {
-        Some(self.order(other))
-    }
-}
-
-impl<'a, C: Combine<A> + Drop, A: AllocHandle> Ord for Place<'a, C, A> {
-    ghost use Rattle.std.proofs.Common.{refl};
-    ghost use Rattle.cap_group.specs.Place.{place_cmp, place_cmp_total};
-
-    ghost cmp = { place_cmp };
-
-    ghost total = { place_cmp_total };
-
-    ghost matches_partial_cmp = { λ x y. refl };
-
-    ghost matches_eq = { λ x y. refl };
-
-    #[inline(always)]
-    fn cmp(&self, other: &Self) -> Ordering {
-        self.order(other)
     }
 }
 

@@ -7,7 +7,7 @@ ghost use Rattle.cap_value.specs.Bytes.{bytes_eq};
 ghost use Rattle.cap_codec.specs.Writable.{has_some};
 ghost use Rattle.cap_value.specs.Memory.{LeavesUnlessMemory};
 ghost use Rattle.cap_group.specs.ChangeGroup.{groups_of, with_group, with_groups};
-ghost use Rattle.cap_group.specs.Grown.{HaveGrown, IsGrown, cut_back};
+ghost use Rattle.cap_group.specs.Grown.{IsGrown, before};
 ghost use Rattle.cap_group.specs.KeyedChanges.{keyed_of};
 
 use crate::GroupRefusal;
@@ -27,64 +27,49 @@ pub(crate) fn add_groups<C: Combine<A> + Drop, A: AllocHandle>(
         (map (keyed_of C.key C.combined) tables.new.items) }
     ensures kept { OnErr result (tables.new.items ≡ tables.old.items) }
 {
-    let counts = counts_of(alloc, tables)?;
-    match push_groups(tables, groups) {
+    let mut steps = Vec::new(alloc);
+    match push_groups(tables, &mut steps, groups) {
         Ok(()) => Ok(()),
         Err(fault) => {
-            go_back(tables, &counts);
+            go_back(tables, &mut steps);
             Err(fault)
         }
     }
 }
 
-// How many changes each group has.
-fn counts_of<C: Combine<A> + Drop, A: AllocHandle>(
-    alloc: A,
-    groups: &[TableGroup<C, A>],
-) -> Result<Vec<usize, A>, OutOfMemory>
-    ensures { IfOk result (λ counts. counts.items ≡ map (λ group. length group.changes) groups.now) }
-{
-    let mut counts = Vec::with_capacity(alloc, groups.len())?;
-    for group in groups {
-        counts.push(group.changes().len())?;
-    }
-    Ok(counts)
-}
+// A step that added a group: the index of its table, and how many changes that had, or none where it is new.
+type Step = (usize, Option<usize>);
 
-// Takes off what was added since there were so many groups, each with so many changes.
+// Takes the steps back, the last one first.
+#[tactic(auto, using(crate::proofs::GrownLemmas::back_to, crate::proofs::GrownLemmas::back_none, crate::proofs::GrownLemmas::before_last))]
 fn go_back<C: Combine<A> + Drop, A: AllocHandle>(
-    groups: &mut Vec<TableGroup<C, A>, A>,
-    counts: &[usize],
+    tables: &mut Vec<TableGroup<C, A>, A>,
+    steps: &mut Vec<Step, A>,
 )
-    requires { length counts.now ≤ length groups.old.items }
-    ensures { groups.new.items ≡ cut_back counts.now groups.old.items }
+    ensures { tables.new.items ≡ before steps.old.items tables.old.items }
 {
-    groups.truncate(counts.len());
-    cut_each(groups, counts);
-}
-
-// Keeps so many changes of each group.
-fn cut_each<C: Combine<A> + Drop, A: AllocHandle>(groups: &mut [TableGroup<C, A>], counts: &[usize])
-    requires { length counts.now ≡ length groups.old }
-    ensures { groups.new ≡ cut_back counts.now groups.old }
-{
-    for number in 0..groups.len() {
-        groups[number].truncate(counts[number]);
+    while let Some((index, count)) = steps.pop() {
+        match count {
+            None => tables.truncate(index),
+            Some(count) if index < tables.len() => tables[index].truncate(count),
+            Some(_) => {}
+        }
     }
 }
 
 fn push_groups<C: Combine<A> + Drop, A: AllocHandle>(
     tables: &mut Vec<TableGroup<C, A>, A>,
+    steps: &mut Vec<Step, A>,
     groups: &[TableGroup<C, A>],
 ) -> Result<(), Fault<GroupRefusal>>
     ensures content { LeavesUnlessMemory result
         (with_groups C.key C.combined 0 (map (keyed_of C.key C.combined) tables.old.items) groups.now)
         (map (keyed_of C.key C.combined) tables.new.items) }
-    ensures grown { HaveGrown tables.old.items tables.new.items }
+    ensures steps { before steps.new.items tables.new.items ≡ before steps.old.items tables.old.items }
 {
     for (place, group) in groups.iter().enumerate() {
         if has_change(group) {
-            push_group(tables, place, group)?;
+            push_group(tables, steps, place, group)?;
         }
     }
     Ok(())
@@ -93,28 +78,32 @@ fn push_groups<C: Combine<A> + Drop, A: AllocHandle>(
 // Adds the changes of a group, which is number `place` of its blob.
 fn push_group<C: Combine<A> + Drop, A: AllocHandle>(
     tables: &mut Vec<TableGroup<C, A>, A>,
+    steps: &mut Vec<Step, A>,
     place: usize,
     group: &TableGroup<C, A>,
 ) -> Result<(), Fault<GroupRefusal>>
     ensures content { LeavesUnlessMemory result
         (with_group C.key C.combined place (map (keyed_of C.key C.combined) tables.old.items) group.now)
         (map (keyed_of C.key C.combined) tables.new.items) }
-    ensures grown { HaveGrown tables.old.items tables.new.items }
+    ensures steps { before steps.new.items tables.new.items ≡ before steps.old.items tables.old.items }
 {
     match index_of(tables, group.table()) {
-        Some(index) => push_at(tables, index, place, group),
-        None => Ok(push_copy(tables, group)?),
+        Some(index) => push_at(tables, steps, index, place, group),
+        None => Ok(push_copy(tables, steps, group)?),
     }
 }
 
 // Adds the table of a group, of which there is none so far.
+#[tactic(auto, using(crate::proofs::GrownLemmas::before_copy, crate::proofs::GrownLemmas::before_none))]
 fn push_copy<C: Combine<A> + Drop, A: AllocHandle>(
     tables: &mut Vec<TableGroup<C, A>, A>,
+    steps: &mut Vec<Step, A>,
     group: &TableGroup<C, A>,
 ) -> Result<(), OutOfMemory>
     ensures ok { OnOk result (tables.new.items ≡ tables.old.items ++ group.now ∷ []) }
-    ensures err { OnErr result (tables.new.items ≡ tables.old.items) }
+    ensures steps { before steps.new.items tables.new.items ≡ before steps.old.items tables.old.items }
 {
+    steps.push((tables.len(), None))?;
     tables.push(group.copy()?)?;
     Ok(())
 }
@@ -122,6 +111,7 @@ fn push_copy<C: Combine<A> + Drop, A: AllocHandle>(
 // Adds the changes of a group to the table at the index, which has its name.
 fn push_at<C: Combine<A> + Drop, A: AllocHandle>(
     tables: &mut [TableGroup<C, A>],
+    steps: &mut Vec<Step, A>,
     index: usize,
     place: usize,
     group: &TableGroup<C, A>,
@@ -131,10 +121,13 @@ fn push_at<C: Combine<A> + Drop, A: AllocHandle>(
     ensures content { LeavesUnlessMemory result
         (with_group C.key C.combined place (map (keyed_of C.key C.combined) tables.old) group.now)
         (map (keyed_of C.key C.combined) tables.new) }
-    ensures grown { HaveGrown tables.old tables.new }
+    ensures steps { before steps.new.items tables.new ≡ before steps.old.items tables.old }
 {
     let table = &mut tables[index];
     if table.schema() == group.schema() {
+        if steps.push((index, Some(table.changes().len()))).is_err() {
+            return Err(Fault::OutOfMemory);
+        }
         push_changes(table, group)?;
         Ok(())
     } else {

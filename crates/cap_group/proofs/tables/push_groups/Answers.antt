@@ -1,15 +1,11 @@
-use Rattle.std.proofs.Common.{◌≡◌, ◌<◌, true, false, Ok, Err, length, map, refl, arith, sym, ◌∙◌}
+use Rattle.std.proofs.Common.{◌≡◌, ◌<◌, true, false, Ok, Err, length, map, arith, sym, ◌∙◌}
 use Rattle.std.proofs.lemmas.Result.{err_from_is_err_and}
 use Rattle.cap_codec.specs.Writable.{has_some}
 use Rattle.cap_group.specs.ChangeGroup.{with_group}
 use Rattle.cap_group.specs.KeyedChanges.{keyed_of}
 use Rattle.cap_group.proofs.GroupLemmas.{group_empty, group_some, leaves_whole}
-use Rattle.cap_group.proofs.GrownLemmas.{all_more, all_same}
 use Rattle.cap_group.proofs.tables.push_groups.Goals as goal
 use Rattle.cap_group.proofs.tables.push_groups.Goals.{then-has_change+in_ok-push_group, else-has_change}
-
-pub loop-place-init : goal.loop-place-init
-loop-place-init g c = record { content = refl; grown = all_same c.args.tables.now.items }
 
 pub returns-in_err-push_group-clause-content : goal.returns-in_err-push_group-clause-content
 returns-in_err-push_group-clause-content g c =
@@ -21,10 +17,6 @@ returns-in_err-push_group-clause-content g c =
     rw (p.1, p.2)
     (leaves_whole c.in_err-push_group.field-0.0 (with_group g.C.Combine.key g.C.Combine.combined c.loop-place.place tables group) _ _ _ c.in_err-push_group.ensures.content
     (λ why made. sym c.loop-place.invariant.content ∙ group_some g.C.Combine.key g.C.Combine.combined c.loop-place.place tables c.args.groups.now group within c.index-groups-place.is (Err why) some made))
-
-pub returns-in_err-push_group-clause-grown : goal.returns-in_err-push_group-clause-grown
-returns-in_err-push_group-clause-grown g c =
-    all_more c.args.tables.now.items c.loop-place.tables.items c.push_group.new.tables.items c.loop-place.invariant.grown c.push_group.ensures.grown
 
 pub loop-place-preserved : goal.loop-place-preserved
 loop-place-preserved g c =
@@ -39,7 +31,7 @@ loop-place-preserved g c =
                 sym (group_some g.C.Combine.key g.C.Combine.combined c.loop-place.place tables c.args.groups.now group within c.index-groups-place.is
                 (Ok (map (keyed_of g.C.Combine.key g.C.Combine.combined) w.push_group.new.tables.items)) some w.in_ok-push_group.ensures.content)
                 ∙ c.loop-place.invariant.content;
-            grown = all_more c.args.tables.now.items c.loop-place.tables.items w.push_group.new.tables.items c.loop-place.invariant.grown w.push_group.ensures.grown;
+            steps = cc;
           })
       | else-has_change w ↦
           let none : has_some group.changes ≡ false = sym c.has_change.ensures ∙ w.if-has_change.false in
@@ -47,6 +39,6 @@ loop-place-preserved g c =
             content =
                 sym (group_empty g.C.Combine.key g.C.Combine.combined c.loop-place.place tables c.args.groups.now group within c.index-groups-place.is none)
                 ∙ c.loop-place.invariant.content;
-            grown = c.loop-place.invariant.grown;
+            steps = cc;
           })
     ]

@@ -1,6 +1,6 @@
 use Rattle.std.proofs.Common.{◌≡◌, drop, map}
 use Rattle.cap_group.specs.ChangeGroup.{with_groups}
-use Rattle.cap_group.specs.Grown.{HaveGrown}
+use Rattle.cap_group.specs.Grown.{before}
 use Rattle.cap_group.specs.KeyedChanges.{keyed_of}
 use Rattle.cap_group.proofs.tables.push_groups.Given as goal
 
@@ -9,5 +9,5 @@ abbrev pub invariant-loop-place : goal.invariant-loop-place
 invariant-loop-place g l = record {
   content : with_groups g.C.Combine.key g.C.Combine.combined l.place (map (keyed_of g.C.Combine.key g.C.Combine.combined) l.tables.items) (drop l.place l.groups)
       ≡ with_groups g.C.Combine.key g.C.Combine.combined 0 (map (keyed_of g.C.Combine.key g.C.Combine.combined) l.fn.tables.items) l.groups;
-  grown : HaveGrown l.fn.tables.items l.tables.items;
+  steps : before l.steps.items l.tables.items ≡ before l.fn.steps.items l.fn.tables.items;
 }
