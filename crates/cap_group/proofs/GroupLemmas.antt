@@ -3,6 +3,7 @@ use Rattle.std.proofs.Common.{◌≡◌, ℕ, zero, suc, ◌+◌, ◌<◌, List,
 use Rattle.std.specs.Prelude.{map, not, position, ◌==◌}
 use Rattle.std.proofs.lemmas.Bool.Decides.{nat_tests}
 use Rattle.std.specs.Cmp.{booleans_Decides}
+use Rattle.std.proofs.Math.Seq.{map-set_same}
 use Rattle.std.proofs.lemmas.Slice.Eq.{bytes_eq-Decides, slice_eq-Decides}
 use Rattle.std.proofs.lemmas.Bool.{ltb-false}
 use Rattle.std.proofs.lemmas.List.{map-append, map-set, take_more}
@@ -145,7 +146,4 @@ some_is [] = refl
 some_is (x ∷ xs) = grind (arith, nat_tests)
 
 -- one element in place of another that shows the same
-pub set_same : {X Y : Type 0} (f : X → Y) (xs : List X) (i : ℕ) (x d : X) → f x ≡ f (get_or xs i d) → map f (set xs i x) ≡ map f xs
-set_same f [] i x d same = refl
-set_same f (y ∷ ys) zero x d same = ap (λ v. v ∷ map f ys) same
-set_same f (y ∷ ys) (suc i) x d same = ap (λ l. f y ∷ l) (set_same f ys i x d same)
+pub ruleset set_same = (map-set_same)

@@ -1,5 +1,5 @@
 -- Groups to which changes were added, and how they go back.
-use Rattle.std.proofs.Common.{◌≡◌, ℕ, zero, suc, ◌<◌, ◌≤◌, List, [], ◌∷◌, ◌++◌, Option, Some, None, length, take, get_or, set, refl, ap, sym, ◌∙◌, append_assoc, arith}
+use Rattle.std.proofs.Common.{◌≡◌, ℕ, zero, suc, ◌<◌, ◌≤◌, List, [], ◌∷◌, ◌++◌, Option, length, take, get_or, set, refl, ap, sym, ◌∙◌, append_assoc, arith}
 use Rattle.std.proofs.lemmas.List.{take_all}
 use Rattle.std.proofs.Math.Seq.{take-append_seam}
 use Rattle.cap_changes.specs.Entries.{TableEntries}
@@ -30,40 +30,23 @@ module _ {X : Type 0} where
   before_last [] step gs = refl
   before_last (s ∷ steps) step gs = ap (taken_back s) (before_last steps step gs)
 
-  -- a table was added, or none
-  pub before_copy : (steps : List (ℕ × Option ℕ)) (gs more : List (TableEntries X)) → before (steps ++ (length gs, None) ∷ []) (gs ++ more) ≡ before steps gs
-  before_copy steps gs more = before_last steps (length gs, None) (gs ++ more) ∙ ap (before steps) (take-append_seam gs more)
-
-  pub before_none : (steps : List (ℕ × Option ℕ)) (gs : List (TableEntries X)) → before (steps ++ (length gs, None) ∷ []) gs ≡ before steps gs
-  before_none steps gs = before_last steps (length gs, None) gs ∙ ap (before steps) (take_all (length gs) gs (omega arith))
-
   -- changes were added to a table
-  cut_set : (gs : List (TableEntries X)) (i : ℕ) (g d : TableEntries X) → i < length gs → IsGrown (get_or gs i d) g → cut_at i (length (get_or gs i d).changes) (set gs i g) ≡ gs
+  pub cut_set : (gs : List (TableEntries X)) (i : ℕ) (g d : TableEntries X) → i < length gs → IsGrown (get_or gs i d) g → cut_at i (length (get_or gs i d).changes) (set gs i g) ≡ gs
   cut_set [] i g d within grown = refl
   cut_set (f ∷ gs) zero g d within (m, is) =
       ap (λ (t : TableEntries X). record { table = t.table; schema = t.schema; changes = take (length f.changes) t.changes } ∷ gs) is
       ∙ ap (λ (l : List X). record { table = f.table; schema = f.schema; changes = l } ∷ gs) (take-append_seam f.changes m)
   cut_set (f ∷ gs) (suc i) g d within grown = ap (λ l. f ∷ l) (cut_set gs i g d (omega arith) grown)
 
-  pub before_grown : (steps new : List (ℕ × Option ℕ)) (gs : List (TableEntries X)) (i n : ℕ) (g d : TableEntries X) → i < length gs → new ≡ steps ++ (i, Some n) ∷ [] →
-      n ≡ length (get_or gs i d).changes → IsGrown (get_or gs i d) g → before new (set gs i g) ≡ before steps gs
-  before_grown steps new gs i n g d within is long grown =
-      ap (λ l. before l (set gs i g)) is ∙ before_last steps (i, Some n) (set gs i g) ∙ ap (λ k. before steps (cut_at i k (set gs i g))) long ∙ ap (before steps) (cut_set gs i g d within grown)
-
   -- a table is as it was, or is not there any more
-  cut_is : (gs : List (TableEntries X)) (i n : ℕ) (d : TableEntries X) → i < length gs → set gs i (record { table = (get_or gs i d).table; schema = (get_or gs i d).schema; changes = take n (get_or gs i d).changes }) ≡ cut_at i n gs
+  pub cut_is : (gs : List (TableEntries X)) (i n : ℕ) (d : TableEntries X) → i < length gs → set gs i (record { table = (get_or gs i d).table; schema = (get_or gs i d).schema; changes = take n (get_or gs i d).changes }) ≡ cut_at i n gs
   cut_is [] i n d within = refl
   cut_is (g ∷ gs) zero n d within = refl
   cut_is (g ∷ gs) (suc i) n d within = ap (λ l. g ∷ l) (cut_is gs i n d (omega arith))
 
-  cut_none : (gs : List (TableEntries X)) (i n : ℕ) → length gs ≤ i → cut_at i n gs ≡ gs
+  pub cut_none : (gs : List (TableEntries X)) (i n : ℕ) → length gs ≤ i → cut_at i n gs ≡ gs
   cut_none [] i n beyond = refl
   cut_none (g ∷ gs) zero n beyond = absurd (omega arith)
   cut_none (g ∷ gs) (suc i) n beyond = ap (λ l. g ∷ l) (cut_none gs i n (omega arith))
 
-  pub back_to : (steps : List (ℕ × Option ℕ)) (gs : List (TableEntries X)) (i n : ℕ) (g d : TableEntries X) → i < length gs →
-      g ≡ record { table = (get_or gs i d).table; schema = (get_or gs i d).schema; changes = take n (get_or gs i d).changes } → before (steps ++ (i, Some n) ∷ []) gs ≡ before steps (set gs i g)
-  back_to steps gs i n g d within is = before_last steps (i, Some n) gs ∙ ap (before steps) (sym (ap (set gs i) is ∙ cut_is gs i n d within))
-
-  pub back_none : (steps : List (ℕ × Option ℕ)) (gs : List (TableEntries X)) (i n : ℕ) → length gs ≤ i → before (steps ++ (i, Some n) ∷ []) gs ≡ before steps gs
-  back_none steps gs i n beyond = before_last steps (i, Some n) gs ∙ ap (before steps) (cut_none gs i n beyond)
+pub ruleset going_back = (before_last, cut_is, cut_none, take-append_seam, take_all)

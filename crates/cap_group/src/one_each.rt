@@ -50,7 +50,7 @@ fn push_rows<C: Combine<A> + Drop, A: AllocHandle>(
     let mut row = Together::new(alloc, flags);
     row.add(places[0].change())?;
     for number in 1..places.len() {
-        if !places[number - 1].is_of_row(&places[number]) {
+        if !places[number - 1].order(&places[number]).is_eq() {
             row.finish(group)?;
         }
         row.add(places[number].change())?;

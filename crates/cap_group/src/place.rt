@@ -1,7 +1,7 @@
 //! Changes in the order of their keys.
 ghost use Rattle.std.specs.Prelude.{◌≡◌, All, IfOk, map};
 ghost use Rattle.cap_row.specs.Key.{fields_cmp};
-ghost use Rattle.cap_group.specs.Place.{IsPlace, place_eq, place_of};
+ghost use Rattle.cap_group.specs.Place.{IsPlace, place_of};
 
 use crate::combine::Combine;
 use crate::key_ref::KeyRef;
@@ -56,13 +56,7 @@ impl<'a, C: Combine<A> + Drop, A: AllocHandle> Place<'a, C, A> {
         &self.change
     }
 
-    // Whether it is of the same row.
-    pub(crate) fn is_of_row(&self, other: &Self) -> bool
-        ensures { result ≡ place_eq self.now other.now }
-    {
-        self.order(other).is_eq()
-    }
-
+    // The order of their keys.
     #[inline(always)]
     pub(crate) fn order(&self, other: &Self) -> Ordering
         ensures { result ≡ fields_cmp self.now.key other.now.key }

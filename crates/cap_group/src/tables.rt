@@ -1,6 +1,6 @@
 //! The tables of a changegroup, in the order of their first change. Each has the changes of the blobs, one after
 //! the other.
-ghost use Rattle.std.specs.Prelude.{◌≡◌, ◌++◌, ◌∷◌, [], ◌<◌, ◌≤◌, length, map, position};
+ghost use Rattle.std.specs.Prelude.{◌≡◌, ◌++◌, ◌∷◌, [], ◌<◌, length, map, position};
 ghost use Rattle.std.specs.Prelude.{IfOk, IsTrue, OnErr, OnOk, Some};
 ghost use Rattle.cap_row.specs.Schema.{flags_eq};
 ghost use Rattle.cap_value.specs.Bytes.{bytes_eq};
@@ -41,7 +41,7 @@ pub(crate) fn add_groups<C: Combine<A> + Drop, A: AllocHandle>(
 type Step = (usize, Option<usize>);
 
 // Takes the steps back, the last one first.
-#[tactic(auto, using(crate::proofs::GrownLemmas::back_to, crate::proofs::GrownLemmas::back_none, crate::proofs::GrownLemmas::before_last))]
+#[tactic(auto, using(crate::proofs::GrownLemmas::going_back))]
 fn go_back<C: Combine<A> + Drop, A: AllocHandle>(
     tables: &mut Vec<TableGroup<C, A>, A>,
     steps: &mut Vec<Step, A>,
@@ -94,7 +94,7 @@ fn push_group<C: Combine<A> + Drop, A: AllocHandle>(
 }
 
 // Adds the table of a group, of which there is none so far.
-#[tactic(auto, using(crate::proofs::GrownLemmas::before_copy, crate::proofs::GrownLemmas::before_none))]
+#[tactic(auto, using(crate::proofs::GrownLemmas::going_back))]
 fn push_copy<C: Combine<A> + Drop, A: AllocHandle>(
     tables: &mut Vec<TableGroup<C, A>, A>,
     steps: &mut Vec<Step, A>,

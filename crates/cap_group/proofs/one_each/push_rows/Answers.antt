@@ -1,11 +1,12 @@
-use Rattle.std.proofs.Common.{◌≡◌, ◌<◌, ◌-◌, length, get_or, sym, subst, ◌∙◌, arith}
+use Rattle.std.proofs.Common.{◌≡◌, ◌<◌, ◌-◌, length, get_or, ap, sym, subst, ◌∙◌, arith}
+use Rattle.std.specs.Ordering.{is_eq}
 use Rattle.std.proofs.lemmas.Bool.Decides.{nat_tests}
 use Rattle.std.proofs.lemmas.List.{get_or_default}
 use Rattle.std.proofs.lemmas.Result.{on_ok_weaker}
 use Rattle.cap_group.specs.Place.{place_eq}
 use Rattle.cap_group.proofs.RunLemmas.{IsPut, all_put, put_first, put_same, put_other}
 use Rattle.cap_group.proofs.one_each.push_rows.Goals as goal
-use Rattle.cap_group.proofs.one_each.push_rows.Goals.{then-not-is_of_row+in_ok-finish, else-not-is_of_row}
+use Rattle.cap_group.proofs.one_each.push_rows.Goals.{then-not-is_eq+in_ok-finish, else-not-is_eq}
 
 pub loop-number-init : goal.loop-number-init
 loop-number-init g c =
@@ -26,20 +27,20 @@ loop-number-preserved g c =
     let a = c.index-places-number.result in
     let p = c.index-places-number-in-loop-number-2 in
     let same_place = c.index-places-number-in-loop-number.is ∙ get_or_default all n c.index-places-number-in-loop-number.result p.result lt ∙ sym p.is in
-    let tested : c.is_of_row.result ≡ place_eq (get_or all (n - 1) a) p.result = c.is_of_row.ensures ∙ (λ i. place_eq (c.index-places-number.is i) (same_place i)) in
+    let tested : c.is_eq.result ≡ place_eq (get_or all (n - 1) a) p.result = c.is_eq.ensures ∙ ap is_eq c.order.ensures ∙ (λ i. place_eq (c.index-places-number.is i) (same_place i)) in
     let table = c.args.group.now.table in
     let flags = c.args.flags.now in
-    elim c.if-not-is_of_row.branch [
-      | then-not-is_of_row+in_ok-finish w ↦ record {
+    elim c.if-not-is_eq.branch [
+      | then-not-is_eq+in_ok-finish w ↦ record {
         some = omega arith;
-        put = put_other g.C.Entry.fits_in g.C.Combine.key g.C.Combine.combined table flags all c.requires.each n p.result lt p.is a c.loop-number.group c.if-not-is_of_row.group c.loop-number.row c.if-not-is_of_row.row c.add-in-loop-number.new.self _
-            c.change-in-loop-number.ensures (omega (arith, c.loop-number.invariant.some)) c.loop-number.invariant.put c.requires.sorted (sym tested ∙ grind (arith, w.if-not-is_of_row.true))
+        put = put_other g.C.Entry.fits_in g.C.Combine.key g.C.Combine.combined table flags all c.requires.each n p.result lt p.is a c.loop-number.group c.if-not-is_eq.group c.loop-number.row c.if-not-is_eq.row c.add-in-loop-number.new.self _
+            c.change-in-loop-number.ensures (omega (arith, c.loop-number.invariant.some)) c.loop-number.invariant.put c.requires.sorted (sym tested ∙ grind (arith, w.if-not-is_eq.true))
             (w.group-is ∙ w.in_ok-finish.ensures.group) (w.row-is ∙ w.in_ok-finish.ensures.row) c.in_ok-add-2.ensures;
       }
-      | else-not-is_of_row w ↦ record {
+      | else-not-is_eq w ↦ record {
         some = omega arith;
-        put = put_same g.C.Entry.fits_in g.C.Combine.key g.C.Combine.combined table flags all c.requires.each n p.result lt p.is c.keeps_key.ensures a c.loop-number.group c.if-not-is_of_row.group c.loop-number.row c.if-not-is_of_row.row c.add-in-loop-number.new.self _
-            c.change-in-loop-number.ensures c.loop-number.invariant.put (sym tested ∙ grind (arith, w.if-not-is_of_row.false)) w.group-is w.row-is c.in_ok-add-2.ensures;
+        put = put_same g.C.Entry.fits_in g.C.Combine.key g.C.Combine.combined table flags all c.requires.each n p.result lt p.is c.keeps_key.ensures a c.loop-number.group c.if-not-is_eq.group c.loop-number.row c.if-not-is_eq.row c.add-in-loop-number.new.self _
+            c.change-in-loop-number.ensures c.loop-number.invariant.put (sym tested ∙ grind (arith, w.if-not-is_eq.false)) w.group-is w.row-is c.in_ok-add-2.ensures;
       }
     ]
 

@@ -1,7 +1,8 @@
-use Rattle.std.proofs.Common.{◌≡◌, true, false, get_or, length, ap, arith, sym, ◌∙◌}
+use Rattle.std.proofs.Common.{◌≡◌, [], ◌∷◌, ◌++◌, Some, true, false, get_or, ap, arith, sym, ◌∙◌}
 use Rattle.cap_row.specs.Schema.{flags_eq}
+use Rattle.cap_group.specs.Grown.{before}
 use Rattle.cap_group.proofs.GroupLemmas.{group_put, group_refused_at}
-use Rattle.cap_group.proofs.GrownLemmas.{before_grown}
+use Rattle.cap_group.proofs.GrownLemmas.{before_last, cut_set}
 use Rattle.cap_group.proofs.tables.push_at.Goals as goal
 
 pub returns-in_ok-push_changes-clause-content : goal.returns-in_ok-push_changes-clause-content
@@ -18,10 +19,10 @@ returns-else-eq-clause-content g c =
 
 pub returns-in_err-push_changes-clause-steps : goal.returns-in_err-push_changes-clause-steps
 returns-in_err-push_changes-clause-steps g c =
-    before_grown c.args.steps.now.items c.push.new.self.items c.args.tables.now c.args.index c.len.result c.push_changes.new.table c.index-tables-index.result c.requires.within
-    (grind (arith, c.push.ensures.items, c.is_err.ensures.value, c.if-is_err.false)) (c.len.ensures ∙ ap length c.changes.ensures.changes) c.push_changes.ensures.grown
+    let put : c.push.new.self.items ≡ c.args.steps.now.items ++ (c.args.index, Some c.len.result) ∷ [] = grind (arith, c.push.ensures.items, c.is_err.ensures.value, c.if-is_err.false) in
+    rw (put, c.len.ensures, c.changes.ensures.changes, before_last) (ap (before c.args.steps.now.items) (cut_set c.args.tables.now c.args.index c.push_changes.new.table c.index-tables-index.result c.requires.within c.push_changes.ensures.grown))
 
 pub returns-in_ok-push_changes-clause-steps : goal.returns-in_ok-push_changes-clause-steps
 returns-in_ok-push_changes-clause-steps g c =
-    before_grown c.args.steps.now.items c.push.new.self.items c.args.tables.now c.args.index c.len.result c.push_changes.new.table c.index-tables-index.result c.requires.within
-    (grind (arith, c.push.ensures.items, c.is_err.ensures.value, c.if-is_err.false)) (c.len.ensures ∙ ap length c.changes.ensures.changes) c.push_changes.ensures.grown
+    let put : c.push.new.self.items ≡ c.args.steps.now.items ++ (c.args.index, Some c.len.result) ∷ [] = grind (arith, c.push.ensures.items, c.is_err.ensures.value, c.if-is_err.false) in
+    rw (put, c.len.ensures, c.changes.ensures.changes, before_last) (ap (before c.args.steps.now.items) (cut_set c.args.tables.now c.args.index c.push_changes.new.table c.index-tables-index.result c.requires.within c.push_changes.ensures.grown))
