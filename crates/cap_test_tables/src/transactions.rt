@@ -1,10 +1,11 @@
 //! Transactions, batches, lists of operations and commit hooks of databases.
 use crate::rows::{At, has_text, named, refusal, row, schema};
 use cap_database::{
-    Action, Assignments, Cause, Database, Op, RefusedAt, Snapshot, TABLES_MAX, run_ops,
+    Action, Assignments, Cause, Change, Database, Op, RefusedAt, Snapshot, TABLES_MAX, WriteHook,
+    run_ops,
 };
 use cap_row::Schema;
-use cap_table::{ChangeFault, RowRef};
+use cap_table::RowRef;
 use cap_test_support::{CountingHook, Memory};
 use cap_txn::{Batch, Mark, OPS_MAX, SAVEPOINTS_MAX, Txn};
 use cap_value::{AllocHandle, Fault, Name, OutOfMemory, Refusal, Value};
@@ -364,19 +365,43 @@ fn each_allocation_may_be_refused(rt: HostRuntime) -> Result<(), Fail> {
     Ok(())
 }
 
+// A hook that counts how often it is shown changes.
+#[derive(Drop)]
+struct CountingWrites {
+    counting: CountingHook,
+}
+
+impl WriteHook<Global> for CountingWrites {
+    type Refusal = ();
+
+    ghost can_ask = { λ hook. Unit {0} };
+
+    ghost gives = { λ old changes answer new. Unit {0} };
+
+    fn before_write(&mut self, _changes: &[Change<Global>]) -> Result<(), Fault<()>> {
+        match self.counting.ask() {
+            Ok(()) => Ok(()),
+            Err(()) => Err(Fault::Refused(())),
+        }
+    }
+}
+
 // The answer to an operation on a row with a key, which the hook is asked for.
 fn step(
     alloc: Global,
     database: &mut Database<Global>,
     does: Does,
-    hook: &mut CountingHook,
-) -> Result<(), ChangeFault<()>> {
+    hook: &mut CountingWrites,
+) -> Result<Result<(), RefusedAt>, Fault<()>> {
     let Ok(op) = op_of(alloc, does) else {
-        return Err(ChangeFault::OutOfMemory);
+        return Err(Fault::OutOfMemory);
     };
-    match database.kept_key(&op) {
-        Ok(Some(key)) => database.step_keyed(&op, &key, hook),
-        _ => Err(ChangeFault::OutOfMemory),
+    database.write(&[op], hook)
+}
+
+fn counting(allows: bool) -> CountingWrites {
+    CountingWrites {
+        counting: CountingHook::new(allows),
     }
 }
 
@@ -386,15 +411,16 @@ const HOOKED: &[Does] = &[Does::Insert("a"), Does::SetText("b"), Does::Delete];
 #[test]
 fn operations_wait_for_the_commit_hook(rt: HostRuntime) -> Result<(), Fail> {
     let mut database = with_table(rt.alloc())?;
-    let (mut no, mut yes) = (CountingHook::new(false), CountingHook::new(true));
+    let (mut no, mut yes) = (counting(false), counting(true));
     for does in HOOKED {
-        assert!(rt;
-            step(rt.alloc(), &mut database, *does, &mut no) == Err(ChangeFault::Vetoed(()))
-        );
-        assert!(rt; step(rt.alloc(), &mut database, *does, &mut yes) == Ok(()));
+        assert!(rt; step(rt.alloc(), &mut database, *does, &mut no) == Err(Fault::Refused(())));
+        assert!(rt; step(rt.alloc(), &mut database, *does, &mut yes) == Ok(Ok(())));
     }
-    let no_row = Err(ChangeFault::Refused(Refusal::NoRow));
+    let no_row = Ok(Err(RefusedAt {
+        at: 0,
+        why: Refusal::NoRow,
+    }));
     assert!(rt; step(rt.alloc(), &mut database, Does::Delete, &mut no) == no_row);
-    assert!(rt; (no.asked, yes.asked) == (3, 3));
+    assert!(rt; (no.counting.asked, yes.counting.asked) == (3, 3));
     Ok(())
 }
