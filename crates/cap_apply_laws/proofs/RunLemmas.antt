@@ -27,7 +27,7 @@ use Rattle.cap_database.specs.declared.change.Change.{Change}
 use Rattle.cap_database.specs.declared.op.Action.TheVariants.{Insert, Update, Delete}
 use Rattle.cap_database.specs.declared.op.Op.{Op}
 use Rattle.cap_database.proofs.RunLemmas.{run-push}
-use Rattle.cap_database.proofs.UndoneLemmas.{put-again}
+use Rattle.cap_database_laws.proofs.UndoneLemmas.{put-again}
 use Rattle.cap_changes.specs.FieldRecord.{RecordFields}
 use Rattle.cap_changes.specs.Fits.{change_fits, patch_fits}
 use Rattle.cap_changes.specs.Patch.{patch_of, update_record}

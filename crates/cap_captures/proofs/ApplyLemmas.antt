@@ -31,7 +31,7 @@ use Rattle.cap_apply.specs.declared.policy.Policy.{Policy}
 use Rattle.cap_group.specs.ChangeKey.{change_key}
 use Rattle.cap_group.specs.Rows.{changes_of_row}
 use Rattle.cap_core.specs.AppliedCapture.{but_keyed, changes_in}
-use Rattle.cap_core.proofs.AppliedCaptureLemmas.{found-rising, same_but_keyed, total-is}
+use Rattle.cap_core_laws.proofs.AppliedCaptureLemmas.{found-rising, same_but_keyed, total-is}
 use Rattle.cap_core_laws.proofs.InsertLemmas.{names_same}
 use Rattle.cap_core.proofs.KeyedLemmas.{ordered}
 use Rattle.cap_core.proofs.TouchedLemmas.{fields_same, get-find}

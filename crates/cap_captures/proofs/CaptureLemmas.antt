@@ -27,7 +27,7 @@ use Rattle.cap_apply.specs.Difference.{IsUnder}
 use Rattle.cap_group.specs.ChangeKey.{change_key}
 use Rattle.cap_group.specs.Rows.{IsRowUnder, changes_of_row}
 use Rattle.cap_core.specs.Capture.{change_now, changes_of, group_of, table_changes}
-use Rattle.cap_core.proofs.AppliedCaptureLemmas.{AreDistinct, found-rising, names_of, some-changes}
+use Rattle.cap_core_laws.proofs.AppliedCaptureLemmas.{AreDistinct, found-rising, names_of, some-changes}
 use Rattle.cap_core.proofs.HistoryLemmas.{is_among}
 use Rattle.cap_core.proofs.SmallLemmas.{either_false, other_false}
 use Rattle.cap_core.proofs.SoundLemmas.{found-passes, is_keyed_row-key_of, is_keyed_row-wide}

@@ -30,7 +30,7 @@ use Rattle.cap_core_laws.specs.Restarts.{AppliesEach, HoldsFirst, IsSteady, capt
 use Rattle.cap_core.specs.Session.{session_of}
 use Rattle.cap_core.specs.Table.{BlobsFitPast}
 use Rattle.cap_core.specs.Touch.{event_touches, restarts, touches}
-use Rattle.cap_core.proofs.AppliedCaptureLemmas.{capture_fits, changes_apply}
+use Rattle.cap_core_laws.proofs.AppliedCaptureLemmas.{capture_fits, changes_apply}
 use Rattle.cap_core_laws.proofs.RestartLemmas.{sooner, touched-attached}
 use Rattle.cap_captures.specs.Captures.{session_over}
 use Rattle.cap_captures.proofs.ApplyLemmas.{same-tables}

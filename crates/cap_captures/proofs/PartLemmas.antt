@@ -32,7 +32,7 @@ use Rattle.cap_core_laws.specs.Restarts.{AppliesAll, HoldsFirst, IsSteady, captu
 use Rattle.cap_core.specs.Session.{session_of}
 use Rattle.cap_core.specs.Table.{BlobsFit, BlobsFitPast}
 use Rattle.cap_core.specs.Touch.{diff_by, event_touches, restarts, touches}
-use Rattle.cap_core.proofs.AppliedCaptureLemmas.{captured, captured-at}
+use Rattle.cap_core_laws.proofs.AppliedCaptureLemmas.{captured, captured-at}
 use Rattle.cap_core.proofs.NextLemmas.{events-state}
 use Rattle.cap_core.proofs.NumberLemmas.{same_number}
 use Rattle.cap_core.proofs.ToldLemmas.{to_itself}

@@ -32,7 +32,7 @@ use Rattle.cap_core_laws.specs.Restarts.{HoldsFirst, IsSteady, captures, first_t
 use Rattle.cap_core.specs.Session.{records_of, session_of}
 use Rattle.cap_core.specs.Table.{BlobsFitPast}
 use Rattle.cap_core.specs.Touch.{attach_list, attachings, event_touches, restarts, touches, touches_of}
-use Rattle.cap_core.proofs.AppliedCaptureLemmas.{AreDistinct, first_of_each-distinct, names_of, records-named, session-distinct, session-sorted}
+use Rattle.cap_core_laws.proofs.AppliedCaptureLemmas.{AreDistinct, first_of_each-distinct, names_of, records-named, session-distinct, session-sorted}
 use Rattle.cap_core_laws.proofs.DiffedLemmas.{quiet-effect}
 use Rattle.cap_core.proofs.HistoryLemmas.{is_among, table_names}
 use Rattle.cap_core.proofs.KeyedLemmas.{ordered}

@@ -17,6 +17,7 @@ ghost use Rattle.cap_captures.specs.Parts.{IsLeftBy, MadeWhere, capturing, enabl
 use crate::laws;
 use cap_codec::{Contents, read_blob};
 use cap_core::{Capture, Command, Core, EVENTS_MAX, Reply, SessionCommand};
+use cap_core_laws::a_capture_is_writable;
 use cap_group::concat;
 use cap_session::SessionChange;
 use cap_value::{AllocHandle, Fault, OutOfMemory};
@@ -77,8 +78,8 @@ pub fn captured_in_two_parts<A: AllocHandle>(
     let Some(whole) = captured_whole(&start, session, first, second)? else {
         return Ok(None);
     };
-    one.capture.is_writable(alloc)?;
-    two.capture.is_writable(alloc)?;
+    a_capture_is_writable(&one.capture, alloc)?;
+    a_capture_is_writable(&two.capture, alloc)?;
     match concatenated(alloc, &one.capture, &two.capture)? {
         Some(together) => Ok(Some(InParts { together, whole })),
         None => Ok(None),

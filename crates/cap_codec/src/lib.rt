@@ -5,12 +5,10 @@ mod decoder;
 mod group;
 mod header;
 mod key_flags;
-pub mod laws;
 mod missing;
 mod read;
 mod scan;
 mod stream;
-mod writable;
 mod write;
 
 pub use cap_changes::{
@@ -23,7 +21,6 @@ pub use header::{HeaderRef, take_header};
 pub use key_flags::KeyFlags;
 pub use read::{Contents, read_blob, wrong_kind};
 pub use stream::{ReadFault, WriteFault, read_from, write_changes_to, write_patches_to};
-pub use writable::{changes_are_writable, patches_are_writable};
 pub use write::{
     push_group_header, push_header, write_changes, write_changes_with, write_patches,
     write_patches_with,

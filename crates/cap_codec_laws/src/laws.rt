@@ -1,13 +1,14 @@
 //! Laws of blobs, over the grammar alone. The functions do nothing at run time.
 ghost use Rattle.std.specs.Prelude.{◌≡◌, ◌++◌, ℕ, List, Ok, Err};
 ghost use Rattle.cap_value.specs.Bytes.{AreBytes};
+ghost use Rattle.cap_codec.specs.declared.key_flags.KeyFlags.{KeyFlags};
 ghost use Rattle.cap_codec.specs.declared.read.Contents.{Contents};
 ghost use Rattle.cap_codec.specs.BlobReading.{blob_at};
 ghost use Rattle.cap_field.specs.declared.fault.BlobFault.{BlobFault};
 ghost use Rattle.cap_codec_laws.specs.FaultPlace.{IsFaultAt};
 ghost use Rattle.cap_codec.specs.Pieces.{lasting};
 ghost use Rattle.cap_codec.specs.Spelling.{Spells};
-ghost use Rattle.cap_codec.specs.Writable.{IsWritable, HasNoEmptyGroup, blob_bytes, with_some};
+ghost use Rattle.cap_codec.specs.Writable.{HasNoEmptyGroup, IsWritable, blob_bytes, blob_bytes_with, with_some};
 
 use cap_value::AllocHandle;
 
@@ -16,14 +17,20 @@ pub fn no_bytes_spell_two<A: AllocHandle>()
     ensures { (bytes : List ℕ) (a b : Contents A) → Spells a bytes → Spells b bytes → a ≡ b }
 {}
 
-/// The written bytes of a list spell that list, without its empty groups.
-pub fn written_is_spelled<A: AllocHandle>()
-    ensures { (blob : Contents A) → IsWritable blob → Spells (with_some blob) (blob_bytes blob) }
+/// Bytes are read as a blob exactly where they spell it.
+pub fn read_is_spelled<A: AllocHandle>()
+    ensures read { (bytes : List ℕ) (blob : Contents A) → Spells blob bytes → blob_at bytes ≡ Ok blob }
+    ensures spelled { (bytes : List ℕ) (blob : Contents A) → AreBytes bytes → blob_at bytes ≡ Ok blob →
+        Spells blob bytes }
 {}
 
-/// The written bytes of a list are read as that list, without its empty groups.
+/// With either key flags, the written bytes of a list spell and are read as that list, without its empty
+/// groups.
 pub fn written_is_read_again<A: AllocHandle>()
-    ensures { (blob : Contents A) → IsWritable blob → blob_at (blob_bytes blob) ≡ Ok (with_some blob) }
+    ensures spelled { (key_flags : KeyFlags) (blob : Contents A) → IsWritable blob →
+        Spells (with_some blob) (blob_bytes_with key_flags blob) }
+    ensures read { (key_flags : KeyFlags) (blob : Contents A) → IsWritable blob →
+        blob_at (blob_bytes_with key_flags blob) ≡ Ok (with_some blob) }
 {}
 
 /// No two lists without empty groups have the same bytes, be they changesets or patchsets.

@@ -1,5 +1,3 @@
-pub mod AppliedCaptureLemmas
-pub mod BytesLemmas
 pub mod CanCaptureLemmas
 pub mod CarriedLemmas
 pub mod ChangeLemmas

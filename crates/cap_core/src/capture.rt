@@ -1,5 +1,5 @@
 //! Captures: the changes of a session as a list and as bytes.
-ghost use Rattle.std.specs.Prelude.{◌≡◌, [], ◌++◌, Some, IfOk, IsTrue, OnOk};
+ghost use Rattle.std.specs.Prelude.{◌≡◌, [], ◌++◌, Some, IfOk, IsTrue};
 ghost use Rattle.std.specs.List.{cons_option, filter_map, list_all};
 ghost use Rattle.std.specs.Option.{option_copied, option_map, ForSome};
 ghost use Rattle.cap_row.specs.Key.{fields_cmp};
@@ -11,15 +11,11 @@ ghost use Rattle.cap_changes.specs.Patch.{patch_list_of};
 ghost use Rattle.cap_changes.specs.Touched.{is_changed};
 ghost use Rattle.cap_codec.specs.Changeset.{list_bytes, list_bytes_with};
 ghost use Rattle.cap_codec.specs.Patchset.{patch_list_bytes, patch_list_bytes_with};
-ghost use Rattle.cap_codec.specs.Writable.{IsWritable};
-ghost use Rattle.cap_codec.specs.declared.read.Contents.TheVariants as contents;
 ghost use Rattle.cap_core.specs.Capture.{changes_of, session_changes, table_changes};
 ghost use Rattle.cap_core.specs.CanCapture.{are_own_records, are_own_tables, is_own_image, is_own_session};
 
 use cap_changes::{ChangeList, Group, is_changed, to_patches};
-use cap_codec::{
-    KeyFlags, changes_are_writable, write_changes_with, write_patches, write_patches_with,
-};
+use cap_codec::{KeyFlags, write_changes_with, write_patches, write_patches_with};
 use cap_database::Database;
 use cap_session::{Attached, Records, Session};
 use cap_table::Table;
@@ -105,17 +101,6 @@ impl<A: AllocHandle> Capture<A> {
         let changes = self.changes(alloc)?;
         let patches = to_patches(alloc, &changes)?;
         write_patches_with(alloc, key_flags, &patches)
-    }
-
-    /// A law: the changes can be written as a changeset, and their patches as a patchset. At run time it
-    /// makes the list, and visits each value.
-    pub fn is_writable(&self, alloc: A) -> Result<(), OutOfMemory>
-        ensures changeset { OnOk result (IsWritable (contents.Changes self.now.changes)) }
-        ensures patchset { OnOk result (IsWritable (contents.Patches (patch_list_of self.now.changes))) }
-    {
-        let changes = self.changes(alloc)?;
-        changes_are_writable(&changes);
-        Ok(())
     }
 
     /// The changes: tables in the order in which they were attached, and within a table in the order of the

@@ -38,7 +38,7 @@ use Rattle.cap_core.specs.Outcome.{Effect, Refused, no_effect, outcome}
 use Rattle.cap_core.specs.Past.{Past, is_accepted}
 use Rattle.cap_core.specs.Session.{session_of, sessions}
 use Rattle.cap_core.specs.Transition.{compared, session_left}
-use Rattle.cap_core.proofs.AppliedCaptureLemmas.{found-rising}
+use Rattle.cap_core_laws.proofs.AppliedCaptureLemmas.{found-rising}
 use Rattle.cap_core.proofs.KeyedLemmas.{ordered}
 use Rattle.cap_core.proofs.ChangeLemmas.{is_changed}
 use Rattle.cap_core.proofs.SessionLemmas.{and_false, record_commit-nothing, session-refused, shown-none}

@@ -45,7 +45,7 @@ use Rattle.cap_core.specs.Session.{all_indirect, session_of}
 use Rattle.cap_core.specs.Table.{BlobsFitPast}
 use Rattle.cap_core.specs.Touch.{Touch, attach_list, attachings, changes_touch, diff_touches, event_attachings, event_changes, event_diff, event_touches, is_recorded, restarts, touch_of, touches, touches_of}
 use Rattle.cap_core_laws.proofs.DiffedLemmas.{quiet-effect}
-use Rattle.cap_core.proofs.AppliedCaptureLemmas.{capture_fits, changes_apply, records-named}
+use Rattle.cap_core_laws.proofs.AppliedCaptureLemmas.{capture_fits, changes_apply, records-named}
 use Rattle.cap_core.proofs.LawLemmas.{first_image}
 use Rattle.cap_core_laws.proofs.StayLemmas.{event-keeps, row_stays}
 use Rattle.cap_core.proofs.HistoryLemmas.{is_among, is_among-first_of_each, none_of, table_names, table_names-append, touches-none, touches_of-append}

@@ -271,5 +271,5 @@ pub fn bytes_of_a_capture_give_the_rows_now<A: AllocHandle>()
 {
     a_capture_gives_the_rows_now::<A>();
     captures_have_no_empty_group::<A>();
-    cap_codec::laws::key_flags_read_alike::<A>();
+    cap_codec_laws::laws::written_is_read_again::<A>();
 }

@@ -2,3 +2,6 @@
 #![tactic(auto)]
 
 pub mod laws;
+mod writable;
+
+pub use writable::a_capture_is_writable;

@@ -7,6 +7,5 @@ pub mod PlanLemmas
 pub mod RunLemmas
 pub mod StayLemmas
 pub mod StepLemmas
-pub mod UndoneLemmas
 pub mod WritesLemmas
 pub mod WriteLemmas

@@ -6,3 +6,4 @@ pub mod RowsInLemmas
 pub mod RowsLemmas
 pub mod TableIdLemmas
 pub mod TableLawLemmas
+pub mod UndoneLemmas

@@ -18,7 +18,7 @@ use Rattle.cap_database_laws.proofs.CommuteLemmas.{Stepped, steps, was_stepped}
 use Rattle.cap_database.proofs.BackLemmas.{one_table}
 use Rattle.cap_database.proofs.KeptLemmas.{each-found, get-put}
 use Rattle.cap_database_laws.proofs.RowsLemmas.{rows-commute}
-use Rattle.cap_database.proofs.UndoneLemmas.{put-again, put-found}
+use Rattle.cap_database_laws.proofs.UndoneLemmas.{put-again, put-found}
 
 some_same : (m n : ℕ) → Some m ≡ Some n → m ≡ n
 some_same m n e = cc

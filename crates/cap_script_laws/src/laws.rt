@@ -20,7 +20,7 @@ pub fn spelled_commands_fit<A: AllocHandle>()
         → All (λ line. BlobFits line.command) lines }
 {
     cap_apply_laws::laws::spelled_blobs_fit_their_columns::<A>();
-    cap_codec::laws::read_is_spelled::<A>();
+    cap_codec_laws::laws::read_is_spelled::<A>();
 }
 
 /// A fault of syntax depends on nothing behind its token: each line that has the same bytes before, and the

@@ -34,7 +34,7 @@ use Rattle.cap_core_laws.specs.Restarts.{first_touched}
 use Rattle.cap_core.specs.Session.{session_of}
 use Rattle.cap_core.specs.Table.{BlobsFitPast}
 use Rattle.cap_core.specs.Touch.{event_touches, restarts, touches}
-use Rattle.cap_core.proofs.AppliedCaptureLemmas.{captured}
+use Rattle.cap_core_laws.proofs.AppliedCaptureLemmas.{captured}
 use Rattle.cap_core.proofs.ToldLemmas.{to_itself}
 use Rattle.cap_captures.specs.Parts.{IsLeftBy, capturing, restarting}
 use Rattle.cap_captures.specs.Rows.{AreInARow}

@@ -37,7 +37,7 @@ use Rattle.cap_core.specs.Past.{HasRoom, Past, is_accepted}
 use Rattle.cap_core.specs.Session.{session_of}
 use Rattle.cap_core.specs.Table.{BlobsFitPast}
 use Rattle.cap_core.specs.Transition.{after_session, after_write, next, session_left}
-use Rattle.cap_core.proofs.AppliedCaptureLemmas.{captured}
+use Rattle.cap_core_laws.proofs.AppliedCaptureLemmas.{captured}
 use Rattle.cap_captures.specs.Parts.{IsLeftBy, capturing, restarting}
 use Rattle.cap_captures.proofs.AcceptedLemmas.{restarts, there-captured}
 use Rattle.cap_test_convergence.specs.declared.synchronisation.NotSynchronised.{NotSynchronised}

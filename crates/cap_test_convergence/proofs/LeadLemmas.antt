@@ -28,7 +28,7 @@ use Rattle.cap_core_laws.specs.Restarts.{first_touched}
 use Rattle.cap_core.specs.Session.{session_of}
 use Rattle.cap_core.specs.Table.{BlobsFitPast}
 use Rattle.cap_core.specs.Touch.{touches}
-use Rattle.cap_core.proofs.AppliedCaptureLemmas.{session-distinct, session-sorted}
+use Rattle.cap_core_laws.proofs.AppliedCaptureLemmas.{session-distinct, session-sorted}
 use Rattle.cap_captures.specs.Rows.{AreInARow, row_changes}
 use Rattle.cap_captures.proofs.CaptureLemmas.{captured-row, groups-known, no-table-row, row-under}
 use Rattle.cap_captures.proofs.ConcatLemmas.{some_same}

@@ -18,7 +18,8 @@ ghost use Rattle.cap_test_convergence.specs.Synchronised.{Explains, HaveOneBase,
 
 use cap_apply::{Answer, Policy, Report};
 use cap_changes::ChangeList;
-use cap_codec::{Contents, changes_are_writable, read_blob, write_changes};
+use cap_codec::{Contents, read_blob, write_changes};
+use cap_codec_laws::changes_are_writable;
 use cap_core::{Capture, Command, Core, EVENTS_MAX, QuietSessions, Reply, SessionCommand};
 use cap_rebase::{Rebaser, buffer_of};
 use cap_session::SessionChange;

@@ -10,6 +10,7 @@ ghost use Rattle.cap_test_replicas.specs.Replica.{Explains, IsNoCapture, IsRepli
 use cap_apply::{Applied, Policy, apply};
 use cap_codec::read_blob;
 use cap_core::{Capture, Command, Reply, SessionCommand};
+use cap_core_laws::a_capture_is_writable;
 use cap_database::Database;
 use cap_locked::CallFault;
 use cap_server::{Naming, Seat, Server};
@@ -71,7 +72,7 @@ pub fn replicate<J: Naming, A: AllocHandle, R: Wait>(
     let Some(capture) = captured(reply) else {
         return Err(NotReplicated::NoCapture);
     };
-    match capture.is_writable(alloc) {
+    match a_capture_is_writable(&capture, alloc) {
         Ok(()) => {}
         Err(_) => return Err(NotReplicated::OutOfMemory),
     }

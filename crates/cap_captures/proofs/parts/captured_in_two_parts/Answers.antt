@@ -12,7 +12,7 @@ returns-in-Some-5-clause-parts g c =
     parts-made h c.args.core.now session first second stands c.in-Some.start (subst (Starts session c.args.core.now) c.in-Some.is c.in_ok-start.ensures)
     c.in-Some-2.one (subst (GivesPart session c.in-Some.start first) c.in-Some-2.is c.in_ok-one.ensures) c.in-Some-3.two (subst (GivesPart session c.in-Some-2.one.core second) c.in-Some-3.is c.in_ok-two.ensures)
     (λ past session capture is writable. c.bytes_of_a_capture_give_the_rows_now.ensures.changeset_read past session capture Ones is writable) c.captures_in_a_row_are_the_one_capture.ensures.concatenation
-    c.in_ok-is_writable.ensures.changeset c.in_ok-is_writable-2.ensures.changeset
+    c.in_ok-a_capture_is_writable.ensures.changeset c.in_ok-a_capture_is_writable-2.ensures.changeset
     c.in-Some-4.whole (subst (GivesWhole session c.in-Some.start first second) c.in-Some-4.is c.in_ok-whole.ensures) c.the_concatenation_applies_as_its_captures.ensures.changesets c.the_one_capture_is_without_restarts.ensures
     c.in_ok-together.field-0 c.in-Some-5.together (λ p q is is'. of_ok _ c.concatenated.result c.in_ok-together.field-0 c.in_ok-together.was (c.concatenated.ensures p q is is')) c.in-Some-5.is
 
@@ -48,5 +48,5 @@ returns-clause-none g c =
     always-joined h c.args.core.now session first second stands c.in-Some.start (subst (Starts session c.args.core.now) c.in-Some.is c.in_ok-start.ensures)
     c.in-Some-2.one (subst (GivesPart session c.in-Some.start first) c.in-Some-2.is c.in_ok-one.ensures) c.in-Some-3.two (subst (GivesPart session c.in-Some-2.one.core second) c.in-Some-3.is c.in_ok-two.ensures)
     (λ past session capture is writable. c.bytes_of_a_capture_give_the_rows_now.ensures.changeset_read past session capture Ones is writable) c.captures_in_a_row_are_the_one_capture.ensures.concatenation
-    c.in_ok-is_writable.ensures.changeset c.in_ok-is_writable-2.ensures.changeset
+    c.in_ok-a_capture_is_writable.ensures.changeset c.in_ok-a_capture_is_writable-2.ensures.changeset
     c.in_ok-together.field-0 (λ p q is is'. of_ok _ c.concatenated.result c.in_ok-together.field-0 c.in_ok-together.was (c.concatenated.ensures p q is is')) c.in-None.is

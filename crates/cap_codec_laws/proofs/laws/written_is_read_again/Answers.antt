@@ -1,6 +1,8 @@
-use Rattle.cap_codec.specs.declared.key_flags.KeyFlags.TheVariants.{Ones}
-use Rattle.cap_codec.proofs.BlobAgain.{written_again}
+use Rattle.cap_codec.proofs.BlobAgain.{written_again, written_spelled}
 use Rattle.cap_codec_laws.proofs.laws.written_is_read_again.Goals as goal
 
-pub returns : goal.returns
-returns g c = written_again Ones
+pub returns-clause-spelled : goal.returns-clause-spelled
+returns-clause-spelled g c = written_spelled
+
+pub returns-clause-read : goal.returns-clause-read
+returns-clause-read g c = written_again

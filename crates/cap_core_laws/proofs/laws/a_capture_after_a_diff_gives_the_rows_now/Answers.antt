@@ -1,6 +1,6 @@
 use Rattle.std.proofs.Common.{◌∷◌, ◌++◌}
 use Rattle.cap_core_laws.proofs.DiffedLemmas.{all-rows, holds, rising-now}
-use Rattle.cap_core.proofs.AppliedCaptureLemmas.{changeset_applies, patchset_applies}
+use Rattle.cap_core_laws.proofs.AppliedCaptureLemmas.{changeset_applies, patchset_applies}
 use Rattle.cap_core.proofs.KeyedLemmas.{main-rises}
 use Rattle.cap_core_laws.proofs.SavedLemmas.{found-rises}
 use Rattle.cap_core_laws.proofs.laws.a_capture_after_a_diff_gives_the_rows_now.Goals as goal

@@ -1,5 +1,5 @@
 use Rattle.std.proofs.Common.{refl}
-use Rattle.cap_core.proofs.AppliedCaptureLemmas.{captured-at, changeset_applies, patchset_applies}
+use Rattle.cap_core_laws.proofs.AppliedCaptureLemmas.{captured-at, changeset_applies, patchset_applies}
 use Rattle.cap_core.proofs.KeyedLemmas.{main-rises}
 use Rattle.cap_core_laws.proofs.laws.a_capture_gives_the_rows_now.Goals as goal
 

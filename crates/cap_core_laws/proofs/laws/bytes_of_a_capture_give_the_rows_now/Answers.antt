@@ -7,14 +7,14 @@ use Rattle.cap_codec.specs.Writable.{of_patches}
 use Rattle.cap_core.specs.AppliedCapture.{changes_in}
 use Rattle.cap_core.specs.History.{main}
 use Rattle.cap_core.specs.Session.{session_of}
-use Rattle.cap_core.proofs.BytesLemmas.{changes-read, one-blob, patches-read, read-applies, read-patches-apply}
+use Rattle.cap_core_laws.proofs.BytesLemmas.{changes-read, one-blob, patches-read, read-applies, read-patches-apply}
 use Rattle.cap_core_laws.proofs.laws.bytes_of_a_capture_give_the_rows_now.Goals as goal
 
 pub returns : goal.returns
 returns g c =
     let gives = c.a_capture_gives_the_rows_now.ensures in
     let some = c.captures_have_no_empty_group.ensures in
-    let alike = c.key_flags_read_alike.ensures.read in
+    let alike = c.written_is_read_again.ensures.read in
     record {
       changeset_read = λ past session capture key_flags is writable. changes-read alike key_flags capture.changes (some past session capture is) writable;
       patchset_read = λ past session capture key_flags is writable. patches-read alike key_flags capture.changes (some past session capture is) writable;

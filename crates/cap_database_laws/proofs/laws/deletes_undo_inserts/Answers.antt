@@ -1,4 +1,4 @@
-use Rattle.cap_database.proofs.UndoneLemmas.{insert_then_delete}
+use Rattle.cap_database_laws.proofs.UndoneLemmas.{insert_then_delete}
 use Rattle.cap_database_laws.proofs.laws.deletes_undo_inserts.Goals as goal
 
 pub returns : goal.returns

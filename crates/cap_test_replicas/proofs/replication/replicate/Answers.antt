@@ -27,7 +27,7 @@ carry-requires g c =
     subst (λ (r : Reply g.row.A.Denot). HasCalled old new (Session c.args.session Capture) r) c.in-Some.ensures c.in-Ok.ensures.called in
     let reads = reads-in c.args.form (λ past session made is writable. (Changes made.changes, laws.changeset_read past session made Ones is writable))
     (λ past session made is writable. (of_patches (patch_list_of made.changes), laws.patchset_read past session made Ones is writable)) in
-    let read = is-read c.args.form reads replied answers old new c.args.session capture called c.in-Ok-is_writable.ensures.changeset in
+    let read = is-read c.args.form reads replied answers old new c.args.session capture called c.in-Ok-a_capture_is_writable.ensures.changeset in
     record { reads = read }
 
 pub returns-in-Ok-carry-clause-replicated : goal.returns-in-Ok-carry-clause-replicated
@@ -42,10 +42,10 @@ returns-in-Ok-carry-clause-replicated g c =
     subst (λ (r : Reply g.row.A.Denot). HasCalled old new (Session c.args.session Capture) r) c.in-Some.ensures c.in-Ok.ensures.called in
     let reads = reads-in c.args.form (λ past session made is writable. (Changes made.changes, laws.changeset_read past session made Ones is writable))
     (λ past session made is writable. (of_patches (patch_list_of made.changes), laws.patchset_read past session made Ones is writable)) in
-    let read = is-read c.args.form reads replied answers old new c.args.session capture called c.in-Ok-is_writable.ensures.changeset in
+    let read = is-read c.args.form reads replied answers old new c.args.session capture called c.in-Ok-a_capture_is_writable.ensures.changeset in
     let gives = gives-in c.args.form (λ past session made database policy blob. laws.changeset past session made database policy Ones blob)
     (λ past session made database policy blob. laws.patchset past session made database policy Ones blob) in
-    is-replicated c.args.form c.args.policy gives replied answers c.fitting_histories_grow.ensures.begins c.fitting_histories_grow.ensures.past old new c.args.session capture c.args.replica.now c.database_rises.ensures c.in-Ok-is_writable.ensures.changeset called read.0 read.1 c.in-Ok-carry.applied (c.in-Ok-carry.ensures read.0 read.1)
+    is-replicated c.args.form c.args.policy gives replied answers c.fitting_histories_grow.ensures.begins c.fitting_histories_grow.ensures.past old new c.args.session capture c.args.replica.now c.database_rises.ensures c.in-Ok-a_capture_is_writable.ensures.changeset called read.0 read.1 c.in-Ok-carry.applied (c.in-Ok-carry.ensures read.0 read.1)
 
 pub returns-in-Err-Refused-clause-explained : goal.returns-in-Err-Refused-clause-explained
 returns-in-Err-Refused-clause-explained g c =
@@ -59,8 +59,8 @@ returns-in-Err-Refused-clause-explained g c =
     subst (λ (r : Reply g.row.A.Denot). HasCalled old new (Session c.args.session Capture) r) c.in-Some.ensures c.in-Ok.ensures.called in
     let reads = reads-in c.args.form (λ past session made is writable. (Changes made.changes, laws.changeset_read past session made Ones is writable))
     (λ past session made is writable. (of_patches (patch_list_of made.changes), laws.patchset_read past session made Ones is writable)) in
-    let read = is-read c.args.form reads replied answers old new c.args.session capture called c.in-Ok-is_writable.ensures.changeset in
+    let read = is-read c.args.form reads replied answers old new c.args.session capture called c.in-Ok-a_capture_is_writable.ensures.changeset in
     let gives = gives-in c.args.form (λ past session made database policy blob. laws.changeset past session made database policy Ones blob)
     (λ past session made database policy blob. laws.patchset past session made database policy Ones blob) in
     let refused = c.in-Err-Refused.ensures read.0 read.1 in
-    (capture, called, never-refused c.args.form c.args.policy gives replied answers c.fitting_histories_grow.ensures.begins c.fitting_histories_grow.ensures.past old new c.args.session capture c.args.replica.now c.database_rises.ensures c.in-Ok-is_writable.ensures.changeset called read.0 read.1 c.in-Err-Refused.why (rw c.in-Err-Refused.field-0-is at refused))
+    (capture, called, never-refused c.args.form c.args.policy gives replied answers c.fitting_histories_grow.ensures.begins c.fitting_histories_grow.ensures.past old new c.args.session capture c.args.replica.now c.database_rises.ensures c.in-Ok-a_capture_is_writable.ensures.changeset called read.0 read.1 c.in-Err-Refused.why (rw c.in-Err-Refused.field-0-is at refused))

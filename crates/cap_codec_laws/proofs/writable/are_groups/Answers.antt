@@ -2,7 +2,7 @@ use Rattle.std.proofs.Common.{subst}
 use Rattle.std.specs.Prelude.{All}
 use Rattle.cap_codec.specs.Writable.{IsGroupOf}
 use Rattle.cap_changes.proofs.EachLemmas.{all_more, all_of}
-use Rattle.cap_codec.proofs.writable.are_groups.Goals as goal
+use Rattle.cap_codec_laws.proofs.writable.are_groups.Goals as goal
 
 pub loop-group-preserved : goal.loop-group-preserved
 loop-group-preserved g c = all_more (IsGroupOf g.C.Entry.fits_in g.C.Entry.has_values) _ c.loop-group.group-index c.group-item.result c.loop-group-test.true c.group-item.is c.loop-group.invariant c.is_group.ensures

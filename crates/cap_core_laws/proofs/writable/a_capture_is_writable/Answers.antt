@@ -2,8 +2,8 @@ use Rattle.std.proofs.Common.{subst}
 use Rattle.cap_changes.specs.Patch.{patch_list_of}
 use Rattle.cap_codec.specs.Writable.{IsWritable}
 use Rattle.cap_codec.specs.declared.read.Contents.TheVariants.{Changes, Patches}
-use Rattle.cap_core.proofs.BytesLemmas.{patches-writable}
-use Rattle.cap_core.proofs.capture.Capture.is_writable.Goals as goal
+use Rattle.cap_core_laws.proofs.BytesLemmas.{patches-writable}
+use Rattle.cap_core_laws.proofs.writable.a_capture_is_writable.Goals as goal
 
 pub returns-clause-changeset : goal.returns-clause-changeset
 returns-clause-changeset g c = subst (λ list. IsWritable (Changes list)) c.in_ok-changes.ensures c.changes_are_writable.ensures.writable

@@ -1,6 +1,6 @@
 use Rattle.cap_codec.proofs.BlobAgain.{blob_again}
 use Rattle.cap_codec.proofs.SpelledBlob.{blob_spelled, low_bytes}
-use Rattle.cap_codec.proofs.laws.read_is_spelled.Goals as goal
+use Rattle.cap_codec_laws.proofs.laws.read_is_spelled.Goals as goal
 
 pub returns-clause-read : goal.returns-clause-read
 returns-clause-read g c = λ bytes blob spelled. blob_again blob bytes spelled

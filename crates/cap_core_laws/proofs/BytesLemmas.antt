@@ -34,7 +34,7 @@ use Rattle.cap_core.specs.History.{main}
 use Rattle.cap_core.specs.Past.{Past}
 use Rattle.cap_core.specs.Session.{session_of}
 use Rattle.cap_core.proofs.KeyedLemmas.{each_passes}
-use Rattle.cap_core.proofs.AppliedCaptureLemmas.{captured}
+use Rattle.cap_core_laws.proofs.AppliedCaptureLemmas.{captured}
 
 filter-all : {X : Type 0} (test : X → Bool) (xs : List X) → All (λ x. test x ≡ true) xs → filter test xs ≡ xs
 filter-all test [] all = refl

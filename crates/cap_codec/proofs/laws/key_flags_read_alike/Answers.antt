@@ -1,8 +1,0 @@
-use Rattle.cap_codec.proofs.BlobAgain.{written_again, written_spelled}
-use Rattle.cap_codec.proofs.laws.key_flags_read_alike.Goals as goal
-
-pub returns-clause-spelled : goal.returns-clause-spelled
-returns-clause-spelled g c = written_spelled
-
-pub returns-clause-read : goal.returns-clause-read
-returns-clause-read g c = written_again
