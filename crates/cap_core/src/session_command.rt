@@ -14,7 +14,6 @@ use cap_session::SessionChange;
 use cap_value::{AllocHandle, Name};
 
 /// A command to one session. Where a variant names no other, the reply is `Done`.
-#[derive(Drop)]
 pub enum SessionCommand<A: AllocHandle> {
     /// Deletes the session (sqlite3session_delete). Its number is never reused.
     Delete,
@@ -43,6 +42,20 @@ pub enum SessionCommand<A: AllocHandle> {
     },
     /// Captures its changes (sqlite3session_changeset, sqlite3session_patchset). The reply is `Capture`.
     Capture,
+}
+
+// A derived `Drop` would be opened in each caller.
+impl<A: AllocHandle> Drop for SessionCommand<A> {
+    fn drop(self) {
+        match self {
+            SessionCommand::Delete => {}
+            SessionCommand::Attach { table: _ } => {}
+            SessionCommand::Change(_) => {}
+            SessionCommand::IsEmpty => {}
+            SessionCommand::Diff { from: _, table: _ } => {}
+            SessionCommand::Capture => {}
+        }
+    }
 }
 
 impl<A: AllocHandle> Command<A> {

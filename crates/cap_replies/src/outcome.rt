@@ -9,7 +9,6 @@ use cap_txn::Answer;
 use cap_value::{AllocHandle, OutOfMemory};
 
 /// What a step of a transaction or of an application over several lines led to, where no command of the server answers it.
-#[derive(Drop)]
 pub enum Outcome<A: AllocHandle> {
     /// The open transaction answered a call.
     Answer(Answer<A>),
@@ -27,6 +26,22 @@ pub enum Outcome<A: AllocHandle> {
     Unanswered,
     /// The row has another key than the change in whose place it is put.
     OtherKey,
+}
+
+// A derived `Drop` would be opened in each caller.
+impl<A: AllocHandle> Drop for Outcome<A> {
+    fn drop(self) {
+        match self {
+            Outcome::Answer(_) => {}
+            Outcome::Begun => {}
+            Outcome::RolledBack => {}
+            Outcome::NoTransaction => {}
+            Outcome::InTransaction => {}
+            Outcome::NoConflict => {}
+            Outcome::Unanswered => {}
+            Outcome::OtherKey => {}
+        }
+    }
 }
 
 /// Appends what a step led to, in the form that its line asks for, to `out`, without a line feed at its end.

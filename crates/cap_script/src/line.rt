@@ -19,7 +19,6 @@ use cap_table::RowRef;
 use cap_value::{AllocHandle, Fault, Name, Refusal};
 
 /// How a reply is printed.
-#[derive(Drop)]
 pub enum Show<A: AllocHandle> {
     /// The reply alone.
     Plain,
@@ -45,6 +44,24 @@ pub enum Show<A: AllocHandle> {
     Decided(Report<A>, Option<u64>),
 }
 
+// A derived `Drop` would be opened in each caller.
+impl<A: AllocHandle> Drop for Show<A> {
+    fn drop(self) {
+        match self {
+            Show::Plain => {}
+            Show::Get(_, _) => {}
+            Show::Scan(_) => {}
+            Show::Step(_) => {}
+            Show::Changeset(_) => {}
+            Show::Patchset(_) => {}
+            Show::Report => {}
+            Show::Buffer => {}
+            Show::Accepted(_, _) => {}
+            Show::Decided(_, _) => {}
+        }
+    }
+}
+
 /// How much of the outcome of an apply is printed.
 #[derive(Clone, Copy, Debug, PartialEq, Eq, Drop)]
 pub enum Detail {
@@ -57,7 +74,6 @@ pub enum Detail {
 }
 
 /// A line of a workload: a command, its worker, and how its reply is printed.
-#[derive(Drop)]
 pub struct Line<A: AllocHandle> {
     /// The number after `@`, from 0 to 63, if the line has one.
     pub worker: Option<u64>,
@@ -67,7 +83,30 @@ pub struct Line<A: AllocHandle> {
     pub show: Show<A>,
 }
 
+// A derived `Drop` would be opened in each caller.
+impl<A: AllocHandle> Drop for Line<A> {
+    fn drop(self) {
+        let Line {
+            worker: _,
+            command: _,
+            show: _,
+        } = self;
+    }
+}
+
 impl<A: AllocHandle> Line<A> {
+    /// Its command.
+    pub fn into_command(self) -> Command<A>
+        ensures { result ≡ self.command }
+    {
+        let Line {
+            worker: _,
+            command,
+            show: _,
+        } = self;
+        command
+    }
+
     // The line with this text, which is not ignored.
     pub(crate) fn parse(alloc: A, text: &str) -> Result<Self, LineFault>
         ensures spelled { IfOk result (λ line. SpellsLine line text.now) }

@@ -18,7 +18,6 @@ use cap_txn::{Asked, Mark};
 use cap_value::AllocHandle;
 
 /// A step of a transaction over several lines, or of an application that stops at each conflict.
-#[derive(Drop)]
 pub enum Step<A: AllocHandle> {
     /// Begins a transaction.
     Begin,
@@ -34,6 +33,21 @@ pub enum Step<A: AllocHandle> {
     Answer(Answer),
     /// Puts a row in place of the change that met it.
     Put(Row<A>),
+}
+
+// A derived `Drop` would be opened in each caller.
+impl<A: AllocHandle> Drop for Step<A> {
+    fn drop(self) {
+        match self {
+            Step::Begin => {}
+            Step::Call(_) => {}
+            Step::Rollback => {}
+            Step::End => {}
+            Step::ApplyEach(_, _) => {}
+            Step::Answer(_) => {}
+            Step::Put(_) => {}
+        }
+    }
 }
 
 // A step. Where no transaction can be open, its line only reads.

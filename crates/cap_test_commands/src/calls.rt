@@ -121,7 +121,7 @@ fn answers<J: Naming>(
     let shown = parse(alloc, WORKLOAD).ok()?;
     let mut shown = shown.lines.iter();
     for line in parse(alloc, WORKLOAD).ok()?.lines {
-        let reply = call(rt, server, seat, line.command).ok()?;
+        let reply = call(rt, server, seat, line.into_command()).ok()?;
         push_reply(alloc, texts, shown.next(), &reply)?;
     }
     Some(())

@@ -80,7 +80,7 @@ fn a_session_and_what_it_captures(rt: HostRuntime) {
 fn commands(alloc: Global, text: &str) -> Option<Vec<Command<Global>>> {
     let mut commands = Vec::new(alloc);
     for line in parse(alloc, text).ok()?.lines {
-        commands.push(line.command).ok()?;
+        commands.push(line.into_command()).ok()?;
     }
     Some(commands)
 }
