@@ -1,18 +1,15 @@
 //! Captures: the changes of a session as a list and as bytes.
 ghost use Rattle.std.specs.Prelude.{◌≡◌, [], ◌++◌, Some, IfOk, IsTrue};
-ghost use Rattle.std.specs.List.{cons_option, filter_map, list_all};
-ghost use Rattle.std.specs.Option.{option_copied, option_map, ForSome};
-ghost use Rattle.cap_row.specs.Key.{fields_cmp};
+ghost use Rattle.std.specs.List.{cons_option};
+ghost use Rattle.std.specs.Option.{option_copied, option_map};
 ghost use Rattle.cap_row.specs.Schema.{has_key};
-ghost use Rattle.cap_table.specs.Sound.{is_keyed_row};
 ghost use Rattle.cap_tree.specs.Tree.{get};
-ghost use Rattle.cap_changes.specs.Change.{HaveSameKey, IsKeyedRow, change_of};
 ghost use Rattle.cap_changes.specs.Patch.{patch_list_of};
 ghost use Rattle.cap_changes.specs.Touched.{is_changed};
 ghost use Rattle.cap_codec.specs.Changeset.{list_bytes, list_bytes_with};
 ghost use Rattle.cap_codec.specs.Patchset.{patch_list_bytes, patch_list_bytes_with};
 ghost use Rattle.cap_core.specs.Capture.{changes_of, session_changes, table_changes};
-ghost use Rattle.cap_core.specs.CanCapture.{are_own_records, are_own_tables, is_own_image, is_own_session};
+ghost use Rattle.cap_core.specs.CanCapture.{are_own_records, are_own_tables, is_own_session};
 
 use cap_changes::{ChangeList, Group, is_changed, to_patches};
 use cap_codec::{KeyFlags, write_changes_with, write_patches, write_patches_with};

@@ -12,7 +12,7 @@ ghost use Rattle.cap_core.specs.Code.CommandOutcome.{ReservesWrite};
 ghost use Rattle.cap_core.specs.Outcome.{applied, change_refused, commit_unless, created, made};
 ghost use Rattle.cap_txn.specs.Stale.{stale};
 ghost use Rattle.cap_core.specs.Past.{HasRoom};
-ghost use Rattle.cap_core.specs.Transition.{after_write, written};
+ghost use Rattle.cap_core.specs.Transition.{written};
 ghost use Rattle.cap_value.specs.Memory.{AnswersUnlessMemory};
 
 use crate::commit_hook::{RecordingHook, ask};
