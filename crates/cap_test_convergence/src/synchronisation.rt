@@ -21,6 +21,7 @@ use cap_changes::ChangeList;
 use cap_codec::{Contents, read_blob, write_changes};
 use cap_codec_laws::changes_are_writable;
 use cap_core::{Capture, Command, Core, EVENTS_MAX, QuietSessions, Reply, SessionCommand};
+use cap_core_laws::a_capture_is_writable;
 use cap_rebase::{Rebaser, buffer_of};
 use cap_session::SessionChange;
 use cap_value::{AllocHandle, Fault, OutOfMemory, Refusal};
@@ -238,7 +239,7 @@ fn sent_by<A: AllocHandle>(alloc: A, capture: &Capture<A>) -> Result<Vec<u8, A>,
     ensures writable { IfOk result (λ bytes. IsWritable (Changes capture.now.changes)) }
     ensures hindered { IfErr result (Hinders ⊥ (λ _. ⊥) ⊥) }
 {
-    capture.is_writable(alloc)?;
+    a_capture_is_writable(capture, alloc)?;
     Ok(capture.changeset(alloc)?)
 }
 
