@@ -239,7 +239,7 @@ pub fn captures_have_no_empty_group<A: AllocHandle>()
 /// the patches of these, or as an empty changeset where there is no change. What is read, applied to a
 /// database with the first images, gives the present rows at the touched keys, and changes nothing else. It
 /// counts each change as applied, under any policy, and there is no conflict. The changes of every capture
-/// can be written (`Capture::is_writable`).
+/// can be written (`a_capture_is_writable`).
 pub fn bytes_of_a_capture_give_the_rows_now<A: AllocHandle>()
     ensures changeset_read { (past : Past A) (session : ℕ) (capture : CaptureState A)
         (key_flags : KeyFlags)
