@@ -10,7 +10,10 @@ use cap_value::{AllocHandle, OutOfMemory};
 
 /// A law: the changes of a capture can be written as a changeset, and their patches as a patchset. At run
 /// time it makes the list, and visits each group.
-pub fn a_capture_is_writable<A: AllocHandle>(capture: &Capture<A>, alloc: A) -> Result<(), OutOfMemory>
+pub fn a_capture_is_writable<A: AllocHandle>(
+    capture: &Capture<A>,
+    alloc: A,
+) -> Result<(), OutOfMemory>
     ensures changeset { OnOk result (IsWritable (contents.Changes capture.now.changes)) }
     ensures patchset { OnOk result (IsWritable (contents.Patches (patch_list_of capture.now.changes))) }
 {
