@@ -1,5 +1,5 @@
 -- Where an item stands in a list in which each stands once.
-use Rattle.std.proofs.Common.{◌≡◌, ℕ, zero, suc, ◌+◌, ◌<◌, ◌≤◌, Bool, true, false, cond, ◌||◌, Option, Some, None, List, [], ◌∷◌, ◌++◌, length, take, get_or, refl, sym, ap, subst, ◌∙◌, arith, ◌⊎◌, inl, inr, Ordering}
+use Rattle.std.proofs.Common.{◌≡◌, ℕ, zero, suc, ◌+◌, ◌-◌, ◌<◌, ◌==◌, ◌≤◌, Bool, true, false, cond, ◌||◌, Option, Some, None, List, [], ◌∷◌, ◌++◌, length, take, get_or, refl, sym, ap, ◌∙◌, arith, ◌⊎◌, inl, inr, Ordering}
 use Rattle.std.specs.List.{list_any}
 use Rattle.std.specs.Ordering.{eq_by_cmp}
 use Rattle.std.specs.Cmp.{IsTotalOrder}
@@ -7,6 +7,16 @@ use Rattle.std.proofs.lemmas.Cmp.{eq_by_cmp_equiv}
 use Rattle.cap_tree.specs.Tree.{Updates, get}
 use Rattle.std.proofs.lemmas.List.{take-append-le}
 use Rattle.cap_txn.specs.OrderedSet.{AreKnown, with_each, with_item}
+
+-- a list with an item of this kind at a place has one
+any-at : {X : Type 0} (p : X → Bool) (items : List X) (i : ℕ) (d : X) → i < length items → p (get_or items i d) ≡ true → list_any p items ≡ true
+any-at p [] i d few is = absurd (omega arith)
+any-at p (x ∷ xs) zero d few is = ap (λ (b : Bool). b || list_any p xs) is
+any-at p (x ∷ xs) (suc i) d few is = elim (p x) as (λ b. (b || list_any p xs) ≡ true) [ true ↦ refl | false ↦ any-at p xs i d (omega arith) is ]
+
+pub any-last : {X : Type 0} (p : X → Bool) (items : List X) (d : X) → false ≡ (length items == 0) → p (get_or items (length items - 1) d) ≡ true → list_any p items ≡ true
+any-last p [] d some is = absurd (cc)
+any-last p (x ∷ xs) d some is = any-at p (x ∷ xs) (length (x ∷ xs) - 1) d (omega arith) is
 
 module _ {K : Type 0} (cmp : K → K → Ordering) (o : IsTotalOrder cmp) where
   -- keys that the order does not tell apart have the same

@@ -1,5 +1,5 @@
 //! Items, each once, in the order in which they came first.
-ghost use Rattle.std.specs.Prelude.{◌≡◌, ◌≤◌, [], IfOk, OnOk, OnErr, length, take};
+ghost use Rattle.std.specs.Prelude.{◌≡◌, ◌≤◌, [], IfOk, OnOk, OnErr, length, take, true};
 ghost use Rattle.std.specs.List.{list_any};
 ghost use Rattle.std.specs.Ordering.{eq_by_cmp};
 ghost use Rattle.cap_txn.specs.OrderedSet.{with_item, with_each, AreKnown};
@@ -93,11 +93,14 @@ impl<K: Ord + Exact + Drop, A: AllocHandle> OrderedSet<K, A> {
     }
 }
 
-// Whether the item is there.
+// Whether the item is there. The last one is looked at first, since a row that was read is often written next.
 fn holds<K: Ord, A: AllocHandle>(items: &[K], places: &Tree<K, u64, A>, item: &K) -> bool
     requires { AreKnown K.cmp places.now 0 items.now }
     ensures { result ≡ list_any (eq_by_cmp K.cmp item.now) items.now }
 {
+    if is_last(items, item) {
+        return true;
+    }
     let Some(place) = places.get(item) else {
         return false;
     };
@@ -105,6 +108,17 @@ fn holds<K: Ord, A: AllocHandle>(items: &[K], places: &Tree<K, u64, A>, item: &K
         return false;
     }
     item.cmp(&items[*place as usize]).is_eq()
+}
+
+// Whether the item is the last one.
+#[inline]
+fn is_last<K: Ord>(items: &[K], item: &K) -> bool
+    ensures { result ≡ true → list_any (eq_by_cmp K.cmp item.now) items.now ≡ true }
+{
+    if items.is_empty() {
+        return false;
+    }
+    item.cmp(&items[items.len() - 1]).is_eq()
 }
 
 // Puts copies of items last, each unless it is there. Without memory everything is as before.

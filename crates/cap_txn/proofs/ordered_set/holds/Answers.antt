@@ -1,7 +1,10 @@
-use Rattle.std.proofs.Common.{◌≡◌, sym, ap, ◌∙◌, arith, inr}
+use Rattle.std.proofs.Common.{sym, ap, ◌∙◌, arith, inr}
 use Rattle.std.specs.Ordering.{eq_by_cmp, is_eq}
 use Rattle.cap_txn.proofs.OrderedSetLemmas.{at-there, none-there, outside-there}
 use Rattle.cap_txn.proofs.ordered_set.holds.Goals as goal
+
+pub returns-then-is_last : goal.returns-then-is_last
+returns-then-is_last g c = sym (c.is_last.ensures c.if-is_last.true)
 
 pub returns-in_default : goal.returns-in_default
 returns-in_default g c = sym (none-there g.K.Ord.cmp g.met.K.Ord.total c.args.places.now 0 c.args.items.now c.args.item.now c.requires (sym c.in_default.ensures))

@@ -1,7 +1,6 @@
-use Rattle.std.proofs.Common.{◌≡◌, ◌∷◌, [], ◌++◌, ◌+◌, List, length, false, Some, sym, ap, subst, ◌∙◌, arith}
+use Rattle.std.proofs.Common.{◌≡◌, ◌∷◌, [], ◌++◌, ◌+◌, List, length, false, sym, ap, subst, ◌∙◌, arith}
 use Rattle.std.specs.List.{list_any}
 use Rattle.std.specs.Ordering.{eq_by_cmp}
-use Rattle.cap_tree.specs.Tree.{Updates}
 use Rattle.cap_txn.specs.OrderedSet.{AreKnown}
 use Rattle.cap_txn.proofs.OrderedSetLemmas.{known-more}
 use Rattle.cap_txn.proofs.ordered_set.OrderedSet.add.Goals as goal
