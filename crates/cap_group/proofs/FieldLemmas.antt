@@ -1,6 +1,7 @@
 -- Two records of one row, field by field, by the bytes of their fields.
 use Rattle.std.proofs.Common.{◌≡◌, ℕ, ◌+◌, ◌<◌, List, [], ◌∷◌, ◌++◌, Bool, true, false, not, ◌&&◌, ◌||◌, cond, length, drop, get_or, Option, Some, None, IfSome, ◌⊎◌, inl, inr, refl, sym, ap, ◌∙◌, append_assoc, append-nil}
 use Rattle.std.proofs.Math.Bool.{or_assoc}
+use Rattle.std.specs.List.{cons_option}
 use Rattle.cap_value.specs.Bytes.{bytes_eq}
 use Rattle.cap_value.specs.declared.value.Value.{Value}
 use Rattle.cap_value.specs.declared.value.Value.TheVariants.{Null, Int, Text, Blob}
@@ -13,6 +14,7 @@ use Rattle.cap_changes.specs.Record.{BeginsWithField}
 use Rattle.cap_changes.proofs.PassLemmas.{flags-cons}
 use Rattle.cap_changes.proofs.PutLemmas.{goes_on}
 use Rattle.cap_changes.proofs.TouchedLemmas.{choose, eq_by_bytes}
+use Rattle.cap_group.specs.ChangeKey.{key_values}
 use Rattle.cap_group.specs.Put.{IsPut}
 use Rattle.cap_group.specs.Record as together
 
@@ -21,6 +23,13 @@ or_none true b none = refl
 or_none false b none = sym none
 
 module _ {A : Type 0} where
+  -- a column outside the key has no value of it
+  pub outside_key : (keys : List Bool) (fields : RecordFields A) → key_values (keys ++ false ∷ []) fields ≡ key_values keys fields
+  outside_key [] [] = refl
+  outside_key [] (field ∷ fields) = refl
+  outside_key (key ∷ keys) [] = refl
+  outside_key (key ∷ keys) (field ∷ fields) = ap (cons_option (cond key field None)) (outside_key keys fields)
+
   -- fields that are the same have the same bytes, and no others
   pub field_eq_bytes : (b a : (Option (Value A))) → IfSome b IsValue → IfSome a IsValue → bytes_eq (field_bytes b) (field_bytes a) ≡ together.field_eq b a
   field_eq_bytes None None p q = refl

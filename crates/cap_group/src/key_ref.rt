@@ -3,6 +3,7 @@ ghost use Rattle.std.specs.Prelude.{◌≡◌, ◌∷◌, [], MatchOption, None,
 ghost use Rattle.std.specs.Map.Iter.{TakesFirst};
 ghost use Rattle.cap_field.specs.FieldReading.{value_of};
 ghost use Rattle.cap_row.specs.Key.{fields_cmp};
+ghost use Rattle.cap_changes.specs.FieldRecord.{RecordFields};
 ghost use Rattle.cap_group.specs.ChangeKey.{key_values};
 
 use cap_changes::RecordRef;
@@ -28,12 +29,15 @@ impl<'a, A: AllocHandle> Model for KeyRef<'a, A> {
 }
 
 impl<'a, A: AllocHandle> KeyRef<'a, A> {
-    // The values of the key fields of a record.
+    // The values of the key fields of a record. No field behind the last one of the key is looked at.
     #[inline(always)]
     pub(crate) fn new(flags: &'a [bool], fields: RecordRef<'a, A>) -> Self
         ensures { result ≡ key_values flags.now fields.entry }
     {
-        KeyRef { flags, fields }
+        KeyRef {
+            flags: key_columns::<A>(flags),
+            fields,
+        }
     }
 
     #[inline(always)]
@@ -80,6 +84,21 @@ impl<'a, A: AllocHandle> KeyRef<'a, A> {
             }
         }
     }
+}
+
+// The key flags up to the last column of the key.
+#[inline(always)]
+fn key_columns<A: AllocHandle>(flags: &[bool]) -> &[bool]
+    ensures { (fields : RecordFields A) → key_values result.now fields ≡ key_values flags.now fields }
+{
+    let mut keys = flags;
+    while let Some((key, front)) = keys.split_last() {
+        if *key {
+            break;
+        }
+        keys = front;
+    }
+    keys
 }
 
 // The first value of a key field, and the flags behind it.

@@ -27,11 +27,11 @@ pub(crate) fn one_each<C: Combine<A> + Drop, A: AllocHandle>(
 }
 
 // Appends what the changes of each row are together, where they are in the order of their keys.
-fn push_rows<C: Combine<A> + Drop, A: AllocHandle>(
+fn push_rows<'a, C: Combine<A> + Drop, A: AllocHandle>(
     alloc: A,
     group: &mut TableGroup<C, A>,
-    flags: &[bool],
-    places: &[Place<'_, C, A>],
+    flags: &'a [bool],
+    places: &[Place<'a, C, A>],
 ) -> Result<(), OutOfMemory>
     requires none { group.old.changes ≡ [] }
     requires columns { group.old.schema ≡ flags.now }

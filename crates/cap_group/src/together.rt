@@ -1,5 +1,5 @@
 //! What changes of one row are together.
-ghost use Rattle.std.specs.Prelude.{◌≡◌, ◌++◌, IsTrue, None, OnOk};
+ghost use Rattle.std.specs.Prelude.{◌≡◌, ◌++◌, IsTrue, None, OnOk, if◌then◌else◌};
 ghost use Rattle.std.specs.Option.{option_to_list};
 ghost use Rattle.cap_group.specs.KeyedChanges.{change_after};
 
@@ -14,6 +14,9 @@ pub(crate) struct Together<'a, C: Combine<A> + Drop, A: AllocHandle> {
     // The columns of their table.
     flags: &'a [bool],
     some: bool,
+    // Whether there was one change so far, and its bytes. Of more than one they are those behind.
+    is_only: bool,
+    only: &'a [u8],
     bytes: Vec<u8, A>,
     // Where the next ones are written.
     spare: Vec<u8, A>,
@@ -29,11 +32,13 @@ impl<'a, C: Combine<A> + Drop, A: AllocHandle> Model for Together<'a, C, A> {
 
     ghost view = { λ t. record {
       flags = t.flags.now;
-      change = if t.some then Some (C.stored t.flags.now t.bytes.items) else None;
+      change = if t.some
+          then Some (C.stored t.flags.now (if t.is_only then t.only.now else t.bytes.items)) else None;
     } };
 
     ghost invariant = { λ t. IsTrue t.some → IsEntry C.fits_in C.has_values C.bytes_of t.flags.now
-        (C.stored t.flags.now t.bytes.items) t.bytes.items };
+        (C.stored t.flags.now (if t.is_only then t.only.now else t.bytes.items))
+        (if t.is_only then t.only.now else t.bytes.items) };
 }
 
 // A derived `Drop` would be opened in each caller's loop.
@@ -42,6 +47,8 @@ impl<'a, C: Combine<A> + Drop, A: AllocHandle> Drop for Together<'a, C, A> {
         let Together {
             flags: _,
             some: _,
+            is_only: _,
+            only: _,
             bytes: _,
             spare: _,
             marker: _,
@@ -57,6 +64,8 @@ impl<'a, C: Combine<A> + Drop, A: AllocHandle> Together<'a, C, A> {
         Together {
             flags,
             some: false,
+            is_only: false,
+            only: &[],
             bytes: Vec::new(alloc),
             spare: Vec::new(alloc),
             marker: PhantomData,
@@ -64,21 +73,22 @@ impl<'a, C: Combine<A> + Drop, A: AllocHandle> Together<'a, C, A> {
     }
 
     // Adds a change of the row.
-    pub(crate) fn add(&mut self, added: &EntryRef<'_, C>) -> Result<(), OutOfMemory>
+    pub(crate) fn add(&mut self, added: &EntryRef<'a, C>) -> Result<(), OutOfMemory>
         requires { IsTrue (C.fits_in self.old.flags added.now) }
         ensures { OnOk result (self.new ≡ record self.old {
           change = change_after C.combined self.old.flags self.old.change added.now;
         }) }
     {
         if !self.some {
-            self.bytes.clear();
-            self.bytes.extend_from_slice(added.as_bytes())?;
+            self.only = added.as_bytes();
+            self.is_only = true;
             self.some = true;
             return Ok(());
         }
         self.spare.clear();
-        let present = EntryRef::of(self.flags, self.bytes.as_slice());
+        let present = EntryRef::of(self.flags, bytes_of(self.is_only, self.only, &self.bytes));
         self.some = C::push_combined(&mut self.spare, self.flags, &present, added)?;
+        self.is_only = false;
         mem::swap(&mut self.bytes, &mut self.spare);
         Ok(())
     }
@@ -94,8 +104,16 @@ impl<'a, C: Combine<A> + Drop, A: AllocHandle> Together<'a, C, A> {
         if !self.some {
             return Ok(());
         }
-        group.push(self.bytes.as_slice())?;
+        group.push(bytes_of(self.is_only, self.only, &self.bytes))?;
         self.some = false;
         Ok(())
     }
+}
+
+// The bytes of the only change, or those of more.
+#[inline]
+fn bytes_of<'b>(is_only: bool, only: &'b [u8], bytes: &'b [u8]) -> &'b [u8]
+    ensures { result.now ≡ (if is_only then only.now else bytes.now) }
+{
+    if is_only { only } else { bytes }
 }
