@@ -6,6 +6,7 @@ use Rattle.cap_field.specs.declared.fault.BlobFault.{BlobFault}
 use Rattle.cap_field.specs.Reading.{◌>>=◌}
 use Rattle.cap_changes.specs.Operation.{is_operation}
 use Rattle.cap_changes.specs.ChangeReading.{behind, changes_at, with_changes}
+use Rattle.cap_changes.specs.Judged.{front_of}
 use Rattle.cap_changes.specs.Stored.{IsEntry, IsPassed, normal}
 use Rattle.cap_changes.proofs.PassLemmas.{fault_of}
 use Rattle.cap_row.proofs.EncodingLemmas.{before_rest}
@@ -64,21 +65,20 @@ module _ {X : Type 0} (one_at : ℕ → List Bool → ℕ → List ℕ → Resul
   changes_end group total [] all none (suc most, le, e) = sym e ∙ ap (λ (g : TableEntries X). Ok (g, [])) (add_none group)
 
 module _ {C : Type 0} (fits_in : List Bool → C → Bool) (has_values : C → Type 0) (bytes_of : C → List ℕ) (stored : List Bool → List ℕ → C) (one_at : ℕ → List Bool → ℕ → List ℕ → Result (C × List ℕ) BlobFault) where
-  -- what was passed of the bytes that are left
-  abbrev pub given_of : List ℕ → List ℕ → List ℕ
-  given_of rest after = take (length rest - length after) rest
-
   pub record Given (total : ℕ) (rest after : List ℕ) (schema : List Bool) : Type 0 where
-    pub some : 2 ≤ length (given_of rest after)
-    pub entry : IsEntry fits_in has_values bytes_of schema (stored schema (normal (given_of rest after))) (normal (given_of rest after))
-    pub read : one_at total schema (get_or rest 0 0) (behind_of rest) ≡ Ok (stored schema (normal (given_of rest after)), after)
+    pub parts : rest ≡ front_of rest after ++ after
+    pub some : 2 ≤ length (front_of rest after)
+    pub entry : IsEntry fits_in has_values bytes_of schema (stored schema (normal (front_of rest after))) (normal (front_of rest after))
+    pub read : one_at total schema (get_or rest 0 0) (behind_of rest) ≡ Ok (stored schema (normal (front_of rest after)), after)
     pub shorter : length after ≤ length (behind_of rest)
 
   given_one : (total op : ℕ) (rest after : List ℕ) (flags : List Bool) → 1 ≤ length rest → get_or rest 0 0 ≡ op → IsPassed fits_in has_values bytes_of stored one_at total flags op (behind_of rest) after → Given total rest after flags
   given_one total op [] after flags some is passed = absurd (omega arith)
   given_one total op (byte ∷ behind) after flags some is passed =
       let parts : behind_of (byte ∷ behind) ≡ passed.front ++ after = passed.parts in
-      let given : given_of (byte ∷ behind) after ≡ op ∷ passed.front = before_rest (byte ∷ behind) (op ∷ passed.front) after (λ i. is i ∷ (sym (behind-is byte behind) ∙ parts) i) in record {
+      let whole : byte ∷ behind ≡ (op ∷ passed.front) ++ after = λ i. is i ∷ (sym (behind-is byte behind) ∙ parts) i in
+      let given : front_of (byte ∷ behind) after ≡ op ∷ passed.front = before_rest (byte ∷ behind) (op ∷ passed.front) after whole in record {
+        parts = whole ∙ ap (λ (b : List ℕ). b ++ after) (sym given);
         some = omega (arith, ap length given, passed.some);
         entry = subst (λ (b : List ℕ). IsEntry fits_in has_values bytes_of flags (stored flags (normal b)) (normal b)) (sym given) passed.entry;
         read = ap (λ (b : ℕ). one_at total flags b (behind_of (byte ∷ behind))) is ∙ passed.read ∙ ap (λ (b : List ℕ). Ok (stored flags (normal b), after)) (sym given);

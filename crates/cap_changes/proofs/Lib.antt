@@ -12,6 +12,7 @@ pub mod TouchedLemmas
 pub mod StoredRecord
 pub mod StoredField
 pub mod StoredEntries
+pub mod JudgedLemmas
 pub mod Grammar
 pub mod ChangeAgain
 pub mod ChangeSpelled

@@ -7,6 +7,7 @@ use Rattle.std.proofs.lemmas.List.{take-append-le, drop-append-le, take-append-d
 use Rattle.std.proofs.lemmas.List.Elements.{All-from_recursion}
 use Rattle.std.proofs.Math.Seq.{drop-append_seam, take-append_seam}
 use Rattle.cap_changes.specs.Entries.{TableEntries}
+use Rattle.cap_changes.specs.Judged.{group_of}
 use Rattle.cap_changes.specs.Stored.{part, start_of, end_of, IsEntry, entries_of, AreEntries, IsKept}
 
 pub part_before : (start end : ℕ) (bytes more : List ℕ) → start ≤ end → end ≤ length bytes → part start end (bytes ++ more) ≡ part start end bytes
@@ -60,7 +61,7 @@ module _ {C : Type 0} (fits_in : List Bool → C → Bool) (has_values : C → T
   last_is bytes start end [] are le within is = (le, within, is, within)
   last_is bytes start end (next ∷ ends) are le within is = (are.0, are.1, are.2, last_is bytes next end ends are.3 le within is)
 
-  last_end : (start end : ℕ) (ends : List ℕ) → end_of start (ends ++ end ∷ []) ≡ end
+  pub last_end : (start end : ℕ) (ends : List ℕ) → end_of start (ends ++ end ∷ []) ≡ end
   last_end start end [] = refl
   last_end start end (next ∷ ends) = last_end next end ends
 
@@ -212,21 +213,18 @@ module _ {C : Type 0} (fits_in : List Bool → C → Bool) (has_values : C → T
 
 -- ---- a group
 
-abbrev pub Seen : {C : Type 0} → (List Bool → List ℕ → C) → List ℕ → List Bool → List ℕ → List ℕ → TableEntries C
-Seen stored table schema bytes ends = record { table = table; schema = schema; changes = entries_of stored schema bytes 0 ends }
-
 module _ {C : Type 0} (fits_in : List Bool → C → Bool) (has_values : C → Type 0) (bytes_of : C → List ℕ) (stored : List Bool → List ℕ → C) where
   -- what a call leaves that appends an entry, or answers an error
   pub record Leaves {E : Type 0} (result : Result (Unit {0}) E) (table : List ℕ) (schema : List Bool) (new new_ends : List ℕ) (before : TableEntries C) (entry : C) : Type 0 where
     pub keeps : IsKept fits_in has_values bytes_of stored schema new new_ends
-    pub ok : OnOk result (Seen stored table schema new new_ends ≡ record before { changes = before.changes ++ entry ∷ [] })
-    pub err : OnErr result (Seen stored table schema new new_ends ≡ before)
+    pub ok : OnOk result (group_of stored table schema new new_ends ≡ record before { changes = before.changes ++ entry ∷ [] })
+    pub err : OnErr result (group_of stored table schema new new_ends ≡ before)
 
 taken_off : (old mid : List ℕ) (n : ℕ) → n ≡ length old → IsPrefix old mid → take n mid ≡ old
 taken_off old mid n is (rest, so) = rw (is, ← so) (take-append_seam old rest)
 
 module _ {C : Type 0} {fits_in : List Bool → C → Bool} {has_values : C → Type 0} {bytes_of : C → List ℕ} {stored : List Bool → List ℕ → C} where
-  ended_on : (E : Type 0) {table : List ℕ} {schema : List Bool} {old ends piece new new_ends : List ℕ} {before : TableEntries C} {entry : C} → IsKept fits_in has_values bytes_of stored schema old ends → Seen stored table schema old ends ≡ before
+  ended_on : (E : Type 0) {table : List ℕ} {schema : List Bool} {old ends piece new new_ends : List ℕ} {before : TableEntries C} {entry : C} → IsKept fits_in has_values bytes_of stored schema old ends → group_of stored table schema old ends ≡ before
       → IsEntry fits_in has_values bytes_of before.schema (stored before.schema piece) piece → stored before.schema piece ≡ entry → new ≡ old ++ piece → new_ends ≡ ends ++ length new ∷ []
       → Leaves fits_in has_values bytes_of stored {E = E} (Ok tt) table schema new new_ends before entry
   ended_on E {table = table} {schema = schema} {old = old} {ends = ends} {piece = piece} {new = new} {new_ends = new_ends} {before = before} {entry = entry} keeps seen is entry_is new_is ends_are =
@@ -238,12 +236,12 @@ module _ {C : Type 0} {fits_in : List Bool → C → Bool} {has_values : C → T
         err = tt;
       }
 
-  kept_on : {E : Type 0} (e : E) {table : List ℕ} {schema : List Bool} {old ends new new_ends : List ℕ} {before : TableEntries C} (entry : C) → IsKept fits_in has_values bytes_of stored schema old ends → Seen stored table schema old ends ≡ before
+  kept_on : {E : Type 0} (e : E) {table : List ℕ} {schema : List Bool} {old ends new new_ends : List ℕ} {before : TableEntries C} (entry : C) → IsKept fits_in has_values bytes_of stored schema old ends → group_of stored table schema old ends ≡ before
       → new ≡ old → new_ends ≡ ends → Leaves fits_in has_values bytes_of stored (Err e) table schema new new_ends before entry
   kept_on e entry keeps seen new_is ends_are = rw (new_is, ends_are) (record { keeps = keeps; ok = tt; err = seen })
 
   pub leaves : {E : Type 0} (result pushed : Result (Unit {0}) E) {table : List ℕ} {schema : List Bool} {old ends piece : List ℕ} (mid new new_ends : List ℕ) {n : ℕ} {before : TableEntries C} {entry : C} → IsKept fits_in has_values bytes_of stored schema old ends
-      → Seen stored table schema old ends ≡ before → IsEntry fits_in has_values bytes_of before.schema (stored before.schema piece) piece → stored before.schema piece ≡ entry → n ≡ length old → OnOk pushed (mid ≡ old ++ piece) → OnErr pushed (IsPrefix old mid)
+      → group_of stored table schema old ends ≡ before → IsEntry fits_in has_values bytes_of before.schema (stored before.schema piece) piece → stored before.schema piece ≡ entry → n ≡ length old → OnOk pushed (mid ≡ old ++ piece) → OnErr pushed (IsPrefix old mid)
       → OnOk result ((pushed ≡ Ok tt) × (new ≡ mid) × (new_ends ≡ ends ++ length mid ∷ [])) → OnErr result ((new ≡ take n mid) × (new_ends ≡ ends)) → Leaves fits_in has_values bytes_of stored result table schema new new_ends before entry
   leaves {E = E} (Ok u) (Ok v) {ends = ends} mid new new_ends keeps seen is entry_is n_is put begun ok err =
       ended_on E keeps seen is entry_is (ok.1 ∙ put) (ok.2 ∙ ap (λ (b : List ℕ). ends ++ length b ∷ []) (sym ok.1))

@@ -18,6 +18,7 @@ pub mod ChangeBytes
 pub mod HasValues
 pub mod Record
 pub mod Stored
+pub mod Judged
 pub mod ChangeRef
 pub mod KindByte
 pub mod Touched

@@ -77,6 +77,7 @@ fn take_content<'a, A: AllocHandle>(
 }
 
 /// A field with this requirement, none where it is undefined, and the bytes behind it.
+#[inline(always)]
 #[tactic(auto, unfolding(crate::specs::FieldReading::field_at))]
 pub fn take_field<'a, A: AllocHandle>(
     total: usize,

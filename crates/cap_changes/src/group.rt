@@ -1,6 +1,6 @@
 //! Groups: the changes of one table.
 ghost use mathlib.Core.List.{IsPrefix};
-ghost use Rattle.std.specs.Prelude.{◌≡◌, ◌++◌, ◌∷◌, ◌≤◌, [], IsTrue, IfOk, OnOk, OnErr, Ok, length, take, All};
+ghost use Rattle.std.specs.Prelude.{◌≡◌, ℕ, List, ◌++◌, ◌∷◌, ◌≤◌, [], IsTrue, IfOk, OnOk, OnErr, Ok, length, take, All};
 ghost use Rattle.std.specs.List.{cons_option, flat_map};
 ghost use Rattle.std.specs.Option.{option_copied, ForSome};
 ghost use Rattle.cap_value.specs.Memory.{ShowsUnlessMemory};
@@ -9,7 +9,8 @@ ghost use Rattle.cap_changes.specs.Change as touched;
 ghost use Rattle.cap_changes.specs.ChangeReading.{changes_at, with_changes};
 ghost use Rattle.cap_changes.specs.Entries.{AllFit, IsFitting};
 ghost use Rattle.cap_changes.specs.Fits.{change_fits};
-ghost use Rattle.cap_changes.specs.Stored.{IsEntry, normal};
+ghost use Rattle.cap_changes.specs.Judged.{HaveFlags, Judged, front_of, group_of, joined, with_flags};
+ghost use Rattle.cap_changes.specs.Stored.{IsEntry, IsKept};
 ghost use Rattle.cap_changes.specs.Touched.{is_changed};
 
 use crate::entries::start_at;
@@ -98,32 +99,13 @@ impl<C: Entry, A: AllocHandle> TableGroup<C, A> {
             (with_changes self.old (changes_at C.one_at (length bytes.now) total self.old.schema bytes.now)) }
         ensures behind { IfOk result (λ rest. length rest.now ≤ length bytes.now) }
     {
-        let mut rest = bytes;
-        while let [byte, behind @ ..] = rest {
-            let Some(operation) = Operation::of(*byte) else {
-                break;
-            };
-            let after = C::pass(total, self.schema.flags(), operation, behind)?;
-            self.push_given(&rest[..rest.len() - after.len()])?;
-            rest = after;
+        let count = self.ends.len();
+        let flags = self.schema.flags();
+        let read = read_changes::<C, A>(total, flags, bytes, &mut self.bytes, &mut self.ends);
+        if read.is_err() {
+            self.ends.truncate(count);
         }
-        Ok(rest)
-    }
-
-    // Appends the change with these bytes, of which any indirect flag but zero is written as one.
-    #[inline(always)]
-    fn push_given(&mut self, change: &[u8]) -> Result<(), OutOfMemory>
-        requires some { 2 ≤ length change.now }
-        requires entry { IsEntry C.fits_in C.has_values C.bytes_of self.old.schema
-            (C.stored self.old.schema (normal change.now)) (normal change.now) }
-        ensures { OnOk result (self.new ≡ record self.old {
-          changes = self.old.changes
-              ++ C.stored self.old.schema (normal change.now) ∷ [];
-        }) }
-    {
-        let before = self.bytes.len();
-        let pushed = push_normal(&mut self.bytes, change);
-        end(&mut self.bytes, &mut self.ends, before, pushed)
+        read
     }
 
     /// Keeps the first changes, so many of them.
@@ -214,17 +196,80 @@ fn end<A: AllocHandle>(
     Err(OutOfMemory)
 }
 
-// Appends a change, of which any indirect flag but zero is written as one.
-#[inline(always)]
-fn push_normal<A: AllocHandle>(out: &mut Vec<u8, A>, change: &[u8]) -> Result<(), OutOfMemory>
-    requires { 2 ≤ length change.now }
-    ensures bytes { OnOk result (out.new.items ≡ out.old.items ++ normal change.now) }
-    ensures begins { OnErr result (IsPrefix out.old.items out.new.items) }
+// Appends the changes that these bytes begin with to the held ones, and answers the bytes behind them.
+fn read_changes<'a, C: Entry, A: AllocHandle>(
+    total: usize,
+    flags: &[bool],
+    bytes: &'a [u8],
+    held: &mut Vec<u8, A>,
+    ends: &mut Vec<usize, A>,
+) -> Result<&'a [u8], Fault<BlobFault>>
+    requires { IsKept C.fits_in C.has_values C.bytes_of C.stored flags.now held.old.items ends.old.items }
+    ensures kept { IfOk result (λ rest. IsKept C.fits_in C.has_values C.bytes_of C.stored flags.now
+        held.new.items ends.new.items) }
+    ensures gives { (table : List ℕ) → ShowsUnlessMemory
+        (λ rest. (group_of C.stored table flags.now held.new.items ends.new.items, rest.now)) result
+        (with_changes (group_of C.stored table flags.now held.old.items ends.old.items)
+        (changes_at C.one_at (length bytes.now) total flags.now bytes.now)) }
+    ensures behind { IfOk result (λ rest. length rest.now ≤ length bytes.now) }
+    ensures begins { IsPrefix ends.old.items ends.new.items }
+    ensures held { OnErr result (held.new.items ≡ held.old.items) }
 {
-    let at = out.len() + 1;
-    out.extend_from_slice(change)?;
-    out[at] = (change[1] != 0) as u8;
-    Ok(())
+    let start = held.len();
+    let count = ends.len();
+    let rest = judge::<C, A>(total, flags, bytes, held.as_slice(), ends)?;
+    held.extend_from_slice(&bytes[..bytes.len() - rest.len()])?;
+    write_flags(held.as_mut_slice(), start, &ends.as_slice()[count..]);
+    Ok(rest)
+}
+
+// Judges the changes that these bytes begin with, notes where each ends behind the held ones, and answers
+// the bytes behind them.
+fn judge<'a, C: Entry, A: AllocHandle>(
+    total: usize,
+    flags: &[bool],
+    bytes: &'a [u8],
+    held: &[u8],
+    ends: &mut Vec<usize, A>,
+) -> Result<&'a [u8], Fault<BlobFault>>
+    requires { IsKept C.fits_in C.has_values C.bytes_of C.stored flags.now held.now ends.old.items }
+    ensures judged { IfOk result (λ rest. Judged C.fits_in C.has_values C.bytes_of C.stored flags.now
+        held.now ends.old.items bytes.now rest.now ends.new.items) }
+    ensures gives { (table : List ℕ) → ShowsUnlessMemory
+        (λ rest. (
+          group_of C.stored table flags.now (joined held.now ends.old.items
+              (front_of bytes.now rest.now) ends.new.items) ends.new.items,
+          rest.now,
+        )) result
+        (with_changes (group_of C.stored table flags.now held.now ends.old.items)
+        (changes_at C.one_at (length bytes.now) total flags.now bytes.now)) }
+    ensures begins { IsPrefix ends.old.items ends.new.items }
+{
+    let mut rest = bytes;
+    while let [byte, behind @ ..] = rest {
+        let Some(operation) = Operation::of(*byte) else {
+            break;
+        };
+        let after = C::pass(total, flags, operation, behind)?;
+        let end = held.len() + (bytes.len() - after.len());
+        if ends.push(end).is_err() {
+            return Err(Fault::OutOfMemory);
+        }
+        rest = after;
+    }
+    Ok(rest)
+}
+
+// Writes any indirect flag but zero as one, of the changes that end at these places.
+fn write_flags(bytes: &mut [u8], start: usize, ends: &[usize])
+    requires { HaveFlags (length bytes.old) start ends.now }
+    ensures { bytes.new ≡ with_flags bytes.old start ends.now }
+{
+    let mut begin = start;
+    for end in ends {
+        bytes[begin + 1] = (bytes[begin + 1] != 0) as u8;
+        begin = *end;
+    }
 }
 
 impl<A: AllocHandle> TableGroup<RowChange<A>, A> {
@@ -258,6 +303,15 @@ impl<A: AllocHandle> TableGroup<RowChange<A>, A> {
 }
 
 impl<C: Made<A>, A: AllocHandle> TableGroup<C, A> {
+    // Finds room for what is made of the changes of a group: as many, in no more bytes.
+    pub(crate) fn reserve_for(&mut self, group: &Group<A>) -> Result<(), OutOfMemory>
+        ensures { self.new ≡ self.old }
+    {
+        self.bytes.reserve(group.bytes.len())?;
+        self.ends.reserve(group.ends.len())?;
+        Ok(())
+    }
+
     // Appends what is made of a change.
     pub(crate) fn push_made(
         &mut self,

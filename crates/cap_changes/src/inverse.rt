@@ -2,7 +2,7 @@
 ghost use Rattle.std.specs.Prelude.{◌≡◌, IfOk};
 ghost use Rattle.cap_changes.specs.Invert.{inverse_list_of};
 
-use crate::bytes::{push_operation, push_record};
+use crate::bytes::{push_as, push_operation};
 use crate::made::{Made, made_list};
 use crate::operation::Operation;
 use crate::patches::push_update_record;
@@ -32,19 +32,13 @@ impl<A: AllocHandle> Made<A> for RowChange<A> {
         change: &EntryRef<'_, RowChange<A>>,
     ) -> Result<(), OutOfMemory> {
         match change.read() {
-            ChangeRef::Insert { indirect, new } => {
-                push_operation(out, Operation::Delete, indirect)?;
-                push_record(out, new)
-            }
+            ChangeRef::Insert { .. } => push_as(out, Operation::Delete, change.as_bytes()),
             ChangeRef::Update { indirect, old, new } => {
                 push_operation(out, Operation::Update, indirect)?;
                 push_update_record(out, flags, old.copy(), new.copy())?;
                 push_update_record(out, flags, new, old)
             }
-            ChangeRef::Delete { indirect, old } => {
-                push_operation(out, Operation::Insert, indirect)?;
-                push_record(out, old)
-            }
+            ChangeRef::Delete { .. } => push_as(out, Operation::Insert, change.as_bytes()),
         }
     }
 

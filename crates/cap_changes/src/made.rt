@@ -61,6 +61,7 @@ fn made_group<C: Made<A> + Drop, A: AllocHandle>(
     ensures { IfOk result (λ made. made ≡ group_of C.made group.now) }
 {
     let mut made = TableGroup::new(alloc, group.table().copy()?, group.schema().copy()?);
+    made.reserve_for(group)?;
     for change in group.changes() {
         made.push_made(&change)?;
     }

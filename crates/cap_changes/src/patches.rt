@@ -6,7 +6,7 @@ ghost use Rattle.cap_changes.specs.Patch as made;
 ghost use Rattle.cap_changes.specs.Requirements.{requirements, satisfy};
 ghost use Rattle.cap_changes.specs.declared.record_kind.RecordKind.TheVariants.{Full};
 
-use crate::bytes::{push_operation, push_record};
+use crate::bytes::push_operation;
 use crate::made::{Made, made_list};
 use crate::operation::Operation;
 use crate::{ChangeList, ChangeRef, EntryRef, Patch, PatchList, RecordRef, RowChange};
@@ -34,10 +34,7 @@ impl<A: AllocHandle> Made<A> for Patch<A> {
         change: &EntryRef<'_, RowChange<A>>,
     ) -> Result<(), OutOfMemory> {
         match change.read() {
-            ChangeRef::Insert { indirect, new } => {
-                push_operation(out, Operation::Insert, indirect)?;
-                push_record(out, new)
-            }
+            ChangeRef::Insert { .. } => Ok(out.extend_from_slice(change.as_bytes())?),
             ChangeRef::Update { indirect, old, new } => {
                 push_operation(out, Operation::Update, indirect)?;
                 push_update_record(out, flags, old, new)

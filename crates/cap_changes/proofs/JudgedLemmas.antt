@@ -1,0 +1,174 @@
+-- Changes that are judged first, and written behind those that a group holds then.
+use Rattle.std.proofs.Common.{◌≡◌, ℕ, zero, suc, ◌+◌, ◌-◌, ◌≤◌, ◌<◌, Bool, List, [], ◌∷◌, ◌++◌, length, drop, get_or, Result, Ok, Err, true, false, is_ok, is_err, if◌then◌else◌, refl, sym, ap, subst, ◌∙◌, append_assoc, append-nil, length-append, arith}
+use Rattle.std.proofs.lemmas.List.{length-set, drop-append-le, drop_all}
+use Rattle.cap_field.specs.declared.fault.BlobFault.{BlobFault}
+use Rattle.cap_row.proofs.EncodingLemmas.{before_rest}
+use Rattle.cap_changes.specs.ChangeBytes.{flag_byte}
+use Rattle.cap_changes.specs.ChangeReading.{changes_at, is_set, with_changes}
+use Rattle.cap_changes.specs.Entries.{TableEntries}
+use Rattle.cap_changes.specs.Judged.{HaveFlags, Judged, front_of, group_of, joined, with_flag, with_flags}
+use Rattle.cap_changes.specs.Operation.{is_operation}
+use Rattle.cap_changes.specs.Stored.{IsEntry, IsKept, end_of, entries_of, normal}
+use Rattle.cap_changes.proofs.ChangeLoops.{ChangesLeft, Given, behind_of, changes_start, changes_go_on, changes_fail, changes_stop, changes_end}
+use Rattle.cap_changes.proofs.StoredEntries.{Appended, appended, last_end}
+
+flag-length : (place : ℕ) (bytes : List ℕ) → length (with_flag place bytes) ≡ length bytes
+flag-length place bytes = length-set bytes place (flag_byte (is_set (get_or bytes place 0)))
+
+flags-length : (bytes : List ℕ) (start : ℕ) (ends : List ℕ) → length (with_flags bytes start ends) ≡ length bytes
+flags-length bytes start [] = refl
+flags-length bytes start (end ∷ ends) = flags-length (with_flag (start + 1) bytes) end ends ∙ flag-length (start + 1) bytes
+
+-- ---- one more entry
+
+last_flag : (bytes : List ℕ) (start end : ℕ) (ends : List ℕ) → with_flags bytes start (ends ++ end ∷ []) ≡ with_flag (end_of start ends + 1) (with_flags bytes start ends)
+last_flag bytes start end [] = refl
+last_flag bytes start end (next ∷ ends) = last_flag (with_flag (start + 1) bytes) next end ends
+
+flag_before : (place : ℕ) (bytes more : List ℕ) → place < length bytes → with_flag place (bytes ++ more) ≡ with_flag place bytes ++ more
+flag_before place [] more lt = absurd (omega arith)
+flag_before zero (byte ∷ bytes) more lt = refl
+flag_before (suc place) (byte ∷ bytes) more lt = ap (λ (b : List ℕ). byte ∷ b) (flag_before place bytes more (omega arith))
+
+flags_before : (bytes more : List ℕ) (start : ℕ) (ends : List ℕ) → HaveFlags (length bytes) start ends → with_flags (bytes ++ more) start ends ≡ with_flags bytes start ends ++ more
+flags_before bytes more start [] have = refl
+flags_before bytes more start (end ∷ ends) have =
+    ap (λ (b : List ℕ). with_flags b end ends) (flag_before (start + 1) bytes more (omega (arith, have.0, have.1)))
+    ∙ flags_before (with_flag (start + 1) bytes) more end ends (subst (λ (n : ℕ). HaveFlags n end ends) (sym (flag-length (start + 1) bytes)) have.2)
+
+flag_next : (byte place : ℕ) (bytes : List ℕ) → with_flag (suc place) (byte ∷ bytes) ≡ byte ∷ with_flag place bytes
+flag_next byte place bytes = refl
+
+flag_behind : (bytes piece : List ℕ) → 2 ≤ length piece → with_flag (length bytes + 1) (bytes ++ piece) ≡ bytes ++ normal piece
+flag_behind [] [] some = absurd (omega arith)
+flag_behind [] (op ∷ []) some = absurd (omega arith)
+flag_behind [] (op ∷ flag ∷ records) some = refl
+flag_behind (byte ∷ bytes) piece some =
+    let next : suc (length bytes) + 1 ≡ suc (length bytes + 1) = omega arith in
+    ap (λ (n : ℕ). with_flag n (byte ∷ (bytes ++ piece))) next
+    ∙ flag_next byte (length bytes + 1) (bytes ++ piece)
+    ∙ ap (λ (b : List ℕ). byte ∷ b) (flag_behind bytes piece some)
+
+normal-length : (piece : List ℕ) → length (normal piece) ≡ length piece
+normal-length [] = refl
+normal-length (op ∷ []) = refl
+normal-length (op ∷ flag ∷ records) = refl
+
+one_more : (bytes piece : List ℕ) (start end : ℕ) (ends : List ℕ) → HaveFlags (length bytes) start ends → end_of start ends ≡ length bytes → 2 ≤ length piece
+    → with_flags (bytes ++ piece) start (ends ++ end ∷ []) ≡ with_flags bytes start ends ++ normal piece
+one_more bytes piece start end ends have last some =
+    last_flag (bytes ++ piece) start end ends
+    ∙ ap (λ (b : List ℕ). with_flag (end_of start ends + 1) b) (flags_before bytes piece start ends have)
+    ∙ ap (λ (n : ℕ). with_flag (n + 1) (with_flags bytes start ends ++ piece)) (last ∙ sym (flags-length bytes start ends))
+    ∙ flag_behind (with_flags bytes start ends) piece some
+
+have_more : (count more start end : ℕ) (ends : List ℕ) → HaveFlags count start ends → end_of start ends ≡ count → 2 ≤ more → end ≡ count + more → HaveFlags (count + more) start (ends ++ end ∷ [])
+have_more count more start end [] have last some is = (omega arith, omega arith, tt)
+have_more count more start end (next ∷ ends) have last some is = (have.0, omega (arith, have.1), have_more count more next end ends have.2 last some is)
+
+module _ {C : Type 0} (fits_in : List Bool → C → Bool) (has_values : C → Type 0) (bytes_of : C → List ℕ) (stored : List Bool → List ℕ → C) (flags : List Bool) where
+  abbrev Are : (held old bytes rest ends : List ℕ) → Type 0
+  Are held old bytes rest ends = Judged fits_in has_values bytes_of stored flags held old bytes rest ends
+
+  -- nothing is judged yet
+  pub judged_start : (held old bytes : List ℕ) → IsKept fits_in has_values bytes_of stored flags held old → Are held old bytes bytes old × (joined held old (front_of bytes bytes) old ≡ held)
+  judged_start held old bytes kept =
+      let none : front_of bytes bytes ≡ [] = before_rest bytes [] bytes refl in
+      let no_more : drop (length old) old ≡ [] = drop_all (length old) old (omega arith) in
+      let same : joined held old (front_of bytes bytes) old ≡ held = rw (none, no_more) (append-nil held) in (
+        record {
+          parts = ap (λ (b : List ℕ). b ++ bytes) (sym none);
+          begins = ([], append-nil old);
+          flagged = rw no_more tt;
+          end = rw (no_more, none) (omega arith);
+          kept = subst (λ (b : List ℕ). IsKept fits_in has_values bytes_of stored flags b old) (sym same) kept;
+        },
+        same,
+      )
+
+  -- one more is judged
+  pub record More (held old bytes rest after ends new : List ℕ) (entry : C) : Type 0 where
+    pub are : Are held old bytes after new
+    pub group : (table : List ℕ) → group_of stored table flags (joined held old (front_of bytes after) new) new
+        ≡ record (group_of stored table flags (joined held old (front_of bytes rest) ends) ends) { changes = entries_of stored flags (joined held old (front_of bytes rest) ends) 0 ends ++ entry ∷ [] }
+
+  more : (held old bytes rest after ends given : List ℕ) (end : ℕ) → Are held old bytes rest ends → rest ≡ given ++ after → 2 ≤ length given
+      → IsEntry fits_in has_values bytes_of flags (stored flags (normal given)) (normal given) → end ≡ length held + (length bytes - length after)
+      → More held old bytes rest after ends (ends ++ end ∷ []) (stored flags (normal given))
+  more held old bytes rest after ends given end judged parts some entry is =
+      let front = front_of bytes rest in
+      let new_parts : bytes ≡ (front ++ given) ++ after = judged.parts ∙ ap (λ (b : List ℕ). front ++ b) parts ∙ sym (append_assoc front given after) in
+      let read : front_of bytes after ≡ front ++ given = before_rest bytes (front ++ given) after new_parts in
+      let count : length (held ++ front) ≡ length held + length front = length-append held front in
+      let long : length (front ++ given) ≡ length front + length given = length-append front given in
+      let place : end ≡ (length held + length front) + length given = omega (arith, is, ap length new_parts, length-append (front ++ given) after, long) in
+      let old_fit : length old ≤ length ends = omega (arith, ap length judged.begins.1, length-append old judged.begins.0) in
+      let noted : drop (length old) (ends ++ end ∷ []) ≡ drop (length old) ends ++ end ∷ [] = drop-append-le (length old) ends (end ∷ []) old_fit in
+      let flagged : HaveFlags (length (held ++ front)) (length held) (drop (length old) ends) = subst (λ (n : ℕ). HaveFlags n (length held) (drop (length old) ends)) (sym count) judged.flagged in
+      let bytes_are : joined held old (front_of bytes after) (ends ++ end ∷ []) ≡ joined held old front ends ++ normal given =
+      ap (λ (b : List ℕ). joined held old b (ends ++ end ∷ [])) read
+      ∙ ap (λ (e : List ℕ). with_flags (held ++ (front ++ given)) (length held) e) noted
+      ∙ ap (λ (b : List ℕ). with_flags b (length held) (drop (length old) ends ++ end ∷ [])) (sym (append_assoc held front given))
+      ∙ one_more (held ++ front) given (length held) end (drop (length old) ends) flagged (judged.end ∙ sym count) some in
+      let joined_length : length (joined held old front ends) ≡ length held + length front = flags-length (held ++ front) (length held) (drop (length old) ends) ∙ count in
+      let new_length : length (joined held old (front_of bytes after) (ends ++ end ∷ [])) ≡ end = omega (arith, ap length bytes_are, length-append (joined held old front ends) (normal given), joined_length, normal-length given, place) in
+      let a : Appended fits_in has_values bytes_of stored flags (joined held old (front_of bytes after) (ends ++ end ∷ [])) (ends ++ end ∷ []) (entries_of stored flags (joined held old front ends) 0 ends) (stored flags (normal given)) =
+      appended fits_in has_values bytes_of stored flags (joined held old front ends) ends (normal given) (joined held old (front_of bytes after) (ends ++ end ∷ [])) (ends ++ end ∷ []) _ _
+      judged.kept.each judged.kept.end refl entry refl bytes_are (ap (λ (n : ℕ). ends ++ n ∷ []) (sym new_length)) in record {
+        are = record {
+          parts = new_parts ∙ ap (λ (b : List ℕ). b ++ after) (sym read);
+          begins = (judged.begins.0 ++ end ∷ [], sym (append_assoc old judged.begins.0 (end ∷ [])) ∙ ap (λ (b : List ℕ). b ++ end ∷ []) judged.begins.1);
+          flagged = rw noted (subst (λ (n : ℕ). HaveFlags n (length held) (drop (length old) ends ++ end ∷ [])) (omega (arith, ap length read, long)) (have_more (length held + length front) (length given) (length held) end (drop (length old) ends) judged.flagged judged.end some place));
+          end = rw noted (last_end fits_in has_values bytes_of stored flags (length held) end (drop (length old) ends) ∙ omega (arith, place, ap length read, long));
+          kept = record { keyed = judged.kept.keyed; each = a.are; end = a.end };
+        };
+        group = λ table. ap (λ (xs : List C). record { table = table; schema = flags; changes = xs }) a.entries;
+      }
+
+  module _ (one_at : ℕ → List Bool → ℕ → List ℕ → Result (C × List ℕ) BlobFault) (total : ℕ) (held old bytes : List ℕ) where
+    -- the group of this name with the changes that the bytes begin with
+    abbrev pub whole : List ℕ → Result (TableEntries C × List ℕ) BlobFault
+    whole table = with_changes (group_of stored table flags held old) (changes_at one_at (length bytes) total flags bytes)
+
+    -- the same with those that were judged so far
+    abbrev pub so_far : (rest ends table : List ℕ) → TableEntries C
+    so_far rest ends table = group_of stored table flags (joined held old (front_of bytes rest) ends) ends
+
+    -- what is left gives the whole
+    abbrev pub Left : (rest ends table : List ℕ) → Type 0
+    Left rest ends table = ChangesLeft one_at (so_far rest ends table) total rest (whole table)
+
+    pub left_start : IsKept fits_in has_values bytes_of stored flags held old → (table : List ℕ) → Left bytes old table
+    left_start kept table = subst (λ (b : List ℕ). ChangesLeft one_at (group_of stored table flags b old) total bytes (whole table)) (sym (judged_start held old bytes kept).1) (changes_start one_at (group_of stored table flags held old) total bytes)
+
+    pub judged_more : (rest after ends new : List ℕ) → Are held old bytes rest ends → Given fits_in has_values bytes_of stored one_at total rest after flags → 1 ≤ length rest → is_operation (get_or rest 0 0) ≡ true
+        → new ≡ ends ++ (length held + (length bytes - length after)) ∷ [] → ((table : List ℕ) → Left rest ends table) → Are held old bytes after new × ((table : List ℕ) → Left after new table)
+    judged_more rest after ends new judged one some operation new_is left =
+        let m = more held old bytes rest after ends (front_of rest after) (length held + (length bytes - length after)) judged one.parts one.some one.entry refl in
+        rw new_is (
+          m.are,
+          λ table. subst (λ (t : TableEntries C). ChangesLeft one_at t total after (whole table)) (sym (m.group table))
+              (changes_go_on one_at (so_far rest ends table) total rest after _ _ some operation one.read one.shorter (left table)),
+        )
+
+    pub left_fail : (rest ends : List ℕ) (f : BlobFault) (table : List ℕ) → 1 ≤ length rest → is_operation (get_or rest 0 0) ≡ true → one_at total flags (get_or rest 0 0) (behind_of rest) ≡ Err f → Left rest ends table → whole table ≡ Err f
+    left_fail rest ends f table some operation read left = changes_fail one_at (so_far rest ends table) total rest f (whole table) some operation read left
+
+    pub left_stop : (rest ends table : List ℕ) → 1 ≤ length rest → is_operation (get_or rest 0 0) ≡ false → Left rest ends table → whole table ≡ Ok (so_far rest ends table, rest)
+    left_stop rest ends table some other left = changes_stop one_at (so_far rest ends table) total rest (whole table) some other left
+
+    pub left_end : (rest ends table : List ℕ) → length rest < 1 → Left rest ends table → whole table ≡ Ok (so_far rest ends table, rest)
+    left_end rest ends table none left = changes_end one_at (so_far rest ends table) total rest (whole table) none left
+
+-- the list that `push` leaves, where it was no error
+pub was_pushed : {E : Type 0} (result : Result (Unit {0}) E) (failed : Bool) (old more new : List ℕ) → new ≡ if is_ok result then more else old → failed ≡ is_err result → failed ≡ false → new ≡ more
+was_pushed (Ok u) failed old more new is tells none = is
+was_pushed (Err e) failed old more new is tells none = absurd cc
+
+-- ---- the flags that are written
+
+-- the next flag is before the next end, which is within the bytes
+pub next_flag : (count start : ℕ) (ends : List ℕ) (index : ℕ) → index < length ends → HaveFlags count start (drop index ends) → (start + 1 < get_or ends index 0) × (get_or ends index 0 ≤ count)
+next_flag count start [] index lt have = absurd (omega arith)
+next_flag count start (end ∷ ends) zero lt have = (omega (arith, have.0), have.1)
+next_flag count start (end ∷ ends) (suc index) lt have = next_flag count start ends index (omega arith) have
