@@ -1,7 +1,4 @@
-pub mod BlobLemmas
-pub mod CaptureLemmas
 pub mod ChangeLemmas
-pub mod DifferenceLemmas
 pub mod EntryLemmas
 pub mod FieldLemmas
 pub mod GroupLemmas

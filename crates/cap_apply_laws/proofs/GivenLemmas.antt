@@ -18,9 +18,9 @@ use Rattle.cap_apply.specs.Row.{has_old_values, missed}
 use Rattle.cap_apply.specs.Captured.{AllBefore, GivesAllRowsNow, TableRows, changes_of, total}
 use Rattle.cap_apply.specs.declared.conflict.ConflictKind.TheVariants.{Data}
 use Rattle.cap_apply.specs.declared.policy.Policy.{Policy}
-use Rattle.cap_apply.proofs.DifferenceLemmas.{Left, apply_all, changes_give}
-use Rattle.cap_apply.proofs.BlobLemmas.{all_counted, groups_give}
-use Rattle.cap_apply.proofs.CaptureLemmas.{AsksFor, asks_by_change, turned_difference}
+use Rattle.cap_apply_laws.proofs.DifferenceLemmas.{Left, apply_all, changes_give}
+use Rattle.cap_apply_laws.proofs.BlobLemmas.{all_counted, groups_give}
+use Rattle.cap_apply_laws.proofs.CaptureLemmas.{AsksFor, asks_by_change, turned_difference}
 
 module _ {A : Type 0} where
   -- ---- patches

@@ -4,3 +4,6 @@ pub mod GivenLemmas
 pub mod OnceLemmas
 pub mod RunLemmas
 pub mod TransactionLemmas
+pub mod CaptureLemmas
+pub mod DifferenceLemmas
+pub mod BlobLemmas

@@ -1,3 +1,4 @@
+pub mod WrittenLemmas
 pub mod FaultBlobs
 pub mod FaultFields
 pub mod FaultHeaders

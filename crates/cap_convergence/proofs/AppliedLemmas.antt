@@ -26,7 +26,7 @@ use Rattle.cap_apply.specs.declared.conflict.ConflictKind.{ConflictKind}
 use Rattle.cap_apply.specs.declared.policy.Answer.{Answer}
 use Rattle.cap_apply.specs.declared.policy.Answer.TheVariants.{Omit, Replace, Abort}
 use Rattle.cap_apply.specs.declared.policy.Policy.{Policy}
-use Rattle.cap_apply.proofs.CaptureLemmas.{fit_self}
+use Rattle.cap_apply_laws.proofs.CaptureLemmas.{fit_self}
 use Rattle.cap_apply.proofs.GroupLemmas.{group_there}
 use Rattle.cap_group.specs.ChangeKey.{change_key}
 use Rattle.cap_group.specs.Rows.{Follow, changes_of_row}

@@ -21,7 +21,7 @@ use Rattle.cap_apply_laws.specs.Counted.{change_count}
 use Rattle.cap_apply.specs.Report.{ReportState}
 use Rattle.cap_apply.specs.Requested.{requested_by_change, requested_in}
 use Rattle.cap_apply.specs.declared.policy.Policy.{Policy}
-use Rattle.cap_apply.proofs.CaptureLemmas.{asks_by_change, captured_one}
+use Rattle.cap_apply_laws.proofs.CaptureLemmas.{asks_by_change, captured_one}
 use Rattle.cap_apply.proofs.GroupLemmas.{group_there}
 use Rattle.cap_group.specs.ChangeKey.{change_key}
 use Rattle.cap_group.specs.Rows.{Follow, IsRowUnder, changes_of_row, is_indirect}

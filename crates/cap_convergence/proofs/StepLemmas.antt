@@ -28,7 +28,7 @@ use Rattle.cap_apply.specs.Target.{columns_fit, fitting}
 use Rattle.cap_apply.specs.declared.conflict.Conflict.{Conflict}
 use Rattle.cap_apply.specs.declared.conflict.ConflictKind.{ConflictKind}
 use Rattle.cap_apply.specs.declared.policy.Policy.{Policy}
-use Rattle.cap_apply.proofs.CaptureLemmas.{fit_self}
+use Rattle.cap_apply_laws.proofs.CaptureLemmas.{fit_self}
 use Rattle.cap_apply.proofs.ChangeLemmas.{HasTarget, applied_at}
 use Rattle.cap_apply.proofs.EntryLemmas.{get_put, get_put_other}
 use Rattle.cap_group.specs.ChangeKey.{change_key}

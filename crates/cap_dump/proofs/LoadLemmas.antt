@@ -35,7 +35,7 @@ use Rattle.cap_apply.specs.Fitting.{FitsItsColumns}
 use Rattle.cap_apply.specs.Policy.{always}
 use Rattle.cap_apply.specs.declared.policy.Answer.TheVariants.{Abort}
 use Rattle.cap_apply.specs.declared.policy.Policy.{Policy}
-use Rattle.cap_apply.proofs.BlobLemmas.{changeset_gives}
+use Rattle.cap_apply_laws.proofs.BlobLemmas.{changeset_gives}
 use Rattle.cap_apply.proofs.OrderLemmas.{found-rises}
 use Rattle.cap_dump.specs.Dump.{AreHeldWhole, dump, insert_of, inserts_of, keyed_part, keyed_parts}
 use Rattle.cap_dump.specs.Load.{create_each, filled, load, loaded, named_in, refused_load, tables_in}

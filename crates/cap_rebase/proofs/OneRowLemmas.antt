@@ -24,7 +24,7 @@ use Rattle.cap_apply.specs.declared.conflict.ConflictKind.{ConflictKind}
 use Rattle.cap_apply.specs.declared.conflict.ConflictKind.TheVariants.{Data, NotFound, Conflict}
 use Rattle.cap_apply.specs.declared.policy.Answer.{Answer}
 use Rattle.cap_apply.specs.declared.policy.Answer.TheVariants.{Omit, Replace, Abort}
-use Rattle.cap_apply.proofs.CaptureLemmas.{asks_by_change, turned_difference}
+use Rattle.cap_apply_laws.proofs.CaptureLemmas.{asks_by_change, turned_difference}
 use Rattle.cap_rebase.specs.Buffer.{answered}
 use Rattle.cap_rebase.specs.Flag.{flagged}
 use Rattle.cap_rebase.specs.OneRow.{AreApplied, HaveOneBase, IsApplied, Leads, Remote, all_buffered, client_after, conflict_at}

@@ -1,4 +1,4 @@
-use Rattle.cap_apply.proofs.DifferenceLemmas.{changes_give}
+use Rattle.cap_apply_laws.proofs.DifferenceLemmas.{changes_give}
 use Rattle.cap_apply_laws.proofs.laws.changes_give_the_rows_now.Goals as goal
 
 pub returns : goal.returns

@@ -1,4 +1,4 @@
-use Rattle.cap_codec.proofs.BlobAgain.{one_blob}
+use Rattle.cap_codec_laws.proofs.WrittenLemmas.{one_blob}
 use Rattle.cap_codec_laws.proofs.laws.no_two_have_the_same_bytes.Goals as goal
 
 pub returns : goal.returns

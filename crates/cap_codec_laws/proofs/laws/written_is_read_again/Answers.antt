@@ -1,4 +1,4 @@
-use Rattle.cap_codec.proofs.BlobAgain.{written_again, written_spelled}
+use Rattle.cap_codec_laws.proofs.WrittenLemmas.{written_again, written_spelled}
 use Rattle.cap_codec_laws.proofs.laws.written_is_read_again.Goals as goal
 
 pub returns-clause-spelled : goal.returns-clause-spelled

@@ -13,8 +13,8 @@ use Rattle.cap_apply.specs.Difference.{Difference, RowsAfter, RowsBefore, reques
 use Rattle.cap_apply.specs.Report.{ReportState}
 use Rattle.cap_apply.specs.Target.{fitting, target}
 use Rattle.cap_apply.specs.declared.policy.Policy.{Policy}
-use Rattle.cap_apply.proofs.CaptureLemmas.{fit_self}
-use Rattle.cap_apply.proofs.DifferenceLemmas.{Left, changes_give}
+use Rattle.cap_apply_laws.proofs.CaptureLemmas.{fit_self}
+use Rattle.cap_apply_laws.proofs.DifferenceLemmas.{Left, changes_give}
 
 abbrev pub all_counted : ℕ → ReportState
 all_counted n = record { applied = n; conflicts = []; omitted = []; skipped = [] }

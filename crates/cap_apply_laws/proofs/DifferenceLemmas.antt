@@ -16,7 +16,7 @@ use Rattle.cap_apply.specs.Apply.{and_then, changes_applied, counted, with_row, 
 use Rattle.cap_apply.specs.Requested.{Requested, requested_by_change}
 use Rattle.cap_apply.specs.Difference.{AllApplied, AreApart, Difference, HoldBefore, IsDifference, OtherTables, RowsAfter}
 use Rattle.cap_apply.specs.declared.policy.Policy.{Policy}
-use Rattle.cap_apply.proofs.CaptureLemmas.{AsksFor, asks_by_change, captured_one}
+use Rattle.cap_apply_laws.proofs.CaptureLemmas.{AsksFor, asks_by_change, captured_one}
 use Rattle.cap_apply.proofs.EntryLemmas.{get_put, get_put_other, get_take}
 use Rattle.cap_apply.proofs.ChangeLemmas.{same_columns, same_rest}
 
