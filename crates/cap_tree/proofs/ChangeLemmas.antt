@@ -1,6 +1,6 @@
 -- One key is changed in a list of entries and below a child.
 use Rattle.std.proofs.Common.{◌≡◌, ℕ, ◌+◌, ◌≤◌, ◌≢◌, Bool, true, false, cond, List, [], ◌∷◌, ◌++◌, length, sym, ap, ◌∙◌, arith, inl, inr, Ok, Err, Result}
-use Rattle.std.specs.Prelude.{Option, Some, None, OnErr, IsErr, IsErrAnd, ◌⊎◌}
+use Rattle.std.specs.Prelude.{Option, Some, None, OnErr, ◌⊎◌}
 use Rattle.std.specs.Option.{is_some}
 use Rattle.std.specs.declared.cmp.Ordering.{Ordering}
 use Rattle.std.specs.declared.cmp.Ordering.TheVariants.{Less, Greater}
@@ -119,15 +119,6 @@ module _ {K V E S : Type 0} (cmp : K → K → Ordering) (gives : S → Option V
   changes_length o (Ok was) before after w h = rw h.1 (change_length cmp k o next before w)
   changes_length o (Err OutOfMemory) before after w h = rw h.0 (omega arith)
   changes_length o (Err (Refused why)) before after w h = rw h.0 (omega arith)
-
-  -- where memory was out
-  pub changes_none : (r : Result (Option V) (Fault E)) → IsErr r × IsErrAnd r (λ f. f ≡ OutOfMemory) → (before after : List (K × V)) → after ≡ before → t ≡ s → Changes cmp gives r before k next after s t
-  changes_none (Ok was) h before after same hook = absurd h.1
-  changes_none (Err OutOfMemory) h before after same hook = (same, hook)
-  changes_none (Err (Refused why)) h before after same hook = absurd (no h.1)
-    where
-      no : Refused why ≡ OutOfMemory → ⊥
-      no q = cc
 
   -- below a child
   pub changes_there : (o : IsTotalOrder cmp) (height : ℕ) (front : List (Branch K V)) (p : Branch K V) (back : List (Branch K V)) → AreChildren cmp height (front ++ p ∷ back) → IsGap cmp k front p.0 back → (c : Subtree K V) (r : Result (Option V) (Fault E)) → Changes cmp gives r p.1.entries k next c.entries s t → Changes cmp gives r (entries_of (front ++ p ∷ back)) k next (entries_of (front ++ (p.0, c) ∷ back)) s t

@@ -1,5 +1,5 @@
 -- A path with the children of one more node at its end.
-use Rattle.std.proofs.Common.{◌≡◌, ℕ, ◌+◌, ◌-◌, ◌<◌, ◌≤◌, suc, zero, List, [], ◌∷◌, ◌++◌, length, drop, Bor, refl, ap, ◌∙◌, sym, subst, append_assoc, length-append, get_or, cond, true, false, add-one, ◌*◌, ◌^◌, arith, lit<}
+use Rattle.std.proofs.Common.{◌≡◌, ℕ, ◌+◌, ◌-◌, ◌<◌, ◌≤◌, suc, List, [], ◌∷◌, ◌++◌, length, drop, Bor, refl, ap, ◌∙◌, sym, subst, append_assoc, length-append, cond, true, false, ◌*◌, ◌^◌, arith, lit<}
 use Rattle.std.proofs.lemmas.List.{append-nil, nil_from_length}
 use Rattle.std.specs.declared.cmp.Ordering.{Ordering}
 use Rattle.std.specs.Ordering.{is_le}
@@ -65,17 +65,11 @@ module _ {K V Z : Type 0} where
     pub down_lower : child.node.value.height < height
     down_lower = let t = those in omega (arith, t.0.0)
 
-    pub down_room : length path < 32
-    down_room = let t = those in omega (arith, t.0.0)
-
     pub down_path : IsPath 32 path → IsPath 32 (path ++ rest ∷ [])
     down_path p = path_push 32 path rest p (children_fit cmp height (32 - length path) rest.now those.3 (omega arith))
 
     pub down_fits : length (path ++ rest ∷ []) + child.node.value.height ≤ 32
     down_fits = let t = those in omega (arith, t.0.0, length-append path (rest ∷ []))
-
-    pub down_some : (leaf : List (K × V)) → (0 < length child.node.value.entries → 0 < length leaf) → 0 < length leaf
-    down_some leaf some = some those.0.1
 
   -- to the first child
   pub down_first : (children : List (Child K V Z)) (child : Child K V Z) (rest : Bor (List (Child K V Z))) → children ≡ child ∷ rest.now → (path : List (Bor (List (Child K V Z)))) → child.node.value.entries ++ pending (path ++ rest ∷ []) ≡ entries_of (branches children) ++ pending path
@@ -129,17 +123,3 @@ module _ {K V Z : Type 0} where
       let all : length (entries_of (branches children.items)) < 2 ^ 64 = rw (← ap (λ n. n.entries) is) at fits in
       let low : height < 32 = less_power 4 height 32 (lit< tt) (omega (arith, filled, some, all)) in
       rw (← ap (λ n. n.height) is) low
-
-  -- the entries to come from the item at i on are its own and those of the items behind it
-  pub path_count : (path : List (Bor (List (Child K V Z)))) (i : ℕ) (d : Bor (List (Child K V Z))) → i < length path → d ≡ get_or path i d → length (pending (drop i path)) ≡ length (entries_of (branches d.now)) + length (pending (drop (i + 1) path))
-  path_count path i d within is = rw add-one (step path i within is)
-    where
-      step : (path : List (Bor (List (Child K V Z)))) (i : ℕ) → i < length path → d ≡ get_or path i d → length (pending (drop i path)) ≡ length (entries_of (branches d.now)) + length (pending (drop (suc i) path))
-      step [] i within is = absurd (omega arith)
-      step (p ∷ ps) zero within is = rw is (omega (arith, length-append (pending ps) (entries_of (branches p.now))))
-      step (p ∷ ps) (suc i) within is = step ps i (omega arith) is
-
-  -- where the leaf is at its end, the path leads to all that is still to come
-  pub next_up : (leaf : List (K × V)) (path : List (Bor (List (Child K V Z)))) (whole : List (K × V)) → length leaf ≡ 0 → leaf ++ pending path ≡ whole → pending path ≡ whole
-  next_up [] path whole none all = all
-  next_up (x ∷ xs) path whole none all = absurd (omega arith)

@@ -1,6 +1,6 @@
 -- The children of a node, around one that is looked at or changed, or around two neighbours.
 use Rattle.std.proofs.Common.{◌≡◌, ℕ, zero, suc, ◌+◌, ◌<◌, ◌≤◌, List, [], ◌∷◌, ◌++◌, length, take, drop, get_or, set, refl, sym, ap, subst, ◌∙◌, arith, length-append, inl, inr}
-use Rattle.std.specs.Prelude.{◌≢◌, Result, Ok, Err, IfOk, Some}
+use Rattle.std.specs.Prelude.{◌≢◌, Some}
 use Rattle.std.specs.declared.cmp.Ordering.{Ordering}
 use Rattle.std.specs.declared.cmp.Ordering.TheVariants.{Less, Equal, Greater}
 use Rattle.std.specs.Cmp.{IsTotalOrder}
@@ -48,11 +48,6 @@ module _ {K V Z : Type 0} where
       -- and y stands in its place
       pub cut_redo : (y : Child K V Z) → branches (insert (set (remove xs (j + 1)) j x) (j + 1) y) ≡ branches (take j xs) ++ (d.least, x.node.value) ∷ (y.least, y.node.value) ∷ branches (drop (suc (suc j)) xs)
       cut_redo y = rw (← least) (cut (insert (set (remove xs (j + 1)) j x) (j + 1) y) (take j xs) (x ∷ y ∷ drop (suc (suc j)) xs) (redo_around xs j x y within))
-
--- what an answer has, it has by what follows from it
-pub if_turn : {A E : Type 0} (P Q : A → Type 0) → ((x : A) → P x → Q x) → (r : Result A E) → IfOk r P → IfOk r Q
-if_turn P Q f (Ok x) h = f x h
-if_turn P Q f (Err e) h = tt
 
 -- a branch that is neither too full nor too underfull stands in for another
 pub fit_set : {K V : Type 0} (front back : List (Branch K V)) (p : Branch K V) (c : Subtree K V) → AreFit (front ++ p ∷ back) → IsFit c → AreFit (front ++ (p.0, c) ∷ back)
@@ -110,27 +105,14 @@ module _ {K V : Type 0} (cmp : K → K → Ordering) where
     pub still : AreSiblings cmp height old → AreSiblings cmp height new
     still s = record { children = same.children; fit = same.fit; ordered = rw same.entries s.ordered; fits = rw same.entries s.fits }
 
-    pub twice : (newer : List (Branch K V)) → IsRearrangement cmp height new newer → IsRearrangement cmp height old newer
-    twice newer next = record { entries = next.entries ∙ same.entries; children = next.children; fit = next.fit }
-
   -- each child has at least four items, and at most sixteen
   pub fit_items : (P : ℕ → Type 0) → ((n : ℕ) → 4 ≤ n → n ≤ 16 → P n) → (ps : List (Branch K V)) (i : ℕ) → i < length ps → AreFit ps → HasItems P i ps
   fit_items P f [] i within h d = absurd (omega arith)
   fit_items P f (p ∷ ps) zero within h d = f p.1.items h.0.0 h.0.1
   fit_items P f (p ∷ ps) (suc i) within h d = fit_items P f ps i (omega arith) h.1 d
 
-  -- what the number of items is, it is by what follows from it
-  pub ready_turn : (key : K) (P Q : ℕ → Type 0) → ((n : ℕ) → 4 ≤ n → n ≤ 16 → P n → Q n) → (ps : List (Branch K V)) (i : ℕ) → AreFit ps → IsReady cmp key P ps i → IsReady cmp key Q ps i
-  ready_turn key P Q f ps i fit r = record { within = r.within; place = r.place; items = λ d. fit_items (λ n. P n → Q n) f ps i r.within fit d (r.items d) }
-
   pub ready_fit : IsTotalOrder cmp → (key : K) (ps : List (Branch K V)) (i : ℕ) → place cmp key ps ≡ i + 1 → AreFit ps → IsReady cmp key (λ n. n ≤ 16) ps i
   ready_fit o key ps i there fit = let within : i < length ps = omega (arith, there, place_within cmp o key ps) in record { within = within; place = there; items = fit_items (λ n. n ≤ 16) (λ n low high. high) ps i within fit }
-
-  -- the child at i is d
-  pub ready_by : {Z : Type 0} (key : K) (P Q : ℕ → Type 0) (xs : List (Child K V Z)) (i : ℕ) (d : Child K V Z) → IsReady cmp key P (branches xs) i → d ≡ get_or xs i d → Q d.node.value.items → IsReady cmp key Q (branches xs) i
-  ready_by key P Q xs i d r is h =
-      let within : i < length xs = omega (arith, r.within, length_branches xs) in
-      record { within = r.within; place = r.place; items = has_child (branches xs) (branches (take i xs)) (branches (drop (suc i) xs)) (d.least, d.node.value) (cut_at xs i d within is) Q i (front_length xs i within) h }
 
   pub rearranged : (height : ℕ) (old new : List (Branch K V)) → new ≡ old → AreSiblings cmp height old → IsRearrangement cmp height old new
   rearranged height old new is s = rw is (record { entries = refl; children = s.children; fit = s.fit })

@@ -1,22 +1,11 @@
-use Rattle.std.proofs.Common.{◌≡◌, ◌+◌, ◌*◌, ◌<◌, ◌≤◌, ◌^◌, length, arith, rules, refl, sym, ap, subst, ◌∙◌}
+use Rattle.std.proofs.Common.{◌≡◌, ◌+◌, ◌*◌, ◌<◌, ◌≤◌, ◌^◌, length, arith, rules, sym, ap, subst, ◌∙◌}
 use Rattle.cap_tree.specs.Tree.{IsOrdered, get}
 use Rattle.cap_tree.specs.Change.{gain, loss}
 use Rattle.cap_tree.specs.Shape.{branches, entries_of, AreFit, IsFit, IsChild}
 use Rattle.cap_tree.proofs.HeightLemmas.{fed}
-use Rattle.cap_tree.proofs.ChangeLemmas.{either_way, changes_of, changes_keeps, changes_length, changes_none, changes_there, children_there, get_there}
+use Rattle.cap_tree.proofs.ChangeLemmas.{either_way, changes_of, changes_keeps, changes_length, changes_there, children_there, get_there}
 use Rattle.cap_tree.proofs.SiblingLemmas.{cut_set, child_is, child_fit, child_ordered, count_is, fit_set, way_to}
 use Rattle.cap_tree.proofs.change.+change.Goals as goal
-
-pub change_in_node-make_ready-requires : goal.change_in_node-make_ready-requires
-change_in_node-make_ready-requires g t c =
-    let n = rw c.in-Inner.is at c.node.invariant in
-    let view = rw c.in-Inner.is at c.node.view_is in
-    let range = rw c.in-Inner.is at c.node.ranges in
-    let two = c.requires.two (omega (arith, n.high, ap (λ n. n.height) view)) in
-    record {
-      some = omega (arith, two, ap (λ n. n.items) view);
-      siblings = record { children = n.children; fit = n.fit; ordered = rw (ap (λ n. n.entries) view) c.requires.ordered; fits = omega (arith, n.count, range) };
-    }
 
 pub change_in_node-change_in_child-requires : goal.change_in_node-change_in_child-requires
 change_in_node-change_in_child-requires g t c =
@@ -89,78 +78,13 @@ change_in_node-returns-in-Inner g t c =
       least = omega (arith, ap (λ n. n.items) view, e.least);
     }
 
-pub change_in_node-invariant_of-node-in_err-at-in-Inner : goal.change_in_node-invariant_of-node-in_err-at-in-Inner
-change_in_node-invariant_of-node-in_err-at-in-Inner g t c =
-    let n = rw c.in-Inner.is at c.node.invariant in
-    let view = rw c.in-Inner.is at c.node.view_is in
-    let e = c.make_ready.ensures in
-    record {
-      high = n.high;
-      most = omega (arith, ap (λ n. n.items) view, c.requires.room, e.most);
-      children = e.same.children;
-      fit = e.same.fit;
-      count = n.count ∙ ap length (sym e.same.entries);
-    }
-
-pub change_in_node-returns-in_err-at-in-Inner : goal.change_in_node-returns-in_err-at-in-Inner
-change_in_node-returns-in_err-at-in-Inner g t c =
-    let view = rw c.in-Inner.is at c.node.view_is in
-    let e = c.make_ready.ensures in
-    record {
-      changes = changes_none g.K.Ord.cmp g.H.Hook.gives (g.C.Change.key_of c.args.change) (g.C.Change.next_of c.args.change) c.args.hook.now c.args.hook.now c.from_residual.result c.from_residual.ensures _ _ (e.same.entries ∙ ap (λ n. n.entries) view) refl;
-      height = ap (λ n. n.height) view;
-      least = omega (arith, ap (λ n. n.items) view, e.least);
-    }
-
 pub change_in_node-invariant_of-node : goal.change_in_node-invariant_of-node
 change_in_node-invariant_of-node g t c =
     let view = rw c.in-Leaf.is at c.node.view_is in
     omega (arith, c.make_in_leaf.ensures.most, c.requires.room, ap (λ n. n.items) view)
-
-pub change_in_node-returns-in-Leaf : goal.change_in_node-returns-in-Leaf
-change_in_node-returns-in-Leaf g t c =
-    let view = rw c.in-Leaf.is at c.node.view_is in
-    let e = c.make_in_leaf.ensures in
-    record {
-      changes = rw (← ap (λ n. n.entries) view) e.changes;
-      height = ap (λ n. n.height) view;
-      least = omega (arith, ap (λ n. n.items) view, e.least);
-    }
-
-pub change_in_child-change_in_node-answer-requires : goal.change_in_child-change_in_node-answer-requires
-change_in_child-change_in_node-answer-requires g t c =
-    let same = either_way c.in_ok-subtree.ensures.value in
-    let r = c.requires in
-    let node = c.in_ok-subtree.subtree.now in
-    let ordered : IsOrdered g.K.Ord.cmp node.entries = rw same r.ordered in
-    let room : node.items + gain (g.C.Change.next_of c.args.change) ≤ 16 = rw same r.room in
-    let two : 0 < node.height → loss (g.C.Change.next_of c.args.change) < node.items = λ up. rw same (omega (arith, r.spare)) in
-    let fits : length node.entries + gain (g.C.Change.next_of c.args.change) < 2 ^ 64 = rw same (omega (arith, r.counted, r.fits)) in
-    let can : g.H.Hook.can_ask c.args.hook.now (get g.K.Ord.cmp node.entries (g.C.Change.key_of c.args.change)) (g.C.Change.next_of c.args.change) = rw same r.can_ask in
-    λ κs h. search rules
-
-pub change_in_child-overflow_sub-count : goal.change_in_child-overflow_sub-count
-change_in_child-overflow_sub-count g t c =
-    let same = either_way c.in_ok-subtree.ensures.value in
-    omega (arith, c.count-before.ensures, ap (λ n. length n.entries) same, c.requires.counted)
 
 pub change_in_child-overflow_add-count : goal.change_in_child-overflow_add-count
 change_in_child-overflow_add-count g t c =
     let same = either_way c.in_ok-subtree.ensures.value in
     let more = changes_length g.K.Ord.cmp g.H.Hook.gives (g.C.Change.key_of c.args.change) (g.C.Change.next_of c.args.change) c.args.hook.now c.change_in_node-answer.new.hook g.met.K.Ord.total c.change_in_node-answer.result c.in_ok-subtree.subtree.now.entries c.change_in_node-answer.new.node.entries (rw same c.requires.ordered) c.change_in_node-answer.ensures.changes in
     omega (arith, c.count-before.ensures, c.count.ensures, ap (λ n. length n.entries) same, c.requires.counted, c.requires.fits, more)
-
-pub change_in_child-returns : goal.change_in_child-returns
-change_in_child-returns g t c =
-    let same = either_way c.in_ok-subtree.ensures.value in
-    let kept = c.make_mut.follows.holds c.change_in_node-answer.new.node (rw c.in_ok-subtree.was refl) in
-    let r = c.change_in_node-answer.result in
-    let e = c.change_in_node-answer.ensures in
-    let l = c.len-length.ensures in
-    record {
-      changes = changes_of g.K.Ord.cmp g.H.Hook.gives (g.C.Change.key_of c.args.change) (g.C.Change.next_of c.args.change) c.args.hook.now c.change_in_node-answer.new.hook r _ _ _ _ (ap (λ n. n.entries) same) (sym (ap (λ n. n.entries) kept)) e.changes;
-      least = refl;
-      height = ap (λ n. n.height) kept ∙ e.height ∙ ap (λ n. n.height) same;
-      fit = rw kept (omega (arith, ap (λ n. n.items) same, c.requires.spare, e.least), omega (arith, l.value, l.most), l.filled);
-      count = omega (arith, c.count-before.ensures, c.count.ensures, ap (λ n. length n.entries) same, ap (λ n. length n.entries) kept, c.requires.counted);
-    }

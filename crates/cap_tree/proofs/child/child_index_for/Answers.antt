@@ -17,11 +17,6 @@ rename_first-requires g c =
     let below = below_entries cmp total key c.args.height ps s.children (below_children cmp total key c.args.height ps s.children (sym count ∙ c.if-at-eq0.true)) in
     record { children = s.children; fit = s.fit; not_below = each_turn cmp (λ y. cmp key y ≡ Less) (λ y. cmp key y ≢ Greater) (λ y. less_not_greater cmp total key y) (entries_of ps) below }
 
-pub returns-then-at-eq0-clause-ready : goal.returns-then-at-eq0-clause-ready
-returns-then-at-eq0-clause-ready g c =
-    let e = c.in_ok-rename_first.ensures in
-    ready_fit g.K.Ord.cmp g.met.K.Ord.total c.args.key.now (branches c.rename_first.new.children.items) 0 (omega (arith, e.place c.requires.some)) e.same.fit
-
 pub returns : goal.returns
 returns g c =
     let s = c.requires.siblings in

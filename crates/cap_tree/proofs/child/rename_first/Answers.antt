@@ -22,6 +22,3 @@ returns g c =
       place = λ _. rw e (place_renamed g.K.Ord.cmp g.met.K.Ord.total c.args.least.now c.args.height (branches items) _ (omega (arith, within, length_branches items)) c.requires.children c.requires.not_below);
       leasts = rw e (leasts_renamed g.K.Ord.cmp g.met.K.Ord.total c.args.least.now c.args.height (branches items) _ c.requires.children c.requires.not_below);
     }
-
-pub returns-in_err-renamed-clause-same : goal.returns-in_err-renamed-clause-same
-returns-in_err-renamed-clause-same g c = record { entries = refl; children = c.requires.children; fit = c.requires.fit }

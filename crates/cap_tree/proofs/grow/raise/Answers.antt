@@ -1,4 +1,4 @@
-use Rattle.std.proofs.Common.{◌+◌, arith, refl}
+use Rattle.std.proofs.Common.{◌+◌, arith}
 use Rattle.std.proofs.lemmas.List.{append-nil}
 use Rattle.cap_tree.specs.Shape.{IsChild, IsFit}
 use Rattle.cap_tree.proofs.HeightLemmas.{fed}
@@ -17,10 +17,3 @@ invariant_of-root g c =
       fit = rw (c.insert_in_room.ensures.items, c.in_ok-children.ensures.items, c.swap.ensures.x_after) (fit, tt);
       count = rw (c.insert_in_room.ensures.items, c.in_ok-children.ensures.items, c.swap.ensures.x_after, append-nil) c.count-count.ensures;
     }
-
-pub returns : goal.returns
-returns g c = record {
-  err = tt;
-  entries = rw (c.insert_in_room.ensures.items, c.in_ok-children.ensures.items, c.swap.ensures.x_after, append-nil) refl;
-  one = omega (arith, c.insert_in_room.ensures.len, c.in_ok-children.ensures.len);
-}

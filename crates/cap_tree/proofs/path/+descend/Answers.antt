@@ -1,15 +1,7 @@
 use Rattle.std.proofs.Common.{◌+◌, ◌<◌, ◌≤◌, length, arith, ap, ◌∙◌, rules, lit<}
 use Rattle.cap_tree.specs.Path.{IsPath}
-use Rattle.cap_tree.proofs.PathLemmas.{down_lower, down_room, down_path, down_fits, down_some, down_first}
+use Rattle.cap_tree.proofs.PathLemmas.{down_lower, down_path, down_fits, down_first}
 use Rattle.cap_tree.proofs.path.+descend.Goals as goal
-
-pub push-requires : goal.push-requires
-push-requires g t c =
-    let n = rw c.in-Inner.is at c.node.invariant in
-    let view = rw c.in-Inner.is at c.node.view_is in
-    let is = rw c.as_slice-in-Inner.ensures.value at c.in-Some.ensures.cases.0 in
-    let fits : length c.args.path.now.items + c.in-Inner.field-0 ≤ 32 = omega (arith, c.requires.fits, ap (λ n. n.height) view) in
-    (lit< tt, down_room g.K.Ord.cmp c.in-Inner.field-0 c.in-Inner.children.items 0 c.in-Some.child.now c.in-Some.rest is n.children c.args.path.now.items fits)
 
 pub descend-requires : goal.descend-requires
 descend-requires g t c =
@@ -28,11 +20,3 @@ returns-in-Inner-clause-pending g t c =
     let view = rw c.in-Inner.is at c.node.view_is in
     let is = rw c.as_slice-in-Inner.ensures.value at c.in-Some.ensures.cases.0 in
     rw (← ap (λ n. n.entries) view) (c.descend.ensures.pending ∙ rw (c.push.ensures.items, c.deref.ensures) (down_first c.in-Inner.children.items c.in-Some.child.now c.in-Some.rest is c.args.path.now.items))
-
-pub returns-in-Inner-clause-some : goal.returns-in-Inner-clause-some
-returns-in-Inner-clause-some g t c =
-    let n = rw c.in-Inner.is at c.node.invariant in
-    let view = rw c.in-Inner.is at c.node.view_is in
-    let is = rw c.as_slice-in-Inner.ensures.value at c.in-Some.ensures.cases.0 in
-    let fits : length c.args.path.now.items + c.in-Inner.field-0 ≤ 32 = omega (arith, c.requires.fits, ap (λ n. n.height) view) in
-    λ _. down_some g.K.Ord.cmp c.in-Inner.field-0 c.in-Inner.children.items 0 c.in-Some.child.now c.in-Some.rest is n.children c.args.path.now.items fits c.descend.result.now (rw c.deref.ensures at c.descend.ensures.some)

@@ -1,17 +1,9 @@
 use Rattle.std.proofs.Common.{◌+◌, ◌<◌, ◌≤◌, length, arith, ap, ◌∙◌, rules, lit<}
 use Rattle.cap_tree.specs.Path.{IsPath}
 use Rattle.cap_tree.specs.Tree.{IsOrdered}
-use Rattle.cap_tree.proofs.PathLemmas.{down_lower, down_room, down_path, down_fits, down_key}
+use Rattle.cap_tree.proofs.PathLemmas.{down_lower, down_path, down_fits, down_key}
 use Rattle.cap_tree.proofs.WayLemmas.{child_ordered}
 use Rattle.cap_tree.proofs.path.+seek.Goals as goal
-
-pub push-requires : goal.push-requires
-push-requires g t c =
-    let n = rw c.in-Inner.is at c.node.invariant in
-    let view = rw c.in-Inner.is at c.node.view_is in
-    let there = rw c.as_slice-in-Inner.ensures.value at (c.in-Some.ensures c.in-Inner.field-0 (rw c.as_slice-in-Inner.ensures.value n.children)) in
-    let fits : length c.args.path.now.items + c.in-Inner.field-0 ≤ 32 = omega (arith, c.requires.fits, ap (λ n. n.height) view) in
-    (lit< tt, down_room g.K.Ord.cmp c.in-Inner.field-0 c.in-Inner.children.items _ c.in-Some.child.now c.in-Some.rest there n.children c.args.path.now.items fits)
 
 pub seek-requires : goal.seek-requires
 seek-requires g t c =
