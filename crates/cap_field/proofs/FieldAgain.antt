@@ -1,7 +1,9 @@
 -- What was written for a number and a value is read again, whatever follows it.
-use Rattle.std.proofs.Common.{◌≡◌, ℕ, ℤ, pos, negsuc, ◌+◌, ◌*◌, ◌-◌, ◌/◌, ◌%◌, ◌^◌, ◌<◌, ◌≤◌, false, nat_lt, ◌==◌, ◌&&◌, List, ◌∷◌, ◌++◌, length, Result, Ok, refl, ap, ◌∙◌, inl, inr, append_assoc, arith, w64, to_z-of_z, length-append, take_at, drop_at, le-ltb, lt-ltb, eq-eqb, ne_eqb, FitsSigned, IsUtf8}
+use Rattle.std.proofs.Common.{◌≡◌, ℕ, zero, suc, ℤ, pos, negsuc, ◌+◌, ◌*◌, ◌-◌, ◌/◌, ◌%◌, ◌^◌, ◌<◌, ◌≤◌, false, nat_lt, ◌==◌, ◌&&◌, List, ◌∷◌, ◌++◌, length, Result, Ok, refl, ap, ◌∙◌, inl, inr, append_assoc, arith, w64, to_z-of_z, length-append, take_at, drop_at, le-ltb, lt-ltb, ne_eqb, pow-suc, FitsSigned, IsUtf8}
 use Rattle.std.specs.Int.{from_be_bytes, cast_signed, cast_unsigned}
+use Rattle.std.proofs.Math.Nat.{pow-le-pow_right}
 use Rattle.std.proofs.lemmas.Bool.{cases_lt}
+use Rattle.std.proofs.lemmas.Bool.Decides.{nat_tests}
 use Rattle.std.proofs.lemmas.Nat.{from_be_bytes-to_be_bytes_8}
 use Rattle.std.proofs.lemmas.Str.{is_utf8-from_IsUtf8}
 use Rattle.byteorder.specs.Numbers.{length-bytes_high_first}
@@ -13,6 +15,7 @@ use Rattle.cap_field.specs.Reading.{◌>>=◌, place, bytes_at, varint_from, var
 use Rattle.cap_field.specs.Varint.{varint_bytes}
 use Rattle.cap_field.specs.Field.{number_bytes, sized_bytes, value_bytes}
 use Rattle.cap_field.specs.FieldReading.{number_at, sized_at, text_at, content_at, value_at}
+use Rattle.cap_field.proofs.Spelled.{groups, groups_more, groups_last}
 
 -- ---- numbers
 
@@ -29,64 +32,35 @@ goes_on total at read high m rest early shortest whole =
 ends : (total at read high n : ℕ) (rest : List ℕ) → high * 128 + n % 128 ≡ n → varint_from total at read high (n % 128 ∷ rest) ≡ Ok (n, rest)
 ends total at read high n rest whole = rw (lt-ltb (n % 128) 128 (omega arith), whole) refl
 
--- a first group that is not zero
-first_group : (m : ℕ) → 0 < m → m < 128 → ((0 == 0) && ((128 + m % 128) == 128)) ≡ false
-first_group m some small = ne_eqb (128 + m % 128) 128 (λ e. omega arith)
+-- the first group is not zero
+shortest : (read m : ℕ) → 0 < m → (0 < m / 128 → 0 < read) → ((read == 0) && ((128 + m % 128) == 128)) ≡ false
+shortest read m some begun = grind (arith, nat_tests)
 
-of_1 : (total at n : ℕ) (rest : List ℕ) → n < 128 → varint_from total at 0 0 (varint_bytes n ++ rest) ≡ Ok (n, rest)
-unfolding varint_bytes
-of_1 total at n rest lt =
-    rw (eq-eqb (n / 268435456) 0 (omega arith), eq-eqb (n / 2097152) 0 (omega arith), eq-eqb (n / 16384) 0 (omega arith), eq-eqb (n / 128) 0 (omega arith))
-    (ends total at 0 0 n rest (omega arith))
-
-of_2 : (total at n : ℕ) (rest : List ℕ) → 128 ≤ n → n < 16384 → varint_from total at 0 0 (varint_bytes n ++ rest) ≡ Ok (n, rest)
-unfolding varint_bytes
-of_2 total at n rest le lt =
-    rw (eq-eqb (n / 268435456) 0 (omega arith), eq-eqb (n / 2097152) 0 (omega arith), eq-eqb (n / 16384) 0 (omega arith), ne_eqb (n / 128) 0 (λ e. omega arith))
-    (goes_on total at 0 0 (n / 128) (n % 128 ∷ rest) (omega arith) (first_group (n / 128) (omega arith) (omega arith)) (omega arith)
-    ∙ ends total at 1 (n / 128) n rest (omega arith))
-
-of_3 : (total at n : ℕ) (rest : List ℕ) → 16384 ≤ n → n < 2097152 → varint_from total at 0 0 (varint_bytes n ++ rest) ≡ Ok (n, rest)
-unfolding varint_bytes
-of_3 total at n rest le lt =
-    rw (eq-eqb (n / 268435456) 0 (omega arith), eq-eqb (n / 2097152) 0 (omega arith), ne_eqb (n / 16384) 0 (λ e. omega arith), ne_eqb (n / 128) 0 (λ e. omega arith))
-    (goes_on total at 0 0 (n / 16384) ((128 + n / 128 % 128) ∷ n % 128 ∷ rest) (omega arith) (first_group (n / 16384) (omega arith) (omega arith)) (omega arith)
-    ∙ goes_on total at 1 (n / 16384) (n / 128) (n % 128 ∷ rest) (omega arith) refl (omega arith)
-    ∙ ends total at 2 (n / 128) n rest (omega arith))
-
-of_4 : (total at n : ℕ) (rest : List ℕ) → 2097152 ≤ n → n < 268435456 → varint_from total at 0 0 (varint_bytes n ++ rest) ≡ Ok (n, rest)
-unfolding varint_bytes
-of_4 total at n rest le lt =
-    rw (eq-eqb (n / 268435456) 0 (omega arith), ne_eqb (n / 2097152) 0 (λ e. omega arith), ne_eqb (n / 16384) 0 (λ e. omega arith), ne_eqb (n / 128) 0 (λ e. omega arith))
-    (goes_on total at 0 0 (n / 2097152) ((128 + n / 16384 % 128) ∷ (128 + n / 128 % 128) ∷ n % 128 ∷ rest) (omega arith) (first_group (n / 2097152) (omega arith) (omega arith)) (omega arith)
-    ∙ goes_on total at 1 (n / 2097152) (n / 16384) ((128 + n / 128 % 128) ∷ n % 128 ∷ rest) (omega arith) refl (omega arith)
-    ∙ goes_on total at 2 (n / 16384) (n / 128) (n % 128 ∷ rest) (omega arith) refl (omega arith)
-    ∙ ends total at 3 (n / 128) n rest (omega arith))
-
-of_5 : (total at n : ℕ) (rest : List ℕ) → 268435456 ≤ n → n < 2 ^ 35 → varint_from total at 0 0 (varint_bytes n ++ rest) ≡ Ok (n, rest)
-unfolding varint_bytes
-of_5 total at n rest le lt =
-    rw (ne_eqb (n / 268435456) 0 (λ e. omega arith), ne_eqb (n / 2097152) 0 (λ e. omega arith), ne_eqb (n / 16384) 0 (λ e. omega arith), ne_eqb (n / 128) 0 (λ e. omega arith))
-    (goes_on total at 0 0 (n / 268435456) ((128 + n / 2097152 % 128) ∷ (128 + n / 16384 % 128) ∷ (128 + n / 128 % 128) ∷ n % 128 ∷ rest) (omega arith) (first_group (n / 268435456) (omega arith) (omega arith)) (omega arith)
-    ∙ goes_on total at 1 (n / 268435456) (n / 2097152) ((128 + n / 16384 % 128) ∷ (128 + n / 128 % 128) ∷ n % 128 ∷ rest) (omega arith) refl (omega arith)
-    ∙ goes_on total at 2 (n / 2097152) (n / 16384) ((128 + n / 128 % 128) ∷ n % 128 ∷ rest) (omega arith) refl (omega arith)
-    ∙ goes_on total at 3 (n / 16384) (n / 128) (n % 128 ∷ rest) (omega arith) refl (omega arith)
-    ∙ ends total at 4 (n / 128) n rest (omega arith))
+-- the groups but the last, at most so many
+groups_again : (total at most high : ℕ) (rest : List ℕ) → most ≤ 4 → high < 128 ^ most
+    → (read : ℕ) × (read ≤ most) × (0 < high → 0 < read) × (varint_from total at 0 0 (groups high rest) ≡ varint_from total at read high rest)
+groups_again total at zero high rest within fits = let none : high ≡ 0 = omega arith in (0, omega arith, (λ some. omega arith), rw none refl)
+groups_again total at (suc most) high rest within fits = elim (cases_lt 0 high) [
+  | inl some ↦
+      let less : most ≤ 3 = omega arith in
+      let cap : 128 ^ most ≤ 128 ^ 3 = pow-le-pow_right (omega arith) less in
+      let fits' = rw pow-suc at fits in
+      let (read, few, begun, is) = groups_again total at most (high / 128) ((128 + high % 128) ∷ rest) (omega arith) (omega arith) in (
+        read + 1,
+        omega arith,
+        (λ _. omega arith),
+        ap (varint_from total at 0 0) (groups_more high (high / 128) (128 + high % 128) rest (omega arith) (omega arith) (omega arith) (omega arith) some)
+            ∙ is ∙ goes_on total at read (high / 128) high rest (omega arith) (shortest read high some begun) (omega arith),
+      )
+  | inr none ↦ let none' : high ≡ 0 = omega arith in (0, omega arith, (λ some. omega arith), rw none' refl)
+]
 
 pub varint_again : (total n : ℕ) (rest : List ℕ) → n < 2 ^ 35 → varint_at total (varint_bytes n ++ rest) ≡ Ok (n, rest)
 unfolding varint_at
 varint_again total n rest lt =
     let at = place total (varint_bytes n ++ rest) in
-    elim (cases_lt n 128) [
-      | inl a ↦ of_1 total at n rest a
-      | inr a ↦ elim (cases_lt n 16384) [
-        | inl b ↦ of_2 total at n rest a b
-        | inr b ↦ elim (cases_lt n 2097152) [
-          | inl c ↦ of_3 total at n rest b c
-          | inr c ↦ elim (cases_lt n 268435456) [ inl d ↦ of_4 total at n rest c d | inr d ↦ of_5 total at n rest d lt ]
-        ]
-      ]
-    ]
+    let (read, few, begun, is) = groups_again total at 4 (n / 128) (n % 128 ∷ rest) (omega arith) (omega arith) in
+    ap (varint_from total at 0 0) (groups_last n (n / 128) (n % 128) rest (omega arith) (omega arith)) ∙ is ∙ ends total at read (n / 128) n rest (omega arith)
 
 pub bytes_again : (total count : ℕ) (bytes rest : List ℕ) → length bytes ≡ count → bytes_at total count (bytes ++ rest) ≡ Ok (bytes, rest)
 bytes_again total count bytes rest len =

@@ -1,9 +1,11 @@
 -- What was read is spelled by the bytes that were read: numbers, texts and blobs.
-use Rattle.std.proofs.Common.{◌≡◌, ℕ, ℤ, zero, suc, ◌+◌, ◌-◌, ◌*◌, ◌^◌, ◌/◌, ◌%◌, ◌<◌, ◌≤◌, ◌⊎◌, inl, inr, false, nat_lt, ◌==◌, ◌&&◌, ◌||◌, List, [], ◌∷◌, ◌++◌, length, get_or, Ok, refl, sym, ap, subst, ◌∙◌, append_assoc, arith, w64, take-append-drop, FitsSigned, IsUtf8}
+use Rattle.std.proofs.Common.{◌≡◌, ℕ, ℤ, zero, suc, ◌+◌, ◌-◌, ◌*◌, ◌^◌, ◌/◌, ◌%◌, ◌<◌, ◌≤◌, inl, inr, false, nat_lt, ◌==◌, ◌&&◌, ◌||◌, List, [], ◌∷◌, ◌++◌, length, get_or, Ok, refl, sym, ap, subst, ◌∙◌, append_assoc, append-nil, add-one, pow-suc, arith, w64, take-append-drop, FitsSigned, IsUtf8}
 use Rattle.std.specs.List.{AllByRecursion}
 use Rattle.std.specs.Int.{from_be_bytes, cast_signed}
 use Rattle.std.specs.Str.{is_utf8}
-use Rattle.std.proofs.lemmas.Bool.{ltb-true, ltb-false, eqb-false, eq-eqb, ne_eqb}
+use Rattle.std.proofs.Math.Nat.{pow-le-pow_right}
+use Rattle.std.proofs.lemmas.Bool.{ltb-true, ltb-false, eq-eqb, ne_eqb}
+use Rattle.std.proofs.lemmas.Bool.Decides.{nat_tests}
 use Rattle.std.proofs.lemmas.Int.{of_z-to_z}
 use Rattle.std.proofs.lemmas.List.{length-take-le}
 use Rattle.std.proofs.lemmas.Nat.{be_bytes_8}
@@ -12,7 +14,7 @@ use Rattle.byteorder.specs.Endian.{big_bytes}
 use borrow.Author.Gap.{read_sfits}
 use Rattle.cap_value.specs.Bytes.{AreBytes}
 use Rattle.cap_field.specs.Reading.{place, bytes_at, varint_from, varint_at}
-use Rattle.cap_field.specs.Varint.{varint_bytes}
+use Rattle.cap_field.specs.Varint.{group_bytes, varint_bytes}
 use Rattle.cap_field.specs.Field.{number_bytes, sized_bytes}
 use Rattle.cap_field.specs.FieldReading.{number_at, sized_at, text_at}
 use Rattle.cap_field.proofs.Binds.{bind_ok, guard_ok, check_ok, chosen, ok_is}
@@ -49,135 +51,60 @@ are_bytes bytes low = λ i lt. low_at bytes low i
 
 -- ---- numbers
 
+-- the groups but the last, and what follows them
+abbrev pub groups : ℕ → List ℕ → List ℕ
+groups high rest = group_bytes (high / 2097152) ++ (group_bytes (high / 16384) ++ (group_bytes (high / 128) ++ (group_bytes high ++ rest)))
+
+-- one more group
+pub groups_more : (n high byte : ℕ) (rest : List ℕ) → n ≡ high * 128 + (byte - 128) → high < 2097152 → 128 ≤ byte → byte < 256 → 0 < n → groups n rest ≡ groups high (byte ∷ rest)
+groups_more n high byte rest is fits le lt some =
+    let first : n / 2097152 ≡ high / 16384 = omega arith in
+    let second : n / 16384 ≡ high / 128 = omega arith in
+    let third : n / 128 ≡ high = omega arith in
+    let last : 128 + n % 128 ≡ byte = omega arith in
+    rw (first, second, third, last, ne_eqb n 0 (λ e. omega arith), eq-eqb (high / 2097152) 0 (omega arith)) refl
+
+-- the last group
+pub groups_last : (n high byte : ℕ) (rest : List ℕ) → n ≡ high * 128 + byte → byte < 128 → varint_bytes n ++ rest ≡ groups high (byte ∷ rest)
+unfolding varint_bytes
+groups_last n high byte rest is lt =
+    let first : n / 268435456 ≡ high / 2097152 = omega arith in
+    let second : n / 2097152 ≡ high / 16384 = omega arith in
+    let third : n / 16384 ≡ high / 128 = omega arith in
+    let fourth : n / 128 ≡ high = omega arith in
+    let last : n % 128 ≡ byte = omega arith in
+    rw (first, second, third, fourth, last) (simp append_assoc)
+
 pub digits_1 : (b : ℕ) → b < 128 → varint_bytes b ≡ b ∷ []
-unfolding varint_bytes
-digits_1 b lt =
-    let last : b % 128 ≡ b = omega arith in
-    rw (eq-eqb (b / 268435456) 0 (omega arith), eq-eqb (b / 2097152) 0 (omega arith), eq-eqb (b / 16384) 0 (omega arith), eq-eqb (b / 128) 0 (omega arith), last) refl
-
-digits_2 : (n d b : ℕ) → n ≡ d * 128 + b → 0 < d → d < 128 → b < 128 → varint_bytes n ≡ (128 + d) ∷ b ∷ []
-unfolding varint_bytes
-digits_2 n d b is some low lt =
-    let first : n / 128 % 128 ≡ d = omega arith in
-    let last : n % 128 ≡ b = omega arith in
-    rw (eq-eqb (n / 268435456) 0 (omega arith), eq-eqb (n / 2097152) 0 (omega arith), eq-eqb (n / 16384) 0 (omega arith), ne_eqb (n / 128) 0 (λ e. omega arith), first, last) refl
-
-digits_3 : (n d c b : ℕ) → n ≡ (d * 128 + c) * 128 + b → 0 < d → d < 128 → c < 128 → b < 128 → varint_bytes n ≡ (128 + d) ∷ (128 + c) ∷ b ∷ []
-unfolding varint_bytes
-digits_3 n d c b is some low lt lt' =
-    let first : n / 16384 % 128 ≡ d = omega arith in
-    let second : n / 128 % 128 ≡ c = omega arith in
-    let last : n % 128 ≡ b = omega arith in
-    rw (eq-eqb (n / 268435456) 0 (omega arith), eq-eqb (n / 2097152) 0 (omega arith), ne_eqb (n / 16384) 0 (λ e. omega arith), ne_eqb (n / 128) 0 (λ e. omega arith), first, second, last) refl
-
-digits_4 : (n d c a b : ℕ) → n ≡ ((d * 128 + c) * 128 + a) * 128 + b → 0 < d → d < 128 → c < 128 → a < 128 → b < 128 → varint_bytes n ≡ (128 + d) ∷ (128 + c) ∷ (128 + a) ∷ b ∷ []
-unfolding varint_bytes
-digits_4 n d c a b is some low lt lt' lt'' =
-    let first : n / 2097152 % 128 ≡ d = omega arith in
-    let second : n / 16384 % 128 ≡ c = omega arith in
-    let third : n / 128 % 128 ≡ a = omega arith in
-    let last : n % 128 ≡ b = omega arith in
-    rw (eq-eqb (n / 268435456) 0 (omega arith), ne_eqb (n / 2097152) 0 (λ e. omega arith), ne_eqb (n / 16384) 0 (λ e. omega arith), ne_eqb (n / 128) 0 (λ e. omega arith), first, second, third, last) refl
-
-digits_5 : (n f d c a b : ℕ) → n ≡ (((f * 128 + d) * 128 + c) * 128 + a) * 128 + b → 0 < f → f < 128 → d < 128 → c < 128 → a < 128 → b < 128
-    → varint_bytes n ≡ (128 + f) ∷ (128 + d) ∷ (128 + c) ∷ (128 + a) ∷ b ∷ []
-unfolding varint_bytes
-digits_5 n f d c a b is some low lt lt' lt'' last_low =
-    let first : n / 268435456 % 128 ≡ f = omega arith in
-    let second : n / 2097152 % 128 ≡ d = omega arith in
-    let third : n / 16384 % 128 ≡ c = omega arith in
-    let fourth : n / 128 % 128 ≡ a = omega arith in
-    let last : n % 128 ≡ b = omega arith in
-    rw (ne_eqb (n / 268435456) 0 (λ e. omega arith), ne_eqb (n / 2097152) 0 (λ e. omega arith), ne_eqb (n / 16384) 0 (λ e. omega arith), ne_eqb (n / 128) 0 (λ e. omega arith), first, second, third, fourth, last) refl
+digits_1 b lt = sym (append-nil (varint_bytes b)) ∙ groups_last b 0 b [] (omega arith) lt
 
 -- a number and the bytes behind it
 abbrev pub IsNumber : List ℕ → ℕ × List ℕ → Type 0
 IsNumber bytes x = (x.0 < 2 ^ 35) × (bytes ≡ varint_bytes x.0 ++ x.1)
 
--- the last byte, or one with more behind it
-step : (total at read high : ℕ) (bytes : List ℕ) (x : ℕ × List ℕ) → varint_from total at read high bytes ≡ Ok x
-    → (byte : ℕ) × (rest : List ℕ) × (bytes ≡ byte ∷ rest)
-    × (((byte < 128) × ((high * 128 + byte, rest) ≡ x)) ⊎ ((128 ≤ byte) × (((read == 4) || (read == 0) && (byte == 128)) ≡ false) × (varint_from total at (read + 1) (high * 128 + (byte - 128)) rest ≡ Ok x)))
-step total at read high [] x e = absurd cc
-step total at read high (byte ∷ rest) x e = elim (chosen (nat_lt byte 128) _ _ _ e) [
-  | inl (last, is) ↦ (byte, rest, refl, inl (ltb-true byte 128 last, ok_is (high * 128 + byte, rest) x is))
-  | inr (more, is) ↦
-      let on = guard_ok ((read == 4) || (read == 0) && (byte == 128)) _ _ x is in
-      (byte, rest, refl, inr (ltb-false byte 128 more, on.0, on.1))
-]
+goes_on : (read high byte : ℕ) → ((read == 4) || (read == 0) && (byte == 128)) ≡ false → read ≤ 4 → (0 < read → 0 < high) → 128 ≤ byte → (read + 1 ≤ 4) × (0 < high * 128 + (byte - 128))
+goes_on read high byte go within some le = grind (arith, nat_tests)
 
--- the last byte ends the number
-ended : (front bytes rest : List ℕ) (high byte : ℕ) (x : ℕ × List ℕ) → bytes ≡ byte ∷ rest → (high * 128 + byte, rest) ≡ x → high * 128 + byte < 2 ^ 35
-    → varint_bytes (high * 128 + byte) ≡ front ++ byte ∷ [] → IsNumber (front ++ bytes) x
-ended front bytes rest high byte x parts is small digits =
-    subst (IsNumber (front ++ bytes)) is (small, ap (λ (r : List ℕ). front ++ r) parts ∙ sym (append_assoc front (byte ∷ []) rest) ∙ ap (λ (r : List ℕ). r ++ rest) (sym digits))
-
--- another byte belongs to what was read before
-moved : (front bytes rest : List ℕ) (byte digit : ℕ) (x : ℕ × List ℕ) → bytes ≡ byte ∷ rest → byte ≡ 128 + digit → IsNumber ((front ++ (128 + digit) ∷ []) ++ rest) x → IsNumber (front ++ bytes) x
-moved front bytes rest byte digit x parts is number =
-    (number.0, ap (λ (r : List ℕ). front ++ r) (parts ∙ ap (λ (k : ℕ). k ∷ rest) is) ∙ sym (append_assoc front ((128 + digit) ∷ []) rest) ∙ number.1)
-
-behind_4 : (total at f d c a : ℕ) (bytes : List ℕ) (x : ℕ × List ℕ) → 0 < f → f < 128 → d < 128 → c < 128 → a < 128 → AreLow bytes
-    → varint_from total at 4 (((f * 128 + d) * 128 + c) * 128 + a) bytes ≡ Ok x → IsNumber (((128 + f) ∷ (128 + d) ∷ (128 + c) ∷ (128 + a) ∷ []) ++ bytes) x
-behind_4 total at f d c a bytes x some p q r s low e =
-    let (byte, rest, parts, which) = step total at 4 (((f * 128 + d) * 128 + c) * 128 + a) bytes x e in
-    elim which [
-      | inl (lt, is) ↦ ended ((128 + f) ∷ (128 + d) ∷ (128 + c) ∷ (128 + a) ∷ []) bytes rest (((f * 128 + d) * 128 + c) * 128 + a) byte x parts is (omega arith)
-          (digits_5 ((((f * 128 + d) * 128 + c) * 128 + a) * 128 + byte) f d c a byte refl some p q r s lt)
-      | inr (le, go, more) ↦ absurd cc
-    ]
-
-behind_3 : (total at d c a : ℕ) (bytes : List ℕ) (x : ℕ × List ℕ) → 0 < d → d < 128 → c < 128 → a < 128 → AreLow bytes
-    → varint_from total at 3 ((d * 128 + c) * 128 + a) bytes ≡ Ok x → IsNumber (((128 + d) ∷ (128 + c) ∷ (128 + a) ∷ []) ++ bytes) x
-behind_3 total at d c a bytes x some p q r low e =
-    let (byte, rest, parts, which) = step total at 3 ((d * 128 + c) * 128 + a) bytes x e in
-    let low' : AreLow (byte ∷ rest) = subst AreLow parts low in
-    elim which [
-      | inl (lt, is) ↦ ended ((128 + d) ∷ (128 + c) ∷ (128 + a) ∷ []) bytes rest ((d * 128 + c) * 128 + a) byte x parts is (omega arith)
-          (digits_4 (((d * 128 + c) * 128 + a) * 128 + byte) d c a byte refl some p q r lt)
-      | inr (le, go, more) ↦ moved ((128 + d) ∷ (128 + c) ∷ (128 + a) ∷ []) bytes rest byte (byte - 128) x parts (omega arith)
-          (behind_4 total at d c a (byte - 128) rest x some p q r (omega (arith, low'.0)) low'.1 more)
-    ]
-
-behind_2 : (total at c a : ℕ) (bytes : List ℕ) (x : ℕ × List ℕ) → 0 < c → c < 128 → a < 128 → AreLow bytes
-    → varint_from total at 2 (c * 128 + a) bytes ≡ Ok x → IsNumber (((128 + c) ∷ (128 + a) ∷ []) ++ bytes) x
-behind_2 total at c a bytes x some p q low e =
-    let (byte, rest, parts, which) = step total at 2 (c * 128 + a) bytes x e in
-    let low' : AreLow (byte ∷ rest) = subst AreLow parts low in
-    elim which [
-      | inl (lt, is) ↦ ended ((128 + c) ∷ (128 + a) ∷ []) bytes rest (c * 128 + a) byte x parts is (omega arith)
-          (digits_3 ((c * 128 + a) * 128 + byte) c a byte refl some p q lt)
-      | inr (le, go, more) ↦ moved ((128 + c) ∷ (128 + a) ∷ []) bytes rest byte (byte - 128) x parts (omega arith)
-          (behind_3 total at c a (byte - 128) rest x some p q (omega (arith, low'.0)) low'.1 more)
-    ]
-
-behind_1 : (total at a : ℕ) (bytes : List ℕ) (x : ℕ × List ℕ) → 0 < a → a < 128 → AreLow bytes
-    → varint_from total at 1 a bytes ≡ Ok x → IsNumber (((128 + a) ∷ []) ++ bytes) x
-behind_1 total at a bytes x some p low e =
-    let (byte, rest, parts, which) = step total at 1 a bytes x e in
-    let low' : AreLow (byte ∷ rest) = subst AreLow parts low in
-    elim which [
-      | inl (lt, is) ↦ ended ((128 + a) ∷ []) bytes rest a byte x parts is (omega arith) (digits_2 (a * 128 + byte) a byte refl some p lt)
-      | inr (le, go, more) ↦ moved ((128 + a) ∷ []) bytes rest byte (byte - 128) x parts (omega arith)
-          (behind_2 total at a (byte - 128) rest x some p (omega (arith, low'.0)) low'.1 more)
+spelled_from : (total at read high : ℕ) (bytes : List ℕ) (x : ℕ × List ℕ) → read ≤ 4 → high < 128 ^ read → (0 < read → 0 < high) → AreLow bytes → varint_from total at read high bytes ≡ Ok x → IsNumber (groups high bytes) x
+spelled_from total at read high [] x within fits some low e = absurd cc
+spelled_from total at read high (byte ∷ rest) x within fits some low e =
+    let most : 128 ^ read ≤ 128 ^ 4 = pow-le-pow_right (omega arith) within in
+    elim (chosen (nat_lt byte 128) _ _ _ e) [
+      | inl (last, is) ↦ subst (IsNumber (groups high (byte ∷ rest))) (ok_is (high * 128 + byte, rest) x is) (omega (arith, ltb-true byte 128 last), sym (groups_last (high * 128 + byte) high byte rest refl (ltb-true byte 128 last)))
+      | inr (more, is) ↦
+          let le : 128 ≤ byte = ltb-false byte 128 more in
+          let on = guard_ok ((read == 4) || (read == 0) && (byte == 128)) _ _ x is in
+          let go = goes_on read high byte on.0 within some le in
+          let early : read ≤ 3 = omega arith in
+          let most' : 128 ^ read ≤ 128 ^ 3 = pow-le-pow_right (omega arith) early in
+          let fits' : high * 128 + (byte - 128) < 128 ^ (read + 1) = rw (add-one, pow-suc) (omega (arith, low.0)) in
+          let number = spelled_from total at (read + 1) (high * 128 + (byte - 128)) rest x go.0 fits' (λ _. go.1) low.1 on.1 in
+          (number.0, sym (groups_more (high * 128 + (byte - 128)) high byte rest refl (omega arith) le low.0 go.1) ∙ number.1)
     ]
 
 pub varint_spelled : (total : ℕ) (bytes : List ℕ) (x : ℕ × List ℕ) → AreLow bytes → varint_at total bytes ≡ Ok x → IsNumber bytes x
 unfolding varint_at
-varint_spelled total bytes x low e =
-    let at = place total bytes in
-    let (byte, rest, parts, which) = step total at 0 0 bytes x e in
-    let low' : AreLow (byte ∷ rest) = subst AreLow parts low in
-    elim which [
-      | inl (lt, is) ↦
-          let same : 0 * 128 + byte ≡ byte = omega arith in
-          ended [] bytes rest 0 byte x parts is (omega arith) (ap varint_bytes same ∙ digits_1 byte lt)
-      | inr (le, go, more) ↦
-          let other = eqb-false byte 128 go in
-          let same : 0 * 128 + (byte - 128) ≡ byte - 128 = omega arith in
-          moved [] bytes rest byte (byte - 128) x parts (omega arith)
-          (behind_1 total at (byte - 128) rest x (omega arith) (omega (arith, low'.0)) low'.1 (subst (λ (h : ℕ). varint_from total at 1 h rest ≡ Ok x) same more))
-    ]
+varint_spelled total bytes x low e = spelled_from total (place total bytes) 0 0 bytes x (omega arith) (omega arith) (λ some. some) low e
 
 pub bytes_spelled : (total count : ℕ) (bytes : List ℕ) (x : List ℕ × List ℕ) → bytes_at total count bytes ≡ Ok x → (bytes ≡ x.0 ++ x.1) × (length x.0 ≡ count)
 bytes_spelled total count bytes x e =

@@ -1,5 +1,5 @@
 -- The bytes of values, and the values of bytes.
-use Rattle.std.proofs.Common.{◌≡◌, ◌==◌, true, false, ℕ, zero, suc, ◌+◌, ◌≤◌, ◌<◌, List, [], ◌∷◌, ◌++◌, length, drop, take, take_at, ◌-◌, slice_get, Option, Some, None, add-one, eqb-true, Result, Ok, Err, IsOk, refl, sym, ap, subst, ◌∙◌, append_assoc, append-nil, length-append, length-drop, arith}
+use Rattle.std.proofs.Common.{◌≡◌, ◌==◌, true, false, ℕ, zero, suc, ◌+◌, ◌≤◌, ◌<◌, List, [], ◌∷◌, ◌++◌, length, drop, take, take_at, ◌-◌, slice_get, Option, Some, None, eqb-true, Result, Ok, Err, IsOk, refl, sym, ap, subst, ◌∙◌, append-nil, length-append, length-drop, arith}
 use Rattle.std.specs.Prelude.{OnOk, OnErr}
 use Rattle.std.specs.Option.{option_map}
 use Rattle.std.specs.Map.Iter.{TakesFirst}
@@ -14,39 +14,26 @@ use Rattle.cap_row.specs.Key.{fields_eq, fields_eq_decides}
 use Rattle.std.proofs.lemmas.Bool.Decides.{Decides-eqb, same_from_decides}
 use Rattle.std.proofs.lemmas.Slice.Eq.{slice_eq-Decides}
 use Rattle.std.specs.Cmp.Lexicographic.{pointwise}
-use Rattle.std.proofs.Common.{Bool, nat_eq}
+use Rattle.std.proofs.Common.{Bool, nat_eq, get_or, add-zero}
+use Rattle.std.proofs.lemmas.Grind.{flat_map-append}
+use Rattle.std.proofs.lemmas.List.{drop-drop, get_or-drop}
+use Rattle.std.proofs.lemmas.Option.{slice_get_past, slice_get_read}
 
 -- ---- lists
 
-pub is_some : (bytes : List ℕ) → (length bytes == 0) ≡ false → 0 < length bytes
-is_some [] e = absurd cc
-is_some (byte ∷ bytes) e = omega arith
-
 -- no element at or behind the end
 pub get_past : {X : Type 0} (xs : List X) (i j : ℕ) → drop i xs ≡ [] → i ≤ j → slice_get xs j ≡ None
-get_past [] i j e le = refl
-get_past (x ∷ xs) zero j e le = absurd cc
-get_past (x ∷ xs) (suc i) zero e le = absurd (omega arith)
-get_past (x ∷ xs) (suc i) (suc j) e le = get_past xs i j e (omega arith)
-
-get_first : {X : Type 0} (xs : List X) (i : ℕ) (x : X) (ys : List X) → drop i xs ≡ x ∷ ys → slice_get xs i ≡ Some x
-get_first [] zero x ys e = absurd cc
-get_first [] (suc i) x ys e = absurd cc
-get_first (z ∷ xs) zero x ys e = cc
-get_first (z ∷ xs) (suc i) x ys e = get_first xs i x ys e
-
-drop_next : {X : Type 0} (xs : List X) (i : ℕ) (x : X) (ys : List X) → drop i xs ≡ x ∷ ys → drop (suc i) xs ≡ ys
-drop_next [] zero x ys e = absurd cc
-drop_next [] (suc i) x ys e = absurd cc
-drop_next (z ∷ xs) zero x ys e = cc
-drop_next (z ∷ xs) (suc i) x ys e = drop_next xs i x ys e
+get_past xs i j e le = slice_get_past xs j (omega (arith, ap length e, length-drop i xs))
 
 pub passed : {X : Type 0} (xs : List X) (i : ℕ) (x : X) (rest ys : List X) → rest ≡ drop i xs → rest ≡ x ∷ ys → ys ≡ drop (i + 1) xs
-passed xs i x rest ys is first = rw add-one (sym (drop_next xs i x ys (sym is ∙ first)))
+passed xs i x rest ys is first = ap (drop 1) (sym first ∙ is) ∙ drop-drop 1 i xs
 
 pub read_at : {X Y : Type 0} (f : Y → X) (r : Option Y) (xs : List X) (i j : ℕ) (rest ys : List X) → rest ≡ drop i xs → i ≡ j → TakesFirst f rest r ys → option_map f r ≡ slice_get xs j
 read_at f None xs i j rest ys is same first = sym (get_past xs i j (sym is ∙ first.0) (omega arith))
-read_at f (Some y) xs i j rest ys is same first = sym (subst (λ (k : ℕ). slice_get xs k ≡ Some (f y)) same (get_first xs i (f y) ys (sym is ∙ first)))
+read_at f (Some y) xs i j rest ys is same first =
+    let e : drop i xs ≡ f y ∷ ys = sym is ∙ first in
+    let at : get_or xs (i + 0) (f y) ≡ f y = sym (get_or-drop i xs 0 (f y)) ∙ rw e refl in
+    sym (slice_get_read xs (length xs) j (f y) refl (omega (arith, ap length e, length-drop i xs)) (rw (← same, ← add-zero i) (sym at)))
 
 pub before_rest : (bytes front rest : List ℕ) → bytes ≡ front ++ rest → take (length bytes - length rest) bytes ≡ front
 before_rest bytes front rest parts = subst (λ (all : List ℕ). take (length all - length rest) all ≡ front) (sym parts) (take_at front rest (length (front ++ rest) - length rest) (omega (arith, length-append front rest)))
@@ -92,10 +79,6 @@ module _ {A : Type 0} where
   pub of_none : (fields_of {A = A} [] ≡ []) × Encodes {A = A} [] (fields_of [])
   of_none = encoded [] [] tt refl
 
-  pub values_bytes-append : (xs ys : List (Value A)) → values_bytes (xs ++ ys) ≡ values_bytes xs ++ values_bytes ys
-  values_bytes-append [] ys = refl
-  values_bytes-append (x ∷ xs) ys = ap (λ (r : List ℕ). value_bytes x ++ r) (values_bytes-append xs ys) ∙ sym (append_assoc (value_bytes x) (values_bytes xs) (values_bytes ys))
-
   pub each-append : (xs ys : List (Value A)) → AreValues xs → AreValues ys → AreValues (xs ++ ys)
   each-append [] ys a b = b
   each-append (x ∷ xs) ys a b = (a.0, each-append xs ys a.1 b)
@@ -105,44 +88,32 @@ module _ {A : Type 0} where
       → (fields_of new ≡ fields_of old ++ values) × Encodes {A = A} new (fields_of new)
   appended old new values encodes fits is =
       encoded new (fields_of old ++ values) (each-append (fields_of old) values encodes.each fits)
-      (is ∙ ap (λ (r : List ℕ). r ++ values_bytes values) encodes.spelled ∙ sym (values_bytes-append (fields_of old) values))
+      (is ∙ ap (λ (r : List ℕ). r ++ values_bytes values) encodes.spelled ∙ sym (flat_map-append value_bytes (fields_of old) values))
 
   -- what a call leaves that appends values, or answers an error
   pub record Grown {E : Type 0} (result : Result (Unit {0}) E) (new : List ℕ) (seen values : List (Value A)) : Type 0 where
     pub encodes : Encodes {A = A} new (fields_of new)
     pub pushed : OnOk result (fields_of new ≡ seen ++ values)
 
-  pub grows : {E : Type 0} (result : Result (Unit {0}) E) (old new : List ℕ) (values seen : List (Value A)) → Encodes {A = A} old (fields_of old) → fields_of old ≡ seen → AreValues values
-      → OnOk result (new ≡ old ++ values_bytes values) → OnErr result (new ≡ old) → Grown result new seen values
-  grows (Ok x) old new values seen encodes view fits is kept =
-      let p = appended old new values encodes fits is in
-      record { encodes = p.1; pushed = p.0 ∙ ap (λ (l : List (Value A)). l ++ values) view }
-  grows (Err e) old new values seen encodes view fits is kept = record { encodes = subst (λ (b : List ℕ). Encodes {A = A} b (fields_of b)) (sym kept) encodes; pushed = tt }
-
-  bytes_of_one : (value : Value A) → value_bytes value ≡ values_bytes (value ∷ [])
-  bytes_of_one value = sym (append-nil (value_bytes value))
-
-  on_ok : {E : Type 0} (result : Result (Unit {0}) E) (old new field : List ℕ) (value : Value A) → field ≡ value_bytes value → OnOk result (new ≡ old ++ field) → OnOk result (new ≡ old ++ values_bytes (value ∷ []))
-  on_ok (Ok x) old new field value spelled is = is ∙ ap (λ (r : List ℕ). old ++ r) (spelled ∙ bytes_of_one value)
-  on_ok (Err e) old new field value spelled is = tt
+  -- the same of a row
+  pub grows_by_row : {E : Type 0} (result : Result (Unit {0}) E) (old new bytes : List ℕ) (fields seen : List (Value A)) → Encodes {A = A} old (fields_of old) → fields_of old ≡ seen → bytes ≡ values_bytes fields → AreValues fields
+      → OnOk result (new ≡ old ++ bytes) → OnErr result (new ≡ old) → Grown result new seen fields
+  grows_by_row (Ok x) old new bytes fields seen encodes view spelled fits is kept =
+      let p = appended old new fields encodes fits (is ∙ ap (λ (r : List ℕ). old ++ r) spelled) in
+      record { encodes = p.1; pushed = p.0 ∙ ap (λ (l : List (Value A)). l ++ fields) view }
+  grows_by_row (Err e) old new bytes fields seen encodes view spelled fits is kept = record { encodes = subst (λ (b : List ℕ). Encodes {A = A} b (fields_of b)) (sym kept) encodes; pushed = tt }
 
   -- the same of one value
   pub grows_by_one : {E : Type 0} (result : Result (Unit {0}) E) (old new field : List ℕ) (value : Value A) (seen : List (Value A)) → Encodes {A = A} old (fields_of old) → fields_of old ≡ seen → IsValue value
       → field ≡ value_bytes value → OnOk result (new ≡ old ++ field) → OnErr result (new ≡ old) → Grown result new seen (value ∷ [])
   grows_by_one result old new field value seen encodes view fits spelled is kept =
-      grows result old new (value ∷ []) seen encodes view (fits, tt) (on_ok result old new field value spelled is) kept
+      grows_by_row result old new field (value ∷ []) seen encodes view (spelled ∙ sym (append-nil (value_bytes value))) (fits, tt) is kept
 
   -- the same of the first value of a row
   pub grows_by_first : {E : Type 0} (result : Result (Unit {0}) E) (old new field : List ℕ) (fields others seen : List (Value A)) → Encodes {A = A} old (fields_of old) → fields_of old ≡ seen → BeginsWith fields field others
       → OnOk result (new ≡ old ++ field) → OnErr result (new ≡ old) → Grown result new seen (take 1 fields)
   grows_by_first result old new field fields others seen encodes view (value, parts, (spelled, fits)) is kept =
       subst (λ (l : List (Value A)). Grown result new seen l) (sym (ap (take 1) parts)) (grows_by_one result old new field value seen encodes view fits spelled is kept)
-
-  -- the same of a row
-  pub grows_by_row : {E : Type 0} (result : Result (Unit {0}) E) (old new bytes : List ℕ) (fields seen : List (Value A)) → Encodes {A = A} old (fields_of old) → fields_of old ≡ seen → bytes ≡ values_bytes fields → AreValues fields
-      → OnOk result (new ≡ old ++ bytes) → OnErr result (new ≡ old) → Grown result new seen fields
-  grows_by_row result old new bytes fields seen encodes view spelled fits is kept =
-      grows result old new fields seen encodes view fits (subst (λ (b : List ℕ). OnOk result (new ≡ old ++ b)) spelled is) kept
 
   -- rows have the same bytes exactly where they are the same
   pub same_by_bytes : (a b : List ℕ) (x y : List (Value A)) (r : Bool) → Encodes {A = A} a (fields_of a) → Encodes {A = A} b (fields_of b) → fields_of a ≡ x → fields_of b ≡ y → r ≡ pointwise nat_eq a b → r ≡ fields_eq x y
@@ -171,8 +142,8 @@ module _ {A : Type 0} where
     pub fits : IsValue value
     pub parts : bytes ≡ value_bytes value ++ rest
 
-  first_of : (bytes : List ℕ) (values : List (Value A)) → fields_of bytes ≡ values → AreValues values → bytes ≡ values_bytes values → 0 < length bytes → (value : Value A) × (rest : List ℕ) × First bytes value rest
-  first_of bytes [] is each spelled some = absurd (omega (arith, ap length spelled))
+  first_of : (bytes : List ℕ) (values : List (Value A)) → fields_of bytes ≡ values → AreValues values → bytes ≡ values_bytes values → (length bytes == 0) ≡ false → (value : Value A) × (rest : List ℕ) × First bytes value rest
+  first_of bytes [] is each spelled some = absurd (cc (rw spelled at some))
   first_of bytes (value ∷ values) is each spelled some =
       let others = encoded (values_bytes values) values each.1 refl in (
         value,
@@ -186,13 +157,13 @@ module _ {A : Type 0} where
         },
       )
 
-  pub first : (bytes : List ℕ) → Encodes {A = A} bytes (fields_of bytes) → 0 < length bytes → (value : Value A) × (rest : List ℕ) × First bytes value rest
+  pub first : (bytes : List ℕ) → Encodes {A = A} bytes (fields_of bytes) → (length bytes == 0) ≡ false → (value : Value A) × (rest : List ℕ) × First bytes value rest
   first bytes encodes some = first_of bytes (fields_of bytes) refl encodes.each encodes.spelled some
 
-  pub has_first : (bytes : List ℕ) → Encodes {A = A} bytes (fields_of bytes) → 0 < length bytes → IsOk (value_at {A = A} 0 bytes)
+  pub has_first : (bytes : List ℕ) → Encodes {A = A} bytes (fields_of bytes) → (length bytes == 0) ≡ false → IsOk (value_at {A = A} 0 bytes)
   has_first bytes encodes some = let (value, rest, is) = first bytes encodes some in rw is.read refl
 
-  pub first_is : (bytes : List ℕ) (value : Value A) (rest : List ℕ) → Encodes {A = A} bytes (fields_of bytes) → 0 < length bytes → value_at 0 bytes ≡ Ok (value, rest) → First bytes value rest
+  pub first_is : (bytes : List ℕ) (value : Value A) (rest : List ℕ) → Encodes {A = A} bytes (fields_of bytes) → (length bytes == 0) ≡ false → value_at 0 bytes ≡ Ok (value, rest) → First bytes value rest
   first_is bytes value rest encodes some read =
       let (v, r, is) = first bytes encodes some in
       let same : (v, r) ≡ (value, rest) = cc (is.read, read) in
