@@ -118,7 +118,7 @@ module _ {A : Type 0} where
   updated-planned t name fields (Some row) = moved-planned t name (row_with fields row) (key_of t.schema (row_with fields row))
 
   pub act-planned : (t : TableState A) (a : Action A) → act t a ≡ planned t (plan_on t a)
-  act-planned t (Insert row) = let placed = placed-planned t row (key_of t.schema row) in grind (arith, placed)
-  act-planned t (Update name fields) = let updated = updated-planned t name fields (row_of t name) in grind (arith, updated)
+  act-planned t (Insert row) = grind (arith, placed-planned t row (key_of t.schema row))
+  act-planned t (Update name fields) = grind (arith, updated-planned t name fields (row_of t name))
   act-planned t (Delete (Key key)) = grind arith
   act-planned t (Delete (Loose id)) = grind arith

@@ -1,5 +1,5 @@
 -- One operation as a list of its own, and what its hook is shown.
-use Rattle.std.proofs.Common.{◌≡◌, Option, inl, inr, Result, Ok, Err, List, [], ◌∷◌, refl, ap, sym, ◌∙◌, length, get_or, arith}
+use Rattle.std.proofs.Common.{◌≡◌, Option, inl, inr, Result, Ok, Err, List, [], ◌∷◌, refl, sym}
 use Rattle.std.proofs.lemmas.List.{append-nil}
 use Rattle.std.specs.Prelude.{IsOk}
 use Rattle.cap_value.specs.declared.memory.Fault.{Fault}
@@ -7,32 +7,15 @@ use Rattle.cap_value.specs.declared.memory.Fault.TheVariants.{Refused, OutOfMemo
 use Rattle.cap_value.specs.declared.refusal.Refusal.{Refusal}
 use Rattle.cap_row.specs.Fields.{Fields}
 use Rattle.cap_database.specs.KeptKey.{AreOfKey, change_of}
-use Rattle.cap_database.specs.Operation.{and_then, changes, run, step}
-use Rattle.cap_database.specs.Outcome.{OutcomeState}
+use Rattle.cap_database.specs.Operation.{changes, run, step}
 use Rattle.cap_database.specs.Read.{row_at}
 use Rattle.cap_database.specs.Tables.{Tables}
 use Rattle.cap_database.specs.Write.{AnswersChanges, AreShown, IsAsked, Writes}
 use Rattle.cap_database.specs.declared.change.Change.{Change}
 use Rattle.cap_database.specs.declared.op.Op.{Op}
-use Rattle.cap_database.specs.declared.refused_at.RefusedAt.{RefusedAt}
 
--- a list of one item
-pub one_item : {X : Type 0} (xs : List X) (x : X) → length xs ≡ 1 → x ≡ get_or xs 0 x → xs ≡ x ∷ []
-one_item [] x few is = absurd (omega arith)
-one_item (y ∷ []) x few is = ap (λ z. z ∷ []) (sym is)
-one_item (y ∷ z ∷ rest) x few is = absurd (omega arith)
-
-module _ {A : Type 0} (tables : Tables A) (op : Op A) where
-  abbrev ran : Result (Tables A) Refusal → Result (OutcomeState A) RefusedAt
-  ran stepped = and_then (changes tables op) stepped (λ next. run next [])
-
-  pub one_run : (after : Tables A) → step tables op ≡ Ok after → run tables (op ∷ []) ≡ Ok (record { database = after; changes = changes tables op })
-  one_run after is =
-      ap ran is
-      ∙ ap (λ (cs : List (Change A)). let left : Result (OutcomeState A) RefusedAt = Ok (record { database = after; changes = cs }) in left) (append-nil (changes tables op))
-
-  pub one_refused : (why : Refusal) → step tables op ≡ Err why → run tables (op ∷ []) ≡ Err (record { at = 0; why = why })
-  one_refused why is = ap ran is
+pub one_run : {A : Type 0} (tables : Tables A) (op : Op A) (after : Tables A) → step tables op ≡ Ok after → run tables (op ∷ []) ≡ Ok (record { database = after; changes = changes tables op })
+one_run tables op after is = rw is (rw (append-nil (changes tables op)))
 
 pub shown-of-key : {A : Type 0} (op : Op A) (key : Fields A) (before : Option (Fields A)) (changes : List (Change A)) → AreOfKey op key before changes → AreShown (change_of op key before ∷ []) changes
 shown-of-key op key before changes (inl is) = inl (sym is)

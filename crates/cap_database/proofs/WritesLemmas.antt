@@ -21,16 +21,11 @@ module _ {K X : Type 0} (R : K → K → Ordering) (o : IsTotalOrder R) (same : 
 
   absent-below : (x : K) (es : List (K × X)) → below_all R x es ≡ true → get R es x ≡ None
   absent-below x [] below = refl
-  absent-below x (e ∷ es) below = let rest = absent-below x es in grind (arith, rest)
+  absent-below x (e ∷ es) below = grind (arith, absent-below x es)
 
   get-take : (es : List (K × X)) (k q : K) → is_sorted R es ≡ true → get R (take_entry R es k) q ≡ cond (eq_by_cmp R q k) None (get R es q)
   get-take [] k q s = grind arith
-  get-take (e ∷ es) k q s =
-      let rest = get-take es k q in
-      let absent = absent-below e.0 es in
-      let here = tied R k e.0 same in
-      let there = tied R q k same in
-      grind (arith, rest, absent, here, there)
+  get-take (e ∷ es) k q s = grind (arith, get-take es k q, absent-below e.0 es, tied R k e.0 same, tied R q k same)
 
   -- an entry at a key, or none
   abbrev pub set_at : List (K × X) → K → Option X → List (K × X)
@@ -45,21 +40,15 @@ module _ {K X : Type 0} (R : K → K → Ordering) (o : IsTotalOrder R) (same : 
   get-set es k None q s = get-take es k q s
   get-set es k (Some x) q s = get-put es k x q
 
+  find-twice : (es : List (K × X)) (k j : K) (x y : Option X) (q : K) → is_sorted R es ≡ true → find R q (set_at (set_at es k x) j y) ≡ cond (eq_by_cmp R q j) y (cond (eq_by_cmp R q k) x (get R es q))
+  find-twice es k j x y q s = sym (get-find (set_at (set_at es k x) j y) q) ∙ get-set (set_at es k x) j y q (sorted-set es k x s) ∙ ap (cond (eq_by_cmp R q j) y) (get-set es k x q s)
+
   set-set : (es : List (K × X)) (k j : K) (x y : Option X) → (k ≡ j → ⊥) → is_sorted R es ≡ true → set_at (set_at es k x) j y ≡ set_at (set_at es j y) k x
   set-set es k j x y apart s =
       same_entries R o same (set_at (set_at es k x) j y) (set_at (set_at es j y) k x)
       (subst T (sym (sorted-set (set_at es k x) j y (sorted-set es k x s))) tt)
       (subst T (sym (sorted-set (set_at es j y) k x (sorted-set es j y s))) tt)
-      (λ q.
-      let one = get-find (set_at (set_at es k x) j y) q in
-      let other = get-find (set_at (set_at es j y) k x) q in
-      let last = get-set (set_at es k x) j y q (sorted-set es k x s) in
-      let last_other = get-set (set_at es j y) k x q (sorted-set es j y s) in
-      let first = get-set es k x q s in
-      let first_other = get-set es j y q s in
-      let here = tied R q j same in
-      let there = tied R q k same in
-      grind (arith, one, other, last, last_other, first, first_other, here, there, apart))
+      (λ q. grind (arith, find-twice es k j x y q s, find-twice es j k y x q s, tied R q j same, tied R q k same, apart))
 
   -- one write after another
   abbrev pub sets : List (K × X) → List (K × Option X) → List (K × X)
@@ -72,7 +61,7 @@ module _ {K X : Type 0} (R : K → K → Ordering) (o : IsTotalOrder R) (same : 
   get-sets es (w ∷ ws) q s apart =
       get-sets (set_at es w.0 w.1) ws q (sorted-set es w.0 w.1 s) apart.1
       ∙ get-set es w.0 w.1 q s
-      ∙ (let at = tied R q w.0 same in let away = apart.0 in grind (arith, at, away))
+      ∙ grind (arith, tied R q w.0 same, apart.0)
 
   -- a write past others
   past : (es : List (K × X)) (k : K) (x : Option X) (ws : List (K × Option X)) → AllByRecursion (λ w. k ≡ w.0 → ⊥) ws → is_sorted R es ≡ true → sets (set_at es k x) ws ≡ set_at (sets es ws) k x

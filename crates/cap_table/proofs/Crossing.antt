@@ -18,9 +18,3 @@ module _ (A : RattleType) (h : handle.Ghosts A.Denot) (a : allocator.Ghosts A.De
 
   pub table_sync : IsSync (Table.the_row A h a c)
   table_sync = search (tree_sync, key.the_send, key.the_sync, row.the_send, row.the_sync, schema.the_sync, sendable) depth 20
-
-  pub rows_send : IsSend (Rows.the_row A h a c)
-  rows_send = search (tree_send, key.the_send, key.the_sync, row.the_send, row.the_sync, sendable) depth 20
-
-  pub rows_sync : IsSync (Rows.the_row A h a c)
-  rows_sync = search (tree_sync, key.the_send, key.the_sync, row.the_send, row.the_sync, sendable) depth 20

@@ -1,6 +1,6 @@
 -- What an operation keeps of a table: its columns, the order of keys and ids, and that rows stand where they belong.
-use Rattle.std.proofs.Common.{◌≡◌, ℕ, ◌+◌, ◌^◌, ◌<◌, ◌≤◌, Bool, true, false, cond, Option, Some, None, Result, Err, List, [], ◌∷◌, length, refl, sym, ap, subst, ◌∙◌, arith, Ordering, T}
-use Rattle.std.specs.Prelude.{IfOk, is_some, ◌==◌}
+use Rattle.std.proofs.Common.{◌≡◌, ℕ, ◌+◌, ◌^◌, ◌<◌, ◌≤◌, Bool, true, false, Option, Some, None, List, [], ◌∷◌, length, refl, sym, ap, subst, ◌∙◌, arith, Ordering, T}
+use Rattle.std.specs.Prelude.{IfOk, is_some}
 use Rattle.std.specs.List.{enumerate_from}
 use Rattle.std.specs.Map.{remove_entry}
 use Rattle.std.specs.BTreeMap.{is_at}
@@ -12,8 +12,6 @@ use Rattle.std.proofs.lemmas.Bool.Decides.{nat_tests}
 use Rattle.std.proofs.lemmas.Cmp.{nat_cmp_total}
 use Rattle.std.proofs.lemmas.List.{length-map}
 use Rattle.std.proofs.lemmas.List.FromFn.{length-enumerate_from}
-use Rattle.cap_value.specs.declared.refusal.Refusal.{Refusal}
-use Rattle.cap_value.specs.declared.refusal.Refusal.TheVariants.{WrongWidth}
 use Rattle.cap_value.specs.declared.value.Value.{Value}
 use Rattle.cap_row.specs.Fields.{Fields}
 use Rattle.cap_row.specs.Key.{fields_cmp, fields_cmp_total, key_of}
@@ -137,32 +135,4 @@ module _ {A : Type 0} where
 
   pub empty-rises : (schema : List Bool) → IsRising (empty_table {A = A} schema)
   empty-rises schema = record { sound = record { keyed = refl; loose = refl; first = omega arith; last = omega arith }; keys = refl; ids = refl }
-
   -- ---- columns
-
-  abbrev KeepsColumns : TableState A → Result (TableState A) Refusal → Type 0
-  KeepsColumns t r = IfOk r (λ after. after.schema ≡ t.schema)
-
-  pub insert-columns : (t : TableState A) (row : Fields A) → KeepsColumns t (insert_row t row)
-  insert-columns t row = placed-columns (key_of t.schema row)
-    where
-      placed-columns : (key : Option (Fields A)) → KeepsColumns t (cond (length row == length t.schema) (placed t row key) (Err WrongWidth))
-      placed-columns (Some key) = grind arith
-      placed-columns None = grind arith
-
-  moved-columns : (t : TableState A) (name : RowRef A) (row : Fields A) (key : Option (Fields A)) → KeepsColumns t (moved t name row key)
-  moved-columns t (Key old) row (Some new) = grind arith
-  moved-columns t (Key old) row None = grind arith
-  moved-columns t (Loose id) row (Some new) = grind arith
-  moved-columns t (Loose id) row None = refl
-
-  updated-columns : (t : TableState A) (name : RowRef A) (changes : List (ℕ × Value A)) (found : Option (Fields A)) → KeepsColumns t (updated t name changes found)
-  updated-columns t name changes None = tt
-  updated-columns t name changes (Some row) = moved-columns t name (row_with changes row) (key_of t.schema (row_with changes row))
-
-  pub update-columns : (t : TableState A) (name : RowRef A) (changes : List (ℕ × Value A)) → KeepsColumns t (update_row t name changes)
-  update-columns t name changes = grind (arith, updated-columns)
-
-  pub delete-columns : (t : TableState A) (name : RowRef A) → KeepsColumns t (delete_row t name)
-  delete-columns t (Key key) = grind arith
-  delete-columns t (Loose id) = grind arith

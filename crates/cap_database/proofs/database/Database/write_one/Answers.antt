@@ -1,5 +1,4 @@
 use Rattle.std.proofs.Common.{rules}
-use Rattle.cap_database.specs.Write.{Writes}
 use Rattle.cap_database.proofs.WriteLemmas.{one_allowed, one_run, one_vetoed}
 use Rattle.cap_database.proofs.database.Database.write_one.Goals as goal
 
