@@ -1,5 +1,5 @@
 -- Reading the changes of a group one after the other, as a loop does.
-use Rattle.std.proofs.Common.{◌≡◌, ℕ, zero, suc, ◌-◌, ◌<◌, ◌≤◌, Bool, true, false, List, [], ◌∷◌, ◌++◌, length, take, drop, get_or, Result, Ok, Err, refl, sym, ap, subst, ◌∙◌, append_assoc, length-append, length-drop, length-take, arith}
+use Rattle.std.proofs.Common.{◌≡◌, ℕ, zero, suc, ◌-◌, ◌<◌, ◌≤◌, Bool, true, false, List, [], ◌∷◌, ◌++◌, length, take, drop, get_or, Result, Ok, Err, refl, sym, ap, subst, ◌∙◌, append_assoc, length-append, arith}
 use Rattle.std.proofs.lemmas.List.{append-nil, take_all}
 use Rattle.cap_changes.specs.Entries.{TableEntries}
 use Rattle.cap_field.specs.declared.fault.BlobFault.{BlobFault}
@@ -28,8 +28,7 @@ module _ {X : Type 0} (one_at : ℕ → List Bool → ℕ → List ℕ → Resul
   changes_start group total bytes = (length bytes, omega arith, refl)
 
   put_first : (group : TableEntries X) (x : X) (read : Result (List X × List ℕ) BlobFault) → with_changes group (read >>= λ y. Ok (x ∷ y.0, y.1)) ≡ with_changes (record group { changes = group.changes ++ x ∷ [] }) read
-  put_first group x (Ok y) = ap (λ (xs : List X). Ok (record group { changes = xs }, y.1)) (sym (append_assoc group.changes (x ∷ []) y.0))
-  put_first group x (Err f) = refl
+  put_first group x read = grind (arith, append_assoc)
 
   pub changes_go_on : (group : TableEntries X) (total : ℕ) (rest after : List ℕ) (x : X) (all : Result (TableEntries X × List ℕ) BlobFault) → 1 ≤ length rest → is_operation (get_or rest 0 0) ≡ true
       → one_at total group.schema (get_or rest 0 0) (behind_of rest) ≡ Ok (x, after) → length after ≤ length (behind_of rest)
@@ -44,25 +43,20 @@ module _ {X : Type 0} (one_at : ℕ → List Bool → ℕ → List ℕ → Resul
   pub changes_fail : (group : TableEntries X) (total : ℕ) (rest : List ℕ) (f : BlobFault) (all : Result (TableEntries X × List ℕ) BlobFault) → 1 ≤ length rest → is_operation (get_or rest 0 0) ≡ true
       → one_at total group.schema (get_or rest 0 0) (behind_of rest) ≡ Err f → ChangesLeft group total rest all → all ≡ Err f
   unfolding ChangesLeft changes_at
-  changes_fail group total (op ∷ behind) f all some operation read (suc most, le, e) =
-      let one : with_changes group (changes_at one_at (suc most) total group.schema (op ∷ behind)) ≡ Err f = rw (operation, ← behind-is op behind, read) refl in sym e ∙ one
+  changes_fail group total (op ∷ behind) f all some operation read (suc most, le, e) = grind (arith, behind-is op behind)
   changes_fail group total rest f all some operation read (most, le, e) = absurd (omega (arith, some, le))
-
-  add_none : (group : TableEntries X) → record group { changes = group.changes ++ [] } ≡ group
-  add_none group = ap (λ (xs : List X). record group { changes = xs }) (append-nil group.changes)
 
   pub changes_stop : (group : TableEntries X) (total : ℕ) (rest : List ℕ) (all : Result (TableEntries X × List ℕ) BlobFault) → 1 ≤ length rest → is_operation (get_or rest 0 0) ≡ false
       → ChangesLeft group total rest all → all ≡ Ok (group, rest)
   unfolding ChangesLeft changes_at
-  changes_stop group total (op ∷ behind) all some other (suc most, le, e) =
-      let one : with_changes group (changes_at one_at (suc most) total group.schema (op ∷ behind)) ≡ Ok (group, op ∷ behind) = rw other (ap (λ (g : TableEntries X). Ok (g, op ∷ behind)) (add_none group)) in sym e ∙ one
+  changes_stop group total (op ∷ behind) all some other (suc most, le, e) = grind (arith, append-nil)
   changes_stop group total rest all some other (most, le, e) = absurd (omega (arith, some, le))
 
   pub changes_end : (group : TableEntries X) (total : ℕ) (rest : List ℕ) (all : Result (TableEntries X × List ℕ) BlobFault) → length rest < 1 → ChangesLeft group total rest all → all ≡ Ok (group, rest)
   unfolding ChangesLeft changes_at
-  changes_end group total (op ∷ behind) all none left = absurd (omega arith)
-  changes_end group total [] all none (zero, le, e) = sym e ∙ ap (λ (g : TableEntries X). Ok (g, [])) (add_none group)
-  changes_end group total [] all none (suc most, le, e) = sym e ∙ ap (λ (g : TableEntries X). Ok (g, [])) (add_none group)
+  changes_end group total [] all none (zero, le, e) = grind (arith, append-nil)
+  changes_end group total [] all none (suc most, le, e) = grind (arith, append-nil)
+  changes_end group total rest all none left = absurd (omega arith)
 
 module _ {C : Type 0} (fits_in : List Bool → C → Bool) (has_values : C → Type 0) (bytes_of : C → List ℕ) (stored : List Bool → List ℕ → C) (one_at : ℕ → List Bool → ℕ → List ℕ → Result (C × List ℕ) BlobFault) where
   pub record Given (total : ℕ) (rest after : List ℕ) (schema : List Bool) : Type 0 where
@@ -90,6 +84,3 @@ module _ {C : Type 0} (fits_in : List Bool → C → Bool) (has_values : C → T
 
   pub no_given : (total op : ℕ) (rest : List ℕ) (flags schema : List Bool) (f : BlobFault) → get_or rest 0 0 ≡ op → flags ≡ schema → behind (one_at total flags op (behind_of rest)) ≡ Err f → one_at total schema (get_or rest 0 0) (behind_of rest) ≡ Err f
   no_given total op rest flags schema f is same read = rw (is, ← same) (fault_of (one_at total flags op (behind_of rest)) f read)
-
-pub fewer : (rest after bytes : List ℕ) → length after ≤ length (behind_of rest) → length rest ≤ length bytes → length after ≤ length bytes
-fewer rest after bytes shorter before = omega (arith, shorter, before, length-take (length rest - 1) (drop 1 rest), length-drop 1 rest)

@@ -1,5 +1,5 @@
 -- What was written for a field is read again, whatever follows it.
-use Rattle.std.proofs.Common.{◌≡◌, ℕ, true, List, [], ◌++◌, Option, Some, None, IfSome, Ok, refl}
+use Rattle.std.proofs.Common.{arith, ◌≡◌, ℕ, true, List, [], ◌++◌, Option, Some, None, IfSome, Ok, refl}
 use Rattle.cap_value.specs.declared.value.Value.{Value}
 use Rattle.cap_value.specs.declared.value.Value.TheVariants.{Null, Int, Text, Blob}
 use Rattle.cap_value.specs.Value.{IsValue}
@@ -20,13 +20,7 @@ module _ {A : Type 0} where
   type_byte (Some (Blob b)) = 4
 
   is_allowed : (requirement : FieldRequirement) (field : Option (Value A)) → satisfies requirement field ≡ true → allows requirement (type_byte field) ≡ true
-  is_allowed required.Undefined (Some value) met = absurd cc
-  is_allowed required.Omitted (Some value) met = absurd cc
-  is_allowed required.Defined None met = absurd cc
-  is_allowed required.Key None met = absurd cc
-  is_allowed required.Key (Some Null) met = absurd cc
-  is_allowed required.Defined (Some Null) met = refl
-  is_allowed requirement field met = refl
+  is_allowed requirement field met = grind arith
 
   typed_again : (total at : ℕ) (requirement : FieldRequirement) (field : Option (Value A)) (rest : List ℕ) → allows requirement (type_byte field) ≡ true → IfSome field IsValue
       → (byte_at total (field_bytes field ++ rest) >>= (λ kind. typed_at total at requirement kind.0 kind.1)) ≡ Ok (field, rest)

@@ -27,7 +27,7 @@ use Rattle.cap_changes.specs.declared.patch.Patch.TheVariants as patched
 use Rattle.cap_changes.proofs.FitLemmas.{record_meets}
 use Rattle.cap_changes.proofs.RecordAgain.{written, kind_asked, new_asked, asked_again}
 use Rattle.cap_changes.proofs.Spelled.{as_values}
-use Rattle.cap_changes.specs.Stored.{normal, IsEntry, IsPassed, StartsEntry}
+use Rattle.cap_changes.specs.Stored.{normal, IsEntry, IsPassed}
 use Rattle.std.specs.Prelude.{IfOk}
 use Rattle.cap_changes.proofs.PassLemmas.{behind_made, read_of, fault_of}
 
@@ -102,12 +102,7 @@ module _ (A : Type 0) where
   together : {C : Type 0} (old : Result (RecordFields A × List ℕ) BlobFault) (new_at : RecordFields A → List ℕ → Result (RecordFields A × List ℕ) BlobFault) (make : RecordFields A → RecordFields A → C)
       → ◌≡◌ {A = Result (C × List ℕ) BlobFault} (old >>= (λ x. new_at x.0 x.1 >>= (λ y. Ok (make x.0 y.0, y.1))))
       ((old >>= (λ x. beside x.0 (new_at x.0 x.1))) >>= (λ x. Ok (make x.0.0 x.0.1, x.1)))
-  together (Err f) new_at make = refl
-  together {C} (Ok x) new_at make = of_new (new_at x.0 x.1)
-    where
-      of_new : (new : Result (RecordFields A × List ℕ) BlobFault) → ◌≡◌ {A = Result (C × List ℕ) BlobFault} (new >>= (λ y. Ok (make x.0 y.0, y.1))) (beside x.0 new >>= (λ x. Ok (make x.0.0 x.0.1, x.1)))
-      of_new (Ok y) = refl
-      of_new (Err f) = refl
+  together old new_at make = grind arith
 
   -- ---- two records that are passed
 
@@ -123,8 +118,7 @@ module _ (A : Type 0) where
 -- ---- a change by its records
 
 pub flag_again : (b : Bool) → is_set (flag_byte b) ≡ b
-flag_again true = refl
-flag_again false = refl
+flag_again b = grind arith
 
 module _ (A : Type 0) {C : Type 0} (fits : List Bool → C → Bool) (values : C → Type 0) (bytes_of : C → List ℕ) (spells : C → List ℕ → Type 0) where
   -- a change has this operation, this flag and these records
@@ -148,13 +142,10 @@ module _ (A : Type 0) {C : Type 0} (fits : List Bool → C → Bool) (values : C
     pub keeps : (flags : List Bool) (op : ℕ) (bytes : List ℕ) → stored flags (op ∷ bytes) ≡ value_in other (one_at 0 flags op bytes)
 
 pub operation_is : (operation : Operation) → is_operation (operation_byte operation) ≡ true
-operation_is operations.Insert = refl
-operation_is operations.Update = refl
-operation_is operations.Delete = refl
+operation_is operation = grind arith
 
 pub third : (a b c : Bool) → (a || b || c) ≡ true → a ≡ false → b ≡ false → c ≡ true
-third false false c e p q = e
-third a b c e p q = absurd cc
+third a b c e p q = grind arith
 
 is_known : (op : ℕ) → is_operation op ≡ true → (operation : Operation) × (operation_byte operation ≡ op)
 is_known op is = elim (cases_Bool (op == 0x12)) [
@@ -171,8 +162,7 @@ Begins spells op bytes x = (front : List ℕ) × (bytes ≡ front ++ x.1) × spe
 
 -- the bytes as they are written, and that the flag is there
 written_back : (op op' : ℕ) (indirect : Bool) (records front : List ℕ) → SpellsOperation op indirect records (op' ∷ front) → (normal (op' ∷ front) ≡ op ∷ flag_byte indirect ∷ records) × (1 ≤ length front)
-written_back op op' indirect records [] (flag, set, parts) = absurd cc
-written_back op op' indirect records (byte ∷ front) (flag, set, parts) = (ap normal parts ∙ ap (λ (b : Bool). op ∷ flag_byte b ∷ records) set, omega arith)
+written_back op op' indirect records front spelled = grind arith
 
 -- the parts of an entry
 abbrev pub Parts : Operation → Bool → List ℕ → List ℕ → Type 0
@@ -183,9 +173,7 @@ abbrev operation_of : ℕ → Operation
 operation_of byte = if byte == 0x12 then operations.Insert else (if byte == 0x17 then operations.Update else operations.Delete)
 
 operation_again : (operation : Operation) → operation_of (operation_byte operation) ≡ operation
-operation_again operations.Insert = refl
-operation_again operations.Update = refl
-operation_again operations.Delete = refl
+operation_again operation = grind arith
 
 module _ {A C : Type 0} {fits : List Bool → C → Bool} {values : C → Type 0} {bytes_of : C → List ℕ} {spells : C → List ℕ → Type 0}
     {one_at : ℕ → List Bool → ℕ → List ℕ → Result (C × List ℕ) BlobFault} {stored : List Bool → List ℕ → C} (g : Grammar A fits values bytes_of spells one_at stored) where
@@ -309,12 +297,6 @@ module _ {A C : Type 0} {fits : List Bool → C → Bool} {values : C → Type 0
       record { reads = reads; entry = entry_passed view result total flags operation given low reads }
 
   -- ---- taken apart
-
-  pub starts : (flags : List Bool) (change : C) (bytes : List ℕ) → IsEntry fits values bytes_of flags change bytes → StartsEntry bytes
-  starts flags change bytes is =
-      by_records (λ c. bytes ≡ bytes_of c → StartsEntry bytes)
-      (λ operation indirect records spelled. (operation, indirect, records_bytes A (g.form operation) records, spelled ∙ (g.has operation indirect records).bytes))
-      change is.spelled
 
   -- the change of these bytes, whose operation is known
   pub record Made (flags : List Bool) (operation : Operation) (indirect : Bool) (bytes : List ℕ) (change : C) : Type 0 where

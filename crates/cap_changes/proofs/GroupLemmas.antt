@@ -1,5 +1,5 @@
 -- What a group keeps of a change that is written into it.
-use Rattle.std.proofs.Common.{◌≡◌, Bool, true, false, ◌||◌, cond, List, [], ◌∷◌, Option, Some, None, IfSome, IsTrue, refl, sym, ap, ◌∙◌, append-nil}
+use Rattle.std.proofs.Common.{arith, ◌≡◌, Bool, true, ◌||◌, cond, List, [], ◌∷◌, Option, Some, None, IfSome, IsTrue, refl, sym, ap, ◌∙◌, append-nil}
 use Rattle.std.specs.List.{cons_option, flat_map}
 use Rattle.std.specs.Option.{ForSome}
 use Rattle.cap_value.specs.declared.value.Value.{Value}
@@ -45,8 +45,7 @@ module _ {A : Type 0} where
   full_values (value ∷ row) each = (each.0, full_values row each.1)
 
   if_value : (kept : Bool) (value : Value A) → IsValue value → IfSome (cond kept (Some value) None) IsValue
-  if_value true value is = is
-  if_value false value is = tt
+  if_value kept value is = grind arith
 
   column_values : (pick : Bool → Value A → Value A → Option (Value A)) → ((key : Bool) (a b : Value A) → IsValue a → IsValue b → IfSome (pick key a b) IsValue)
       → (flags : List Bool) (image now : Fields A) → AreValues image → AreValues now → AreFields (by_column pick flags image now)

@@ -36,23 +36,13 @@ flags_before bytes more start (end ∷ ends) have =
     ap (λ (b : List ℕ). with_flags b end ends) (flag_before (start + 1) bytes more (omega (arith, have.0, have.1)))
     ∙ flags_before (with_flag (start + 1) bytes) more end ends (subst (λ (n : ℕ). HaveFlags n end ends) (sym (flag-length (start + 1) bytes)) have.2)
 
-flag_next : (byte place : ℕ) (bytes : List ℕ) → with_flag (suc place) (byte ∷ bytes) ≡ byte ∷ with_flag place bytes
-flag_next byte place bytes = refl
-
 flag_behind : (bytes piece : List ℕ) → 2 ≤ length piece → with_flag (length bytes + 1) (bytes ++ piece) ≡ bytes ++ normal piece
-flag_behind [] [] some = absurd (omega arith)
-flag_behind [] (op ∷ []) some = absurd (omega arith)
 flag_behind [] (op ∷ flag ∷ records) some = refl
-flag_behind (byte ∷ bytes) piece some =
-    let next : suc (length bytes) + 1 ≡ suc (length bytes + 1) = omega arith in
-    ap (λ (n : ℕ). with_flag n (byte ∷ (bytes ++ piece))) next
-    ∙ flag_next byte (length bytes + 1) (bytes ++ piece)
-    ∙ ap (λ (b : List ℕ). byte ∷ b) (flag_behind bytes piece some)
+flag_behind (byte ∷ bytes) piece some = grind (arith, flag_behind bytes piece)
+flag_behind bytes piece some = absurd (omega arith)
 
 normal-length : (piece : List ℕ) → length (normal piece) ≡ length piece
-normal-length [] = refl
-normal-length (op ∷ []) = refl
-normal-length (op ∷ flag ∷ records) = refl
+normal-length piece = grind arith
 
 one_more : (bytes piece : List ℕ) (start end : ℕ) (ends : List ℕ) → HaveFlags (length bytes) start ends → end_of start ends ≡ length bytes → 2 ≤ length piece
     → with_flags (bytes ++ piece) start (ends ++ end ∷ []) ≡ with_flags bytes start ends ++ normal piece
@@ -63,8 +53,8 @@ one_more bytes piece start end ends have last some =
     ∙ flag_behind (with_flags bytes start ends) piece some
 
 have_more : (count more start end : ℕ) (ends : List ℕ) → HaveFlags count start ends → end_of start ends ≡ count → 2 ≤ more → end ≡ count + more → HaveFlags (count + more) start (ends ++ end ∷ [])
-have_more count more start end [] have last some is = (omega arith, omega arith, tt)
-have_more count more start end (next ∷ ends) have last some is = (have.0, omega (arith, have.1), have_more count more next end ends have.2 last some is)
+have_more count more start end [] have last some is = grind arith
+have_more count more start end (next ∷ ends) have last some is = grind (arith, have_more count more next end ends)
 
 module _ {C : Type 0} (fits_in : List Bool → C → Bool) (has_values : C → Type 0) (bytes_of : C → List ℕ) (stored : List Bool → List ℕ → C) (flags : List Bool) where
   abbrev Are : (held old bytes rest ends : List ℕ) → Type 0
@@ -162,13 +152,11 @@ module _ {C : Type 0} (fits_in : List Bool → C → Bool) (has_values : C → T
 
 -- the list that `push` leaves, where it was no error
 pub was_pushed : {E : Type 0} (result : Result (Unit {0}) E) (failed : Bool) (old more new : List ℕ) → new ≡ if is_ok result then more else old → failed ≡ is_err result → failed ≡ false → new ≡ more
-was_pushed (Ok u) failed old more new is tells none = is
-was_pushed (Err e) failed old more new is tells none = absurd cc
+was_pushed result failed old more new is tells none = grind arith
 
 -- ---- the flags that are written
 
 -- the next flag is before the next end, which is within the bytes
 pub next_flag : (count start : ℕ) (ends : List ℕ) (index : ℕ) → index < length ends → HaveFlags count start (drop index ends) → (start + 1 < get_or ends index 0) × (get_or ends index 0 ≤ count)
-next_flag count start [] index lt have = absurd (omega arith)
-next_flag count start (end ∷ ends) zero lt have = (omega (arith, have.0), have.1)
 next_flag count start (end ∷ ends) (suc index) lt have = next_flag count start ends index (omega arith) have
+next_flag count start ends index lt have = grind arith

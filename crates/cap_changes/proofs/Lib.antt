@@ -1,6 +1,7 @@
 pub mod EachLemmas
 pub mod ChangeLemmas
 pub mod InvertLemmas
+pub mod InverseBytes
 pub mod LeftLemmas
 pub mod PatchLemmas
 pub mod FieldAgain

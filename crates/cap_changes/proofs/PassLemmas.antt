@@ -1,11 +1,11 @@
 -- Records that are passed over, field by field.
-use Rattle.std.proofs.Common.{◌≡◌, ℕ, ◌+◌, ◌<◌, ◌≤◌, Bool, false, List, [], ◌∷◌, ◌++◌, length, drop, get_or, Option, Result, Ok, Err, refl, sym, ap, subst, ◌∙◌, add-one, drop-cons}
+use Rattle.std.proofs.Common.{arith, ◌≡◌, ℕ, ◌+◌, ◌<◌, ◌≤◌, Bool, false, List, [], ◌∷◌, ◌++◌, length, drop, get_or, Option, Result, Ok, Err, refl, ap, subst, ◌∙◌, add-one, drop-cons}
 use Rattle.std.specs.Prelude.{IsOk}
 use Rattle.std.proofs.lemmas.List.{drop_all}
 use Rattle.cap_value.specs.declared.value.Value.{Value}
 use Rattle.cap_field.specs.declared.fault.BlobFault.{BlobFault}
 use Rattle.cap_field.specs.Reading.{◌>>=◌}
-use Rattle.cap_field.proofs.Binds.{bind_ok, ok_is, err_is}
+use Rattle.cap_field.proofs.Binds.{bind_ok, ok_is}
 use Rattle.cap_field.proofs.Spelled.{AreLow, low_behind}
 use Rattle.cap_changes.specs.ChangeReading.{behind}
 use Rattle.cap_changes.specs.Field.{field_bytes}
@@ -25,8 +25,7 @@ ok_of (Ok x) is = (x, refl)
 ok_of (Err e) is = absurd cc
 
 pub behind_made : {X Y : Type 0} (make : X → Y) (read : Result (X × List ℕ) BlobFault) → behind (read >>= (λ x. Ok (make x.0, x.1))) ≡ behind read
-behind_made make (Ok x) = refl
-behind_made make (Err f) = refl
+behind_made make read = grind arith
 
 module _ {X : Type 0} where
   pub read_of : (read : Result (X × List ℕ) BlobFault) (rest : List ℕ) → behind read ≡ Ok rest → (x : X) × (read ≡ Ok (x, rest))
@@ -34,31 +33,24 @@ module _ {X : Type 0} where
   read_of (Err f) rest e = absurd cc
 
   pub fault_of : (read : Result (X × List ℕ) BlobFault) (f : BlobFault) → behind read ≡ Err f → read ≡ Err f
-  fault_of (Ok x) f e = absurd cc
-  fault_of (Err g) f e = ap (λ (h : BlobFault). Err h) (err_is g f e)
+  fault_of read f e = grind arith
 
 module _ (A : Type 0) where
   -- ---- a record
 
-  passed : (total : ℕ) (requirement : FieldRequirement) (others : List FieldRequirement) (given after : List ℕ) (field : Option (Value A)) → field_at total requirement given ≡ Ok (field, after)
-      → behind (record_at {A = A} total (requirement ∷ others) given) ≡ behind (record_at {A = A} total others after)
-  unfolding record_at
-  passed total requirement others given after field read = rw read (behind_made (λ (xs : RecordFields A). field ∷ xs) (record_at total others after))
-
   pub pass_goes_on : (total : ℕ) (requirement : FieldRequirement) (requirements others : List FieldRequirement) (given after : List ℕ) (field : Option (Value A)) (all : Result (List ℕ) BlobFault) → requirements ≡ requirement ∷ others
       → field_at total requirement given ≡ Ok (field, after) → behind (record_at {A = A} total requirements given) ≡ all → behind (record_at {A = A} total others after) ≡ all
-  pass_goes_on total requirement requirements others given after field all parts read so_far =
-      sym (passed total requirement others given after field read) ∙ sym (ap (λ (r : List FieldRequirement). behind (record_at {A = A} total r given)) parts) ∙ so_far
+  unfolding record_at
+  pass_goes_on total requirement requirements others given after field all parts read so_far = grind arith
 
   pub pass_fails : (total : ℕ) (requirement : FieldRequirement) (requirements others : List FieldRequirement) (given : List ℕ) (f : BlobFault) (all : Result (List ℕ) BlobFault) → requirements ≡ requirement ∷ others
       → field_at {A = A} total requirement given ≡ Err f → behind (record_at {A = A} total requirements given) ≡ all → all ≡ Err f
   unfolding record_at
-  pass_fails total requirement requirements others given f all parts wrong so_far =
-      let one : behind (record_at {A = A} total requirements given) ≡ Err f = rw (parts, wrong) refl in sym so_far ∙ one
+  pass_fails total requirement requirements others given f all parts wrong so_far = grind arith
 
   pub pass_ends : (total : ℕ) (requirements : List FieldRequirement) (given : List ℕ) (all : Result (List ℕ) BlobFault) → requirements ≡ [] → behind (record_at {A = A} total requirements given) ≡ all → all ≡ Ok given
   unfolding record_at
-  pass_ends total requirements given all none so_far = let one : behind (record_at {A = A} total requirements given) ≡ Ok given = rw none refl in sym so_far ∙ one
+  pass_ends total requirements given all none so_far = grind arith
 
   -- ---- the old record of an UPDATE, which is known to be there
 

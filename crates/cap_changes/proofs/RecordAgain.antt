@@ -1,15 +1,14 @@
 -- Records are read as what their bytes spell, whatever follows them.
-use Rattle.std.proofs.Common.{◌≡◌, ℕ, Bool, true, false, List, [], ◌∷◌, ◌++◌, Option, Some, None, IfSome, Ok, refl, sym, ap, ◌∙◌, append_assoc}
+use Rattle.std.proofs.Common.{◌≡◌, ℕ, Bool, true, List, [], ◌∷◌, ◌++◌, Option, IfSome, Ok, sym, ap, ◌∙◌, append_assoc, arith}
 use Rattle.std.specs.List.{AllByRecursion}
-use Rattle.std.proofs.lemmas.Bool.{and_parts}
 use Rattle.cap_value.specs.declared.value.Value.{Value}
 use Rattle.cap_value.specs.Value.{IsValue}
 use Rattle.cap_changes.specs.FieldRecord.{RecordFields}
 use Rattle.cap_changes.specs.declared.field_requirement.FieldRequirement.{FieldRequirement}
 use Rattle.cap_changes.specs.declared.record_kind.RecordKind.{RecordKind}
 use Rattle.cap_changes.specs.declared.record_kind.RecordKind.TheVariants as record_kinds
-use Rattle.cap_changes.specs.Requirements.{requirement_of, requirements, new_requirement, new_requirements, satisfies, satisfy}
-use Rattle.cap_changes.specs.Field.{field_bytes, record_bytes, defined_bytes, key_bytes}
+use Rattle.cap_changes.specs.Requirements.{requirement_of, requirements, new_requirements, satisfy}
+use Rattle.cap_changes.specs.Field.{field_bytes, record_bytes, key_bytes}
 use Rattle.cap_changes.specs.RecordReading.{record_at}
 use Rattle.cap_changes.specs.HasValues.{AreValues}
 use Rattle.cap_changes.proofs.FieldAgain.{asked_bytes, field_again}
@@ -26,53 +25,29 @@ module _ {A : Type 0} where
   pub fields_again : (total : ℕ) (requirements : List FieldRequirement) (fields : RecordFields A) (rest : List ℕ) → satisfy requirements fields ≡ true → AllByRecursion (λ field. IfSome field IsValue) fields
       → record_at total requirements (asked_record requirements fields ++ rest) ≡ Ok (fields, rest)
   unfolding record_at
-  fields_again total [] [] rest met fits = refl
   fields_again total (requirement ∷ requirements) (field ∷ fields) rest met fits =
-      let parts = and_parts (satisfies requirement field) (satisfy requirements fields) met in
-      ap (record_at total (requirement ∷ requirements)) (append_assoc (asked_bytes requirement field) (asked_record requirements fields) rest)
-      ∙ rw (field_again total requirement field (asked_record requirements fields ++ rest) parts.0 fits.0, fields_again total requirements fields rest parts.1 fits.1) refl
-  fields_again total requirements fields rest met fits = absurd cc
+      grind (arith, append_assoc (asked_bytes requirement field) (asked_record requirements fields) rest, field_again total requirement field, fields_again total requirements fields rest)
+  fields_again total requirements fields rest met fits = grind arith
 
   -- where no field is left out
   pub all_asked : (record_kind : RecordKind) → ((key : Bool) (field : Option (Value A)) → asked_bytes (requirement_of record_kind key) field ≡ field_bytes field)
       → (flags : List Bool) (fields : RecordFields A) → satisfy (requirements record_kind flags) fields ≡ true → asked_record (requirements record_kind flags) fields ≡ record_bytes fields
-  all_asked record_kind each [] (field ∷ fields) met = absurd cc
-  all_asked record_kind each (key ∷ flags) (field ∷ fields) met =
-      let parts = and_parts (satisfies (requirement_of record_kind key) field) (satisfy (requirements record_kind flags) fields) met in
-      rw (each key field, all_asked record_kind each flags fields parts.1) refl
-  all_asked record_kind each flags fields met = refl
+  all_asked record_kind each (key ∷ flags) (field ∷ fields) met = grind (arith, each key field, all_asked record_kind each flags fields)
+  all_asked record_kind each flags fields met = grind arith
 
   pub of_full : (key : Bool) (field : Option (Value A)) → asked_bytes (requirement_of record_kinds.Full key) field ≡ field_bytes field
-  of_full true field = refl
-  of_full false field = refl
+  of_full key field = grind arith
 
   pub of_keyed : (key : Bool) (field : Option (Value A)) → asked_bytes (requirement_of record_kinds.Keyed key) field ≡ field_bytes field
-  of_keyed true field = refl
-  of_keyed false field = refl
-
-  of_key : (key : Bool) (field : Option (Value A)) → satisfies (requirement_of record_kinds.KeyAlone key) field ≡ true → asked_bytes (requirement_of record_kinds.KeyAlone key) field ≡ defined_bytes field
-  of_key true (Some value) met = refl
-  of_key false None met = refl
-  of_key key field met = absurd cc
+  of_keyed key field = grind arith
 
   pub keys_asked : (flags : List Bool) (fields : RecordFields A) → satisfy (requirements record_kinds.KeyAlone flags) fields ≡ true → asked_record (requirements record_kinds.KeyAlone flags) fields ≡ key_bytes fields
-  keys_asked [] (field ∷ fields) met = absurd cc
-  keys_asked (key ∷ flags) (field ∷ fields) met =
-      let parts = and_parts (satisfies (requirement_of record_kinds.KeyAlone key) field) (satisfy (requirements record_kinds.KeyAlone flags) fields) met in
-      rw (of_key key field parts.0, keys_asked flags fields parts.1) refl
-  keys_asked flags fields met = refl
-
-  of_new : (key : Bool) (old field : Option (Value A)) → asked_bytes (new_requirement (key, old)) field ≡ field_bytes field
-  of_new false None field = refl
-  of_new key old field = refl
+  keys_asked (key ∷ flags) (field ∷ fields) met = grind (arith, keys_asked flags fields)
+  keys_asked flags fields met = grind arith
 
   pub new_asked : (flags : List Bool) (old new : RecordFields A) → satisfy (new_requirements flags old) new ≡ true → asked_record (new_requirements flags old) new ≡ record_bytes new
-  new_asked [] old (field ∷ fields) met = absurd cc
-  new_asked (key ∷ flags) [] (field ∷ fields) met = absurd cc
-  new_asked (key ∷ flags) (before ∷ old) (field ∷ fields) met =
-      let parts = and_parts (satisfies (new_requirement (key, before)) field) (satisfy (new_requirements flags old) fields) met in
-      rw (of_new key before field, new_asked flags old fields parts.1) refl
-  new_asked flags old new met = refl
+  new_asked (key ∷ flags) (before ∷ old) (field ∷ fields) met = grind (arith, new_asked flags old fields)
+  new_asked flags old new met = grind arith
 
   -- how a record of a kind is written
   abbrev pub written : RecordKind → RecordFields A → List ℕ

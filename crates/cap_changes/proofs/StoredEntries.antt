@@ -31,6 +31,16 @@ pub parts_of : (start end : ℕ) (bytes : List ℕ) → start ≤ end → drop s
 parts_of start end bytes le =
     sym (take-append-drop (end - start) (drop start bytes)) ∙ ap (λ (r : List ℕ). part start end bytes ++ r) (drop-drop (end - start) start bytes ∙ ap (λ (n : ℕ). drop n bytes) (omega arith))
 
+-- an entry that is not the first begins where the one before it ends
+pub start_behind : (start : ℕ) (ends : List ℕ) (place : ℕ) → 1 ≤ place → place ≤ length ends → get_or ends (place - 1) 0 ≡ start_of start ends place
+start_behind start (end ∷ ends) (suc (suc place)) some within = grind (arith, start_behind end ends (suc place))
+start_behind start ends place some within = grind arith
+
+part_of_front : (cut start end : ℕ) (bytes : List ℕ) → cut ≤ length bytes → start ≤ end → end ≤ cut → part start end (take cut bytes) ≡ part start end bytes
+part_of_front cut start end bytes in_bytes le within =
+    sym (part_before start end (take cut bytes) (drop cut bytes) le (omega (arith, length-take-le cut bytes in_bytes, within)))
+    ∙ ap (part start end) (take-append-drop cut bytes)
+
 module _ {C : Type 0} (fits_in : List Bool → C → Bool) (has_values : C → Type 0) (bytes_of : C → List ℕ) (stored : List Bool → List ℕ → C) (flags : List Bool) where
   abbrev Are : List ℕ → ℕ → List ℕ → Type 0
   Are bytes start ends = AreEntries fits_in has_values bytes_of stored flags bytes start ends
@@ -110,29 +120,13 @@ module _ {C : Type 0} (fits_in : List Bool → C → Bool) (has_values : C → T
       ∙ ap (λ (rest : List ℕ). flat_map bytes_of (entries_of stored flags bytes 0 ends) ++ rest) (ap (λ (n : ℕ). drop n bytes) end ∙ drop_all (length bytes) bytes (omega arith))
       ∙ append-nil _
 
--- an entry that is not the first begins where the one before it ends
-start_next : (start : ℕ) (ends : List ℕ) (place : ℕ) → place < length ends → get_or ends place 0 ≡ start_of start ends (suc place)
-start_next start [] place within = absurd (omega arith)
-start_next start (end ∷ ends) zero within = refl
-start_next start (end ∷ ends) (suc place) within = start_next end ends place (omega arith)
+  -- ---- the first entries alone
 
-pub start_behind : (start : ℕ) (ends : List ℕ) (place : ℕ) → 1 ≤ place → place ≤ length ends → get_or ends (place - 1) 0 ≡ start_of start ends place
-start_behind start ends zero some within = absurd (omega arith)
-start_behind start ends (suc place) some within = ap (λ (n : ℕ). get_or ends n 0) (omega arith) ∙ start_next start ends place (omega arith)
-
--- ---- the first entries alone
-
-part_of_front : (cut start end : ℕ) (bytes : List ℕ) → cut ≤ length bytes → start ≤ end → end ≤ cut → part start end (take cut bytes) ≡ part start end bytes
-part_of_front cut start end bytes in_bytes le within =
-    sym (part_before start end (take cut bytes) (drop cut bytes) le (omega (arith, length-take-le cut bytes in_bytes, within)))
-    ∙ ap (part start end) (take-append-drop cut bytes)
-
-module _ {C : Type 0} (fits_in : List Bool → C → Bool) (has_values : C → Type 0) (bytes_of : C → List ℕ) (stored : List Bool → List ℕ → C) (flags : List Bool) where
-  start_within : (bytes : List ℕ) (start : ℕ) (ends : List ℕ) → AreEntries fits_in has_values bytes_of stored flags bytes start ends → start ≤ length bytes
+  start_within : (bytes : List ℕ) (start : ℕ) (ends : List ℕ) → Are bytes start ends → start ≤ length bytes
   start_within bytes start [] are = are
   start_within bytes start (end ∷ ends) are = omega (arith, are.0, are.1)
 
-  cut_within : (count : ℕ) (bytes : List ℕ) (start : ℕ) (ends : List ℕ) → AreEntries fits_in has_values bytes_of stored flags bytes start ends → count < length ends
+  cut_within : (count : ℕ) (bytes : List ℕ) (start : ℕ) (ends : List ℕ) → Are bytes start ends → count < length ends
       → (start ≤ start_of start ends count) × (start_of start ends count ≤ length bytes)
   cut_within zero bytes start ends are lt = (omega arith, start_within bytes start ends are)
   cut_within (suc count) bytes start [] are lt = absurd (omega arith)
@@ -142,11 +136,11 @@ module _ {C : Type 0} (fits_in : List Bool → C → Bool) (has_values : C → T
 
   -- so many entries, in the bytes up to where the last of them ends
   pub record AreFirst (cut count : ℕ) (bytes : List ℕ) (start : ℕ) (ends : List ℕ) : Type 0 where
-    pub are : AreEntries fits_in has_values bytes_of stored flags (take cut bytes) start (take count ends)
+    pub are : Are (take cut bytes) start (take count ends)
     pub end : end_of start (take count ends) ≡ cut
     pub entries : entries_of stored flags (take cut bytes) start (take count ends) ≡ take count (entries_of stored flags bytes start ends)
 
-  pub are_first : (cut count : ℕ) (bytes : List ℕ) (start : ℕ) (ends : List ℕ) → AreEntries fits_in has_values bytes_of stored flags bytes start ends → count < length ends → cut ≡ start_of start ends count
+  pub are_first : (cut count : ℕ) (bytes : List ℕ) (start : ℕ) (ends : List ℕ) → Are bytes start ends → count < length ends → cut ≡ start_of start ends count
       → AreFirst cut count bytes start ends
   are_first cut zero bytes start ends are lt is =
       let within = start_within bytes start ends are in
@@ -159,7 +153,7 @@ module _ {C : Type 0} (fits_in : List Bool → C → Bool) (has_values : C → T
       let within : end ≤ cut = omega (arith, is, bounds.0) in
       let same = part_of_front cut start end bytes in_bytes are.0 within in
       record {
-        are = (are.0, omega (arith, within, length-take-le cut bytes in_bytes), subst (λ (piece : List ℕ). IsEntry fits_in has_values bytes_of flags (stored flags piece) piece) (sym same) are.2, others.are);
+        are = (are.0, omega (arith, within, length-take-le cut bytes in_bytes), subst Is (sym same) are.2, others.are);
         end = others.end;
         entries = λ i. stored flags (same i) ∷ others.entries i;
       }
@@ -211,9 +205,8 @@ module _ {C : Type 0} (fits_in : List Bool → C → Bool) (has_values : C → T
   none_at flags bytes start (end ∷ ends) zero le = absurd (omega arith)
   none_at flags bytes start (end ∷ ends) (suc place) le = none_at flags bytes end ends place (omega arith)
 
--- ---- a group
+  -- ---- a group
 
-module _ {C : Type 0} (fits_in : List Bool → C → Bool) (has_values : C → Type 0) (bytes_of : C → List ℕ) (stored : List Bool → List ℕ → C) where
   -- what a call leaves that appends an entry, or answers an error
   pub record Leaves {E : Type 0} (result : Result (Unit {0}) E) (table : List ℕ) (schema : List Bool) (new new_ends : List ℕ) (before : TableEntries C) (entry : C) : Type 0 where
     pub keeps : IsKept fits_in has_values bytes_of stored schema new new_ends

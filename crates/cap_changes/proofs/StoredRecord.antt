@@ -2,7 +2,6 @@
 use Rattle.std.proofs.Common.{◌≡◌, ◌==◌, true, false, Bool, ℕ, zero, suc, ◌≤◌, ◌<◌, List, [], ◌∷◌, ◌++◌, length, Option, Some, None, IfSome, IsTrue, eqb-true, Ok, IsOk, refl, sym, ap, subst, ◌∙◌, append-nil, length-append, arith, ◌-◌, get_or, take, drop, ◌+◌, Result, Err, append_assoc, take_at, drop_at}
 use Rattle.std.proofs.lemmas.Bool.{and_parts}
 use Rattle.cap_value.specs.declared.value.Value.{Value}
-use Rattle.cap_value.specs.declared.value.Value.TheVariants.{Null}
 use Rattle.cap_value.specs.Value.{IsValue}
 use Rattle.cap_changes.specs.Field.{field_bytes, record_bytes, key_bytes}
 use Rattle.cap_changes.specs.FieldReading.{field_at}
@@ -21,16 +20,10 @@ use Rattle.cap_field.proofs.Spelled.{AreLow}
 use Rattle.cap_changes.proofs.Spelled.{field_spelled}
 
 module _ {A : Type 0} where
-  some_bytes : (field : Option (Value A)) → 0 < length (field_bytes field)
-  some_bytes (Some Null) = omega arith
-  some_bytes field = omega arith
-
   from_bytes : (most : ℕ) (fields : RecordFields A) → AreFields fields → length (record_bytes fields) ≤ most → fields_from most (record_bytes fields) ≡ fields
   unfolding fields_from field_at
-  from_bytes zero (field ∷ fields) each fits = absurd (omega (arith, some_bytes field, length-append (field_bytes field) (record_bytes fields)))
-  from_bytes (suc most) (field ∷ fields) each fits =
-      rw (field_again 0 Any field (record_bytes fields) refl each.0)
-      (ap (λ (l : RecordFields A). field ∷ l) (from_bytes most fields each.1 (omega (arith, some_bytes field, length-append (field_bytes field) (record_bytes fields)))))
+  from_bytes zero (field ∷ fields) each fits = grind (arith, length-append)
+  from_bytes (suc most) (field ∷ fields) each fits = grind (arith, length-append, field_again 0 Any field (record_bytes fields), from_bytes most fields)
   from_bytes most fields each fits = refl
 
   -- the bytes of fields spell just these
@@ -51,7 +44,7 @@ module _ {A : Type 0} where
   -- each field has a byte or more
   few : (fields : RecordFields A) → length fields ≤ length (record_bytes fields)
   few [] = omega arith
-  few (field ∷ fields) = omega (arith, few fields, some_bytes field, length-append (field_bytes field) (record_bytes fields))
+  few (field ∷ fields) = grind (arith, length-append, few fields)
 
   pub few_fields : (bytes : List ℕ) → IsRecord {A = A} bytes (fields_of bytes) → length (fields_of {A = A} bytes) ≤ length bytes
   few_fields bytes is = subst (λ (n : ℕ). length (fields_of {A = A} bytes) ≤ n) (sym (ap length is.spelled)) (few (fields_of bytes))
@@ -83,9 +76,6 @@ module _ {A : Type 0} where
 
   first : (bytes : List ℕ) → IsRecord {A = A} bytes (fields_of bytes) → 0 < length bytes → (field : Option (Value A)) × (rest : List ℕ) × First bytes field rest
   first bytes is some = first_of bytes (fields_of bytes) refl is.each is.spelled some
-
-  pub has_first : (bytes : List ℕ) → IsRecord {A = A} bytes (fields_of bytes) → 0 < length bytes → IsOk (field_at {A = A} 0 Any bytes)
-  has_first bytes is some = let (field, rest, f) = first bytes is some in rw f.read refl
 
   pub first_is : (bytes : List ℕ) (field : Option (Value A)) (rest : List ℕ) → IsRecord {A = A} bytes (fields_of bytes) → 0 < length bytes → field_at 0 Any bytes ≡ Ok (field, rest) → First bytes field rest
   first_is bytes field rest is some read =
@@ -136,9 +126,6 @@ module _ {A : Type 0} where
   first_key : (flags : List Bool) (bytes : List ℕ) → IsKeyRecord {A = A} (true ∷ flags) bytes (keys_of (true ∷ flags) bytes) → (field : Option (Value A)) × (rest : List ℕ) × FirstKey flags bytes field rest
   first_key flags bytes is = first_key_of flags bytes (keys_of (true ∷ flags) bytes) refl is.each is.fits is.spelled
 
-  pub has_first_key : (flags : List Bool) (bytes : List ℕ) → IsKeyRecord {A = A} (true ∷ flags) bytes (keys_of (true ∷ flags) bytes) → IsOk (field_at {A = A} 0 Any bytes)
-  has_first_key flags bytes is = let (field, rest, f) = first_key flags bytes is in rw f.read refl
-
   pub first_key_is : (flags : List Bool) (bytes : List ℕ) (field : Option (Value A)) (rest : List ℕ) → IsKeyRecord {A = A} (true ∷ flags) bytes (keys_of (true ∷ flags) bytes) → field_at 0 Any bytes ≡ Ok (field, rest) → FirstKey flags bytes field rest
   first_key_is flags bytes field rest is read =
       let (f, r, found) = first_key flags bytes is in
@@ -167,9 +154,7 @@ some_left (byte ∷ bytes) e = omega arith
 module _ (A : Type 0) where
   -- the bytes before those behind a field are its own
   own_bytes : (bytes front rest own : List ℕ) → bytes ≡ own ++ rest → front ≡ take (length bytes - length rest) bytes → front ≡ own
-  own_bytes bytes front rest own parts is =
-      let long : length bytes - length rest ≡ length own = omega (arith, ap length parts, length-append own rest) in
-      is ∙ ap (λ (n : ℕ). take n bytes) long ∙ ap (take (length own)) parts ∙ take-append_seam own rest
+  own_bytes bytes front rest own parts is = grind (arith, length-append own rest, take-append_seam own rest)
 
   -- ---- of a record that has all fields
 
@@ -180,7 +165,7 @@ module _ (A : Type 0) where
   whole_ends keys bytes fields none view empty = sym view ∙ ap (λ (k : Option (List Bool)). stored_fields k bytes) none ∙ ended bytes empty
 
   pub whole_first : (keys : Option (List Bool)) (bytes : List ℕ) → keys ≡ None → IsStored A keys bytes → (length bytes == 0) ≡ false → IsOk (field_at {A = A} 0 Any bytes)
-  whole_first keys bytes none is some = has_first bytes (whole keys bytes none is) (some_left bytes some)
+  whole_first keys bytes none is some = let (field, rest, f) = first bytes (whole keys bytes none is) (some_left bytes some) in rw f.read refl
 
   pub whole_left : (keys : Option (List Bool)) (bytes rest : List ℕ) (field : Option (Value A)) → keys ≡ None → IsStored A keys bytes → (length bytes == 0) ≡ false → field_at 0 Any bytes ≡ Ok (field, rest) → IsStored A keys rest
   whole_left keys bytes rest field none is some read =
@@ -223,7 +208,7 @@ module _ (A : Type 0) where
   pub key_first : (keys : Option (List Bool)) (flags : List Bool) (bytes : List ℕ) (d : Bool) → keys ≡ Some flags → IsStored A keys bytes → 1 ≤ length flags → get_or flags 0 d ≡ true → IsOk (field_at {A = A} 0 Any bytes)
   key_first keys [] bytes d some is long inside = absurd (omega arith)
   key_first keys (false ∷ flags) bytes d some is long inside = absurd cc
-  key_first keys (true ∷ flags) bytes d some is long inside = has_first_key flags bytes (keyed keys (true ∷ flags) bytes some is)
+  key_first keys (true ∷ flags) bytes d some is long inside = let (field, rest, f) = first_key flags bytes (keyed keys (true ∷ flags) bytes some is) in rw f.read refl
 
   pub record Keyed (flags : List Bool) (bytes front rest : List ℕ) (field : Option (Value A)) : Type 0 where
     pub left : IsKeyRecord {A = A} (Others flags) rest (keys_of (Others flags) rest)
@@ -263,10 +248,7 @@ module _ (A : Type 0) where
   next_of : (fields : RecordFields A) (at : ℕ) → at < length fields → AreFields fields → Next fields at
   next_of [] at lt each = absurd (omega arith)
   next_of (first ∷ fields) zero lt each = (first, refl, each.0)
-  next_of (first ∷ fields) (suc at) lt each =
-      let (field, is, value) = next_of fields at (omega arith) each.1 in
-      let more : suc (at + 1) ≡ suc at + 1 = omega arith in
-      (field, is ∙ ap (λ (n : ℕ). field ∷ drop n (first ∷ fields)) more, value)
+  next_of (first ∷ fields) (suc at) lt each = let (field, is, value) = next_of fields at (omega arith) each.1 in (field, grind (arith, is), value)
 
   again : (width : ℕ) (bytes : List ℕ) (at : ℕ) (rest : List ℕ) (fields : RecordFields A) (behind : List ℕ) → Passed width bytes at rest → AreFields fields → length fields ≡ width → bytes ≡ record_bytes fields ++ behind → at < width
       → (field : Option (Value A)) × (field_at 0 Any rest ≡ Ok (field, record_bytes (drop (at + 1) fields) ++ behind))

@@ -1,5 +1,5 @@
 -- The records of a touched key, field by field.
-use Rattle.std.proofs.Common.{◌≡◌, ℕ, ◌+◌, ◌<◌, List, [], ◌∷◌, ◌++◌, Bool, true, false, not, ◌&&◌, ◌||◌, cond, length, drop, get_or, Option, Some, None, refl, sym, ap, ◌∙◌}
+use Rattle.std.proofs.Common.{arith, ◌≡◌, ℕ, ◌+◌, ◌<◌, List, [], ◌∷◌, ◌++◌, Bool, true, false, not, ◌&&◌, ◌||◌, cond, length, drop, get_or, Option, Some, None, refl, sym, ap, ◌∙◌}
 use Rattle.std.proofs.lemmas.Bool.Decides.{same_from_decides}
 use Rattle.std.proofs.lemmas.Slice.Eq.{bytes_eq-Decides}
 use Rattle.cap_value.specs.Bytes.{bytes_eq}
@@ -10,7 +10,7 @@ use Rattle.cap_field.specs.FieldReading.{value_at}
 use Rattle.cap_field.proofs.FieldAgain.{value_again}
 use Rattle.cap_row.specs.Encoding.{BeginsWith}
 use Rattle.cap_row.specs.Fields.{Fields}
-use Rattle.cap_changes.specs.Change.{full_record, is_modified, old_field, new_field, side_record}
+use Rattle.cap_changes.specs.Change.{full_record, is_modified, old_field, new_field}
 use Rattle.cap_changes.specs.Column.{by_column}
 use Rattle.cap_changes.specs.Field.{record_bytes, field_bytes}
 use Rattle.cap_changes.proofs.PutLemmas.{goes_on}
@@ -40,17 +40,12 @@ module _ {A : Type 0} where
 
   -- a field, or an undefined one
   pub choose : (t : Bool) (field : Option (Value A)) → cond t (field_bytes field) (0 ∷ []) ≡ field_bytes (cond t field None)
-  choose true field = refl
-  choose false field = refl
+  choose t field = grind arith
 
   -- the field of a column in the old record, or in the new one
   abbrev pub side_field : Bool → Bool → Value A → Value A → Option (Value A)
   side_field true key image now = old_field key image now
   side_field false key image now = new_field key image now
-
-  pub side_is : (old : Bool) (flags : List Bool) (image now : Fields A) → by_column (side_field old) flags image now ≡ side_record old flags image now
-  side_is true flags image now = refl
-  side_is false flags image now = refl
 
   -- by the bytes of its fields
   side_by_bytes : (old key : Bool) (a b : Value A) → IsValue a → IsValue b

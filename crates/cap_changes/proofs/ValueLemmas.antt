@@ -1,5 +1,5 @@
 -- The fields of inverses and of patches are values, as those of the changes are.
-use Rattle.std.proofs.Common.{List, ◌∷◌, Bool, true, false, IfSome}
+use Rattle.std.proofs.Common.{arith, List, ◌∷◌, Bool, IfSome}
 use Rattle.std.proofs.lemmas.List.Elements.{recursion_from_All, All-from_recursion}
 use Rattle.cap_value.specs.Value.{IsValue}
 use Rattle.cap_changes.specs.FieldRecord.{RecordFields}
@@ -18,13 +18,11 @@ module _ {A : Type 0} where
   values_of fields each = All-from_recursion (λ field. IfSome field IsValue) fields each
 
   pub update_each : (flags : List Bool) (old new : RecordFields A) → AreFields old → AreFields new → AreFields (update_record flags old new)
-  update_each (true ∷ flags) (before ∷ old) (after ∷ new) a b = (a.0, update_each flags old new a.1 b.1)
-  update_each (false ∷ flags) (before ∷ old) (after ∷ new) a b = (b.0, update_each flags old new a.1 b.1)
+  update_each (key ∷ flags) (before ∷ old) (after ∷ new) a b = grind (arith, update_each flags old new)
   update_each flags old new a b = tt
 
   key_each : (flags : List Bool) (old : RecordFields A) → AreFields old → AreFields (key_record flags old)
-  key_each (true ∷ flags) (field ∷ old) a = (a.0, key_each flags old a.1)
-  key_each (false ∷ flags) (field ∷ old) a = (tt, key_each flags old a.1)
+  key_each (key ∷ flags) (field ∷ old) a = grind (arith, key_each flags old)
   key_each flags old a = tt
 
   update_values : (flags : List Bool) (old new : RecordFields A) → AreValues old → AreValues new → AreValues (update_record flags old new)

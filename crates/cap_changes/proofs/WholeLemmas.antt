@@ -1,9 +1,8 @@
 -- Fields that are defined: a record of these alone is the values of a row.
-use Rattle.std.proofs.Common.{◌≡◌, ℕ, List, [], ◌∷◌, ◌++◌, Bool, true, Option, Some, None, is_some, IsTrue, refl, sym, ap, subst, ◌∙◌}
+use Rattle.std.proofs.Common.{arith, ◌≡◌, ℕ, List, [], ◌∷◌, ◌++◌, Bool, true, Option, Some, None, is_some, IsTrue, refl, sym, ap, subst, ◌∙◌}
 use Rattle.std.specs.List.{list_all}
 use Rattle.cap_value.specs.Bytes.{bytes_eq}
 use Rattle.cap_value.specs.declared.value.Value.{Value}
-use Rattle.cap_value.specs.declared.value.Value.TheVariants.{Null}
 use Rattle.cap_field.specs.Field.{value_bytes, values_bytes}
 use Rattle.cap_row.specs.Encoding as rows
 use Rattle.cap_row.specs.Encoding.{AreValues, Encodes}
@@ -15,14 +14,8 @@ use Rattle.cap_changes.specs.FieldRecord.{RecordFields}
 use Rattle.cap_changes.specs.Record.{stored_fields, AreFields, IsStored}
 
 module _ {A : Type 0} where
-  -- a field with the byte of an undefined one is undefined
-  not_undefined : (value : Value A) → bytes_eq (value_bytes value) (0 ∷ []) ≡ true → ⊥
-  not_undefined Null e = cc
-  not_undefined value e = cc
-
   pub undefined : (field : Option (Value A)) (bytes : List ℕ) → bytes ≡ field_bytes field → bytes_eq bytes (0 ∷ []) ≡ true → field ≡ None
-  undefined None bytes is same = refl
-  undefined (Some value) bytes is same = absurd (not_undefined value (ap (λ (l : List ℕ). bytes_eq l (0 ∷ [])) (sym is) ∙ same))
+  undefined field bytes is same = grind arith
 
   -- the values of the fields, which are all defined
   pub record Defined (fields : RecordFields A) : Type 0 where

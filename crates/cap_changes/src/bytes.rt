@@ -1,6 +1,6 @@
 //! The bytes of changes.
 ghost use mathlib.Core.List.{IsPrefix};
-ghost use Rattle.std.specs.Prelude.{◌≡◌, ◌++◌, ◌∷◌, ◌≤◌, [], drop, length, OnErr, OnOk};
+ghost use Rattle.std.specs.Prelude.{◌≡◌, ◌++◌, ◌∷◌, [], OnErr, OnOk};
 ghost use Rattle.cap_changes.specs.ChangeBytes.{flag_byte};
 ghost use Rattle.cap_changes.specs.Field.{record_bytes, key_bytes};
 ghost use Rattle.cap_changes.specs.Operation.{operation_byte};
@@ -21,23 +21,6 @@ pub fn push_operation<A: AllocHandle>(
     ensures begins { OnErr result (IsPrefix out.old.items out.new.items) }
 {
     out.extend_from_slice(&[operation.byte(), indirect as u8])?;
-    Ok(())
-}
-
-/// Appends the bytes of a change, with this operation in place of its own.
-pub(crate) fn push_as<A: AllocHandle>(
-    out: &mut Vec<u8, A>,
-    operation: Operation,
-    change: &[u8],
-) -> Result<(), OutOfMemory>
-    requires { 1 ≤ length change.now }
-    ensures bytes { OnOk result (out.new.items
-        ≡ out.old.items ++ operation_byte operation ∷ drop 1 change.now) }
-    ensures begins { OnErr result (IsPrefix out.old.items out.new.items) }
-{
-    let at = out.len();
-    out.extend_from_slice(change)?;
-    out[at] = operation.byte();
     Ok(())
 }
 

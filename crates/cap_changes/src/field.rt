@@ -47,6 +47,7 @@ fn blob_ref<A: AllocHandle>(blob: &[u8]) -> ValueRef<'_>
 }
 
 // The value behind a type byte that is allowed. `at` is the offset of that byte.
+#[inline(always)]
 #[tactic(auto, unfolding(crate::specs::FieldReading::content_at))]
 fn take_content<'a, A: AllocHandle>(
     total: usize,

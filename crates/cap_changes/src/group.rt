@@ -9,13 +9,17 @@ ghost use Rattle.cap_changes.specs.Change as touched;
 ghost use Rattle.cap_changes.specs.ChangeReading.{changes_at, with_changes};
 ghost use Rattle.cap_changes.specs.Entries.{AllFit, IsFitting};
 ghost use Rattle.cap_changes.specs.Fits.{change_fits};
+ghost use Rattle.cap_changes.specs.Invert.{inverse_of};
 ghost use Rattle.cap_changes.specs.Judged.{HaveFlags, Judged, front_of, group_of, joined, with_flags};
+ghost use Rattle.cap_changes.specs.Made as made;
+ghost use Rattle.cap_changes.specs.Patch.{patch_of};
 ghost use Rattle.cap_changes.specs.Stored.{IsEntry, IsKept};
 ghost use Rattle.cap_changes.specs.Touched.{is_changed};
 
 use crate::entries::start_at;
-use crate::made::Made;
+use crate::inverse::inverse_bytes;
 use crate::operation::Operation;
+use crate::patches::push_patch;
 use crate::touched::{are_values, push_change};
 use crate::{Entries, Entry, EntryRef, Patch, RowChange};
 use cap_field::BlobFault;
@@ -302,8 +306,25 @@ impl<A: AllocHandle> TableGroup<RowChange<A>, A> {
     }
 }
 
-impl<C: Made<A>, A: AllocHandle> TableGroup<C, A> {
-    // Finds room for what is made of the changes of a group: as many, in no more bytes.
+impl<A: AllocHandle> TableGroup<RowChange<A>, A> {
+    /// The inverse of each change, in the same order.
+    pub(crate) fn inverse(&self, alloc: A) -> Result<Self, OutOfMemory>
+        ensures { IfOk result (λ inverse. inverse ≡ made.group_of inverse_of self.now) }
+    {
+        let flags = self.schema.flags();
+        let bytes = inverse_bytes(alloc, flags, self.changes(), self.bytes.as_slice())?;
+        Ok(TableGroup {
+            table: self.table.copy()?,
+            schema: self.schema.copy()?,
+            bytes,
+            ends: Vec::from_slice(alloc, self.ends.as_slice())?,
+            marker: PhantomData,
+        })
+    }
+}
+
+impl<A: AllocHandle> TableGroup<Patch<A>, A> {
+    /// Finds room for the patches of a group: as many, in no more bytes.
     pub(crate) fn reserve_for(&mut self, group: &Group<A>) -> Result<(), OutOfMemory>
         ensures { self.new ≡ self.old }
     {
@@ -312,21 +333,21 @@ impl<C: Made<A>, A: AllocHandle> TableGroup<C, A> {
         Ok(())
     }
 
-    // Appends what is made of a change.
-    pub(crate) fn push_made(
+    /// Appends the patch of a change.
+    pub(crate) fn push_patch_of(
         &mut self,
         change: &EntryRef<'_, RowChange<A>>,
     ) -> Result<(), OutOfMemory>
         requires { IsTrue (change_fits self.old.schema change.now) }
         ensures { OnOk result (self.new ≡ record self.old {
           changes = self.old.changes
-              ++ C.made self.old.schema change.now ∷ [];
+              ++ patch_of self.old.schema change.now ∷ [];
         }) }
     {
-        // For the proof: what is made of it fits the columns.
-        C::made_again(self.schema.flags(), change);
+        // For the proof: a clause says that its fields are values.
+        let _bytes = change.as_bytes();
         let before = self.bytes.len();
-        let pushed = C::push_made(&mut self.bytes, self.schema.flags(), change);
+        let pushed = push_patch(&mut self.bytes, self.schema.flags(), change);
         end(&mut self.bytes, &mut self.ends, before, pushed)
     }
 }

@@ -1,7 +1,9 @@
 //! The patchset of a changeset.
 ghost use mathlib.Core.List.{IsPrefix};
 ghost use Rattle.std.specs.Prelude.{◌≡◌, ◌++◌, IsTrue, IfOk, OnErr, OnOk};
+ghost use Rattle.cap_changes.specs.ChangeBytes.{patch_bytes};
 ghost use Rattle.cap_changes.specs.Field.{record_bytes, key_bytes};
+ghost use Rattle.cap_changes.specs.Fits.{change_fits};
 ghost use Rattle.cap_changes.specs.Patch as made;
 ghost use Rattle.cap_changes.specs.Requirements.{requirements, satisfy};
 ghost use Rattle.cap_changes.specs.declared.record_kind.RecordKind.TheVariants.{Full};
@@ -9,7 +11,10 @@ ghost use Rattle.cap_changes.specs.declared.record_kind.RecordKind.TheVariants.{
 use crate::bytes::push_operation;
 use crate::made::{Made, made_list};
 use crate::operation::Operation;
-use crate::{ChangeList, ChangeRef, EntryRef, Patch, PatchList, RecordRef, RowChange};
+use crate::{
+    ChangeList, ChangeRef, EntryRef, Group, Patch, PatchGroup, PatchList, RecordRef, RowChange,
+    TableGroup,
+};
 use cap_value::{AllocHandle, OutOfMemory};
 
 /// The patchset of a changeset: an insert is unchanged, an update keeps the key fields and the new values of
@@ -28,27 +33,37 @@ impl<A: AllocHandle> Made<A> for Patch<A> {
 
     ghost made = { λ flags change. patch_of flags change };
 
-    fn push_made(
-        out: &mut Vec<u8, A>,
-        flags: &[bool],
-        change: &EntryRef<'_, RowChange<A>>,
-    ) -> Result<(), OutOfMemory> {
-        match change.read() {
-            ChangeRef::Insert { .. } => Ok(out.extend_from_slice(change.as_bytes())?),
-            ChangeRef::Update { indirect, old, new } => {
-                push_operation(out, Operation::Update, indirect)?;
-                push_update_record(out, flags, old, new)
-            }
-            ChangeRef::Delete { indirect, old } => {
-                push_operation(out, Operation::Delete, indirect)?;
-                push_key_fields(out, flags, old)
-            }
+    fn made_group(alloc: A, group: &Group<A>) -> Result<PatchGroup<A>, OutOfMemory> {
+        let mut patches = TableGroup::new(alloc, group.table().copy()?, group.schema().copy()?);
+        patches.reserve_for(group)?;
+        for change in group.changes() {
+            patches.push_patch_of(&change)?;
         }
+        Ok(patches)
     }
+}
 
-    fn made_again(_flags: &[bool], change: &EntryRef<'_, RowChange<A>>) {
-        // A clause of `as_bytes` says that the fields are values.
-        let _bytes = change.as_bytes();
+/// Appends the bytes of the patch of a change.
+pub(crate) fn push_patch<A: AllocHandle>(
+    out: &mut Vec<u8, A>,
+    flags: &[bool],
+    change: &EntryRef<'_, RowChange<A>>,
+) -> Result<(), OutOfMemory>
+    requires { IsTrue (change_fits flags.now change.now) }
+    ensures bytes { OnOk result (out.new.items
+        ≡ out.old.items ++ patch_bytes (made.patch_of flags.now change.now)) }
+    ensures begins { OnErr result (IsPrefix out.old.items out.new.items) }
+{
+    match change.read() {
+        ChangeRef::Insert { .. } => Ok(out.extend_from_slice(change.as_bytes())?),
+        ChangeRef::Update { indirect, old, new } => {
+            push_operation(out, Operation::Update, indirect)?;
+            push_update_record(out, flags, old, new)
+        }
+        ChangeRef::Delete { indirect, old } => {
+            push_operation(out, Operation::Delete, indirect)?;
+            push_key_fields(out, flags, old)
+        }
     }
 }
 

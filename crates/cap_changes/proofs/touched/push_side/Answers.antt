@@ -1,16 +1,7 @@
-use Rattle.std.proofs.Common.{◌++◌, [], ap, append-nil}
-use Rattle.cap_changes.specs.Field.{record_bytes}
-use Rattle.cap_changes.specs.FieldRecord.{RecordFields}
 use Rattle.cap_field.proofs.BeginLemmas.{begins_on, begins_through, on_error}
 use Rattle.cap_changes.proofs.PutLemmas.{first_ends, second_ends}
-use Rattle.cap_changes.proofs.TouchedLemmas.{side_field, side_goes_on, side_is}
+use Rattle.cap_changes.proofs.TouchedLemmas.{side_field, side_goes_on}
 use Rattle.cap_changes.proofs.touched.push_side.Goals as goal
-
-pub loop-key-init : goal.loop-key-init
-loop-key-init g c = (
-  ap (λ (r : RecordFields g.row.A.Denot). c.args.out.now.items ++ record_bytes r) (side_is c.args.old c.args.flags.now c.args.image c.args.now),
-  ([], append-nil c.args.out.now.items),
-)
 
 pub returns-in_default-clause-bytes : goal.returns-in_default-clause-bytes
 returns-in_default-clause-bytes g c = second_ends (side_field c.args.old) _ _ _ _ _ c.in_default.ensures'.0 c.loop-key.invariant.0

@@ -1,10 +1,6 @@
 use Rattle.std.proofs.Common.{◌∙◌}
-use Rattle.cap_changes.proofs.Grammar.{changes, starts}
 use Rattle.cap_changes.proofs.ReadLemmas.{insert_read, delete_read, update_read, starts_record}
 use Rattle.cap_changes.proofs.entry_ref.EntryRef+RowChange+A.read.Goals as goal
-
-pub parts-operation-requires : goal.parts-operation-requires
-parts-operation-requires g c = starts (changes {A = g.row.A.Denot}) c.self.inside.flags.now _ c.self.inside.bytes.now c.self.invariant
 
 pub of-requires : goal.of-requires
 of-requires g c = (insert_read c.self.inside.flags.now _ c.parts-operation.result.0 c.parts-operation.result.1 c.parts-operation.result.2.now c.self.inside.bytes.now c.self.invariant c.parts-operation.ensures c.in-Insert.is).0

@@ -1,0 +1,28 @@
+use Rattle.std.proofs.Common.{◌∙◌, map, ap, sym}
+use Rattle.std.specs.List.{flat_map}
+use Rattle.cap_changes.specs.ChangeBytes.{change_bytes}
+use Rattle.cap_changes.specs.ChangeReading.{stored_change}
+use Rattle.cap_changes.specs.Entries.{TableEntries}
+use Rattle.cap_changes.specs.Fits.{change_fits}
+use Rattle.cap_changes.specs.HasValues.{HasValues}
+use Rattle.cap_changes.specs.Invert.{inverse_of}
+use Rattle.cap_changes.specs.Made.{group_of}
+use Rattle.cap_changes.specs.declared.row_change.RowChange.{RowChange}
+use Rattle.cap_changes.proofs.InverseBytes.{inverse_kept}
+use Rattle.cap_changes.proofs.StoredEntries.{spelled}
+use Rattle.cap_changes.proofs.group.TableGroup+RowChange+A+A.inverse.Goals as goal
+
+pub inverse_bytes-requires-clause-spelled : goal.inverse_bytes-requires-clause-spelled
+inverse_bytes-requires-clause-spelled g c =
+    c.as_slice.ensures.value ∙ spelled (change_fits {A = g.row.A.Denot}) HasValues change_bytes stored_change c.self.inside.schema c.self.inside.bytes.items c.self.inside.ends.items c.self.invariant.each c.self.invariant.end
+    ∙ ap (λ (t : TableEntries (RowChange g.row.A.Denot)). flat_map change_bytes t.changes) c.self.view_is ∙ ap (flat_map change_bytes) (sym c.changes.ensures.changes)
+
+pub invariant_of-result : goal.invariant_of-result
+invariant_of-result g c =
+    let kept = inverse_kept c.self.inside.schema c.self.inside.bytes.items c.in_ok-bytes.bytes.items c.self.inside.ends.items c.self.invariant (c.in_ok-bytes.ensures ∙ (λ i. flat_map change_bytes (map (inverse_of (c.flags-flags.ensures.flags i)) ((c.changes.ensures.changes ∙ sym (ap (λ (t : TableEntries (RowChange g.row.A.Denot)). t.changes) c.self.view_is)) i)))) in
+    rw (c.in_ok-copy-2.ensures, c.in_ok-from_slice.ensures.items, c.as_slice-2.ensures.value) kept.0
+
+pub returns : goal.returns
+returns g c =
+    let kept = inverse_kept c.self.inside.schema c.self.inside.bytes.items c.in_ok-bytes.bytes.items c.self.inside.ends.items c.self.invariant (c.in_ok-bytes.ensures ∙ (λ i. flat_map change_bytes (map (inverse_of (c.flags-flags.ensures.flags i)) ((c.changes.ensures.changes ∙ sym (ap (λ (t : TableEntries (RowChange g.row.A.Denot)). t.changes) c.self.view_is)) i)))) in
+    rw (c.in_ok-copy.ensures, c.in_ok-copy-2.ensures, c.in_ok-from_slice.ensures.items, c.as_slice-2.ensures.value, kept.1) (ap (group_of (inverse_of {A = g.row.A.Denot})) c.self.view_is)
