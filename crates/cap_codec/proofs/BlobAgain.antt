@@ -1,7 +1,7 @@
 -- Groups and blobs are read as what their bytes spell.
-use Rattle.std.proofs.Common.{◌≡◌, ℕ, zero, suc, ◌≤◌, ◌⊎◌, inl, inr, Bool, true, false, nat_le, ◌&&◌, List, [], ◌∷◌, ◌++◌, length, map, Result, Ok, IsTrue, IsUtf8, refl, sym, ap, ◌∙◌, append_assoc, arith, length-append, eq-eqb, le-ltb, lt-ltb, ne_eqb, leb-true}
-use Rattle.std.specs.List.{list_any}
-use Rattle.std.proofs.lemmas.Bool.{and_parts, not-true}
+use Rattle.std.proofs.Common.{◌≡◌, ℕ, zero, suc, ◌≤◌, ◌⊎◌, inl, inr, Bool, false, nat_le, List, [], ◌∷◌, ◌++◌, length, map, Result, Ok, IsTrue, IsUtf8, refl, ap, ◌∙◌, append_assoc, arith, length-append, eq-eqb}
+use Rattle.std.proofs.lemmas.Bool.Decides.{nat_tests}
+use Rattle.std.proofs.lemmas.Bool.{and_parts}
 use Rattle.std.proofs.lemmas.List.{length-map}
 use Rattle.std.proofs.lemmas.Str.{is_utf8-from_IsUtf8}
 use Rattle.cap_value.specs.Bytes.{is_name}
@@ -11,7 +11,7 @@ use Rattle.cap_changes.specs.PatchGroup.{TablePatches}
 use Rattle.cap_field.specs.declared.fault.BlobFault.{BlobFault}
 use Rattle.cap_codec.specs.declared.read.Contents.{Contents}
 use Rattle.cap_codec.specs.declared.read.Contents.TheVariants.{Changes, Patches}
-use Rattle.cap_codec.specs.HeaderReading.{is_zero, count_at, flags_at, name_at, header_at}
+use Rattle.cap_codec.specs.HeaderReading.{count_at, flags_at, name_at, header_at}
 use Rattle.cap_changes.specs.ChangeReading.{is_set, change_at, patch_at}
 use Rattle.cap_field.specs.Varint.{varint_bytes}
 use Rattle.cap_changes.specs.Operation.{is_operation}
@@ -30,38 +30,32 @@ use Rattle.cap_changes.proofs.ChangeAgain.{NoChange, change_again, patch_again, 
 
 name_again : (total : ℕ) (table rest : List ℕ) → IsTrue (is_name table) → IsUtf8 table → name_at total (table ++ 0 ∷ rest) ≡ Ok (table, rest)
 name_again total table rest named utf8 =
-    let parts = and_parts (nat_le 1 (length table) && nat_le (length table) 255) _ named in
-    let long = and_parts (nat_le 1 (length table)) (nat_le (length table) 255) parts.0 in
-    let some : 1 ≤ length table = leb-true 1 (length table) long.0 in
-    let short : length table ≤ 255 = leb-true (length table) 255 long.1 in
-    rw (name_is total table rest (omega arith) (not-true (list_any is_zero table) parts.1), lt-ltb 0 (length table) some, is_utf8-from_IsUtf8 table utf8) refl
+    let is = name_is total table rest in
+    let text = is_utf8-from_IsUtf8 table utf8 in
+    grind (arith, nat_tests, is, text)
 
 pub count_again : (total count : ℕ) (rest : List ℕ) → 1 ≤ count → count ≤ 2000 → count_at total (varint_bytes count ++ rest) ≡ Ok (count, rest)
 unfolding count_at
-count_again total count rest some fits = rw (varint_again total count rest (omega arith), ne_eqb count 0 (λ e. omega arith), le-ltb 2000 count fits) refl
+count_again total count rest some fits = let read = varint_again total count rest in grind (arith, nat_tests, read)
 
 flags_again : (total : ℕ) (schema : List Bool) (flags rest : List ℕ) → map is_set flags ≡ schema → IsTrue (has_key schema) → flags_at total (length schema) (flags ++ rest) ≡ Ok (flags, rest)
 unfolding flags_at
 flags_again total schema flags rest flagged keyed =
-    let len : length flags ≡ length schema = sym (length-map flags is_set) ∙ ap (λ (f : List Bool). length f) flagged in
-    let keyed' : list_any is_set flags ≡ true = sym (key_is_set flags) ∙ ap has_key flagged ∙ keyed in
-    rw (bytes_again total (length schema) flags rest len, keyed') refl
+    let long = length-map flags is_set in
+    let set = key_is_set flags in
+    let read = bytes_again total (length schema) flags rest in
+    grind (arith, long, set, read)
 
 -- a header behind its kind byte, and more
 pub header_again : (total : ℕ) (table : List ℕ) (schema : List Bool) (flags rest : List ℕ) → IsTable table schema → map is_set flags ≡ schema
     → header_at total (varint_bytes (length schema) ++ flags ++ table ++ 0 ∷ rest) ≡ Ok (record { table = table; flags = schema }, rest)
 unfolding header_at
 header_again total table schema flags rest is flagged =
-    let parts = and_parts (nat_le 1 (length schema)) (nat_le (length schema) 2000) is.columns in
-    let regrouped : varint_bytes (length schema) ++ flags ++ table ++ 0 ∷ rest ≡ varint_bytes (length schema) ++ (flags ++ (table ++ 0 ∷ rest)) =
-    append_assoc (varint_bytes (length schema) ++ flags) table (0 ∷ rest) ∙ append_assoc (varint_bytes (length schema)) flags (table ++ 0 ∷ rest) in
-    ap (header_at total) regrouped
-    ∙ rw (
-      count_again total (length schema) (flags ++ (table ++ 0 ∷ rest)) (leb-true 1 (length schema) parts.0) (leb-true (length schema) 2000 parts.1),
-      flags_again total schema flags (table ++ 0 ∷ rest) flagged is.keyed,
-      name_again total table rest is.name is.utf8,
-      flagged,
-    ) refl
+    let columns = and_parts (nat_le 1 (length schema)) (nat_le (length schema) 2000) is.columns in
+    let count = count_again total (length schema) (flags ++ (table ++ 0 ∷ rest)) in
+    let set = flags_again total schema flags (table ++ 0 ∷ rest) flagged is.keyed in
+    let named = name_again total table rest is.name is.utf8 in
+    grind (arith, nat_tests, append_assoc, columns, count, set, named)
 
 -- ---- groups
 
@@ -72,11 +66,9 @@ module _ {X : Type 0} (one_at : ℕ → List Bool → ℕ → List ℕ → Resul
     varint_bytes (length group.schema) ++ is.flags ++ group.table ++ 0 ∷ is.rest,
     is.parts,
     λ rest stops.
-        ap (entries_at one_at total) (append_assoc (varint_bytes (length group.schema) ++ is.flags ++ group.table) (0 ∷ is.rest) rest)
-        ∙ rw (
-          header_again total group.table group.schema is.flags (is.rest ++ rest) is.named is.flagged,
-          each_again one_at total group.schema (one group.schema) (read total group.schema) (length (is.rest ++ rest)) group.changes is.rest rest (omega arith) is.each stops,
-        ) refl,
+        let head = header_again total group.table group.schema is.flags (is.rest ++ rest) is.named is.flagged in
+        let each = each_again one_at total group.schema (one group.schema) (read total group.schema) (length (is.rest ++ rest)) group.changes is.rest rest (omega arith) is.each stops in
+        grind (arith, append_assoc, head, each),
   )
 
 module _ {A : Type 0} where
@@ -104,8 +96,7 @@ module _ {X : Type 0} (one_at : ℕ → List ℕ → Result (X × List ℕ) Blob
       let (behind, first, again) = read 0 x front is in inr (behind ++ rest, parts ∙ ap (λ (b : List ℕ). b ++ rest) first)
 
   no_change : is_operation kind ≡ false → (xs : List X) (bytes : List ℕ) → ((bytes ≡ []) × (xs ≡ [])) ⊎ ((others : List ℕ) × (bytes ≡ kind ∷ others)) → NoChange bytes
-  no_change other xs bytes (inl (none, nothing)) = rw none tt
-  no_change other xs bytes (inr (others, parts)) = rw parts other
+  no_change other xs bytes first = grind (arith, other, first)
 
   pub groups_again : IsRead → is_operation kind ≡ false → (most total : ℕ) (xs : List X) (bytes : List ℕ) → length bytes ≤ most → SpellsEach one xs bytes → groups_at one_at kind most total bytes ≡ Ok xs
   unfolding groups_at

@@ -1,9 +1,10 @@
 -- The name and the flags of a header that was read.
-use Rattle.std.proofs.Common.{◌≡◌, ℕ, zero, suc, ◌+◌, ◌<◌, ◌≤◌, Bool, true, false, nat_lt, nat_le, ◌&&◌, List, [], ◌∷◌, ◌++◌, length, take, drop, map, get_or, Some, None, Ok, if◌then◌else◌, refl, sym, ap, ◌∙◌, inl, inr, arith, add-one, length-take, length-append, drop-drop, drop-cons, take_at, drop_at, take-append-drop, lt-ltb}
+use Rattle.std.proofs.Common.{◌≡◌, ℕ, zero, suc, ◌+◌, ◌<◌, ◌≤◌, true, false, nat_lt, ◌&&◌, List, [], ◌∷◌, ◌++◌, length, take, drop, map, get_or, Some, Ok, if◌then◌else◌, refl, sym, ap, ◌∙◌, arith, add-one, length-take, length-append, drop-drop, drop-cons, take_at, drop_at, take-append-drop}
 use Rattle.std.specs.Prelude.{position}
 use Rattle.std.specs.List.{list_any, position_or_len}
 use Rattle.std.specs.Str.{is_utf8}
-use Rattle.std.proofs.lemmas.Bool.{cond-true, eqb-true, and_from, or_parts, le-leb, not_from_false}
+use Rattle.std.proofs.lemmas.Bool.{eqb-true}
+use Rattle.std.proofs.lemmas.Bool.Decides.{nat_tests}
 use Rattle.std.proofs.lemmas.List.{length-map, get_or-take, length-take-le}
 use Rattle.std.proofs.lemmas.List.Folds.{list_any_none}
 use Rattle.std.proofs.lemmas.List.Quantifiers.{position-Some}
@@ -12,10 +13,8 @@ use Rattle.cap_value.specs.Bytes.{is_name}
 use Rattle.cap_row.specs.Schema.{has_key, is_schema, schema_of}
 use Rattle.cap_field.specs.declared.fault.FaultKind.TheVariants.{BadName}
 use Rattle.cap_field.specs.Reading.{fault, place}
-use Rattle.cap_field.specs.FieldReading.{text_of}
 use Rattle.cap_codec.specs.HeaderReading.{is_zero, name_at}
 use Rattle.cap_changes.specs.ChangeReading.{is_set}
-use Rattle.cap_field.proofs.Binds.{chosen}
 
 -- ---- the first zero byte
 
@@ -39,10 +38,7 @@ no_zero_before bytes len e = list_any_none is_zero (take len bytes) (λ i d lt.
 pub first_zero : (most : ℕ) (bytes rest : List ℕ) → length bytes < most → list_any is_zero bytes ≡ false → position_or_len is_zero (take most (bytes ++ 0 ∷ rest)) ≡ length bytes
 first_zero zero bytes rest lt none = absurd (omega arith)
 first_zero (suc most) [] rest lt none = refl
-first_zero (suc most) (byte ∷ bytes) rest lt none =
-    let parts = or_parts (is_zero byte) (list_any is_zero bytes) none in
-    let others : position_or_len is_zero (take most (bytes ++ 0 ∷ rest)) ≡ length bytes = first_zero most bytes rest (omega arith) parts.1 in
-    rw (parts.0, others) (omega arith)
+first_zero (suc most) (byte ∷ bytes) rest lt none = let others = first_zero most bytes rest in grind (arith, none, others)
 
 -- ---- a name
 
@@ -51,17 +47,20 @@ pub name_is : (total : ℕ) (name rest : List ℕ) → length name < 256 → lis
     → name_at total (name ++ 0 ∷ rest) ≡ (if nat_lt 0 (length name) && is_utf8 name then Ok (name, rest) else fault BadName (place total (name ++ 0 ∷ rest)))
 unfolding name_at
 name_is total name rest short none =
-    let at : position_or_len is_zero (take 256 (name ++ 0 ∷ rest)) ≡ length name = first_zero 256 name rest short none in
-    let within : nat_lt (length name) (length (take 256 (name ++ 0 ∷ rest))) ≡ true = lt-ltb _ _ (omega (arith, length-take 256 (name ++ 0 ∷ rest), length-append name (0 ∷ rest))) in
-    let front : take (length name) (name ++ 0 ∷ rest) ≡ name = take_at name (0 ∷ rest) (length name) refl in
-    let behind : drop (length name + 1) (name ++ 0 ∷ rest) ≡ rest = sym (drop-drop 1 (length name) (name ++ 0 ∷ rest)) ∙ ap (drop 1) (drop_at name (0 ∷ rest) (length name) refl) in
-    rw (at, within, front, behind) refl
+    let at = first_zero 256 name rest short none in
+    let within = length-take 256 (name ++ 0 ∷ rest) in
+    let long = length-append name (0 ∷ rest) in
+    let front = take_at name (0 ∷ rest) (length name) refl in
+    let behind = drop_at name (0 ∷ rest) (length name) refl in
+    let after = drop-drop 1 (length name) (name ++ 0 ∷ rest) in
+    grind (arith, nat_tests, at, within, long, front, behind, after)
 
 -- the bytes before the first zero are a name
 pub name_before : (bytes : List ℕ) (len : ℕ) → position is_zero (take 256 bytes) ≡ Some len → 0 < len → len < length bytes → len ≤ 255 → is_name (take len bytes) ≡ true
 name_before bytes len first some within short =
     let long : length (take len bytes) ≡ len = length-take-le len bytes (omega arith) in
-    rw long (and_from (nat_le 1 len && nat_le len 255) _ (and_from (nat_le 1 len) (nat_le len 255) (le-leb 1 len some) (le-leb len 255 short)) (not_from_false _ (no_zero_before bytes len first)))
+    let none = no_zero_before bytes len first in
+    grind (arith, nat_tests, long, none)
 
 -- ---- the flags
 
@@ -70,16 +69,8 @@ key_is_set [] = refl
 key_is_set (flag ∷ flags) = rw (key_is_set flags) refl
 
 pub is_schema_of : (flags : List ℕ) → 1 ≤ length flags → length flags ≤ 2000 → is_schema (map is_set flags) ≡ true
-is_schema_of flags some fits =
-    let long : length (map is_set flags) ≡ length flags = length-map flags is_set in
-    rw long (and_from (nat_le 1 (length flags)) (nat_le (length flags) 2000) (le-leb 1 (length flags) some) (le-leb (length flags) 2000 fits))
+is_schema_of flags some fits = let long = length-map flags is_set in grind (arith, nat_tests, long)
 
--- a schema made of the flags is theirs
-pub schema_is : (flags : List ℕ) (items schema : List Bool) → 1 ≤ length flags → length flags ≤ 2000 → items ≡ map is_set flags → schema_of items ≡ Ok schema → schema ≡ map is_set flags
-schema_is flags items schema some fits is made =
-    let h : schema_of (map is_set flags) ≡ Ok schema = rw (← is) made in
-    let e : schema_of (map is_set flags) ≡ Ok (map is_set flags) = cond-true (is_schema (map is_set flags)) _ _ (is_schema_of flags some fits) in
-    cc
-
-pub text_is : (bytes text : List ℕ) → Some text ≡ text_of bytes → text ≡ bytes
-text_is bytes text e = elim (chosen (is_utf8 bytes) (Some bytes) None (Some text) (sym e)) [ inl (holds, is) ↦ cc | inr (other, is) ↦ absurd cc ]
+-- they make a schema
+pub schema_of_flags : (flags : List ℕ) → 1 ≤ length flags → length flags ≤ 2000 → schema_of (map is_set flags) ≡ Ok (map is_set flags)
+schema_of_flags flags some fits = let fit = is_schema_of flags some fits in grind (arith, fit)

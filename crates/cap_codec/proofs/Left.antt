@@ -20,45 +20,29 @@ module _ {X : Type 0} (one_at : ℕ → List ℕ → Result (X × List ℕ) Blob
   unfoldable pub GroupsLeft : List X → ℕ → List ℕ → Result (List X) BlobFault → Type 0
   GroupsLeft front total rest all = (most : ℕ) × (length rest ≤ most) × ((groups_at one_at kind most total rest >>= λ xs. Ok (front ++ xs)) ≡ all)
 
-  none_in_front : (read : Result (List X) BlobFault) → (read >>= λ xs. Ok ([] ++ xs)) ≡ read
-  none_in_front (Ok xs) = refl
-  none_in_front (Err f) = refl
-
   pub groups_start : (total : ℕ) (bytes : List ℕ) → GroupsLeft [] total bytes (groups_at one_at kind (length bytes) total bytes)
   unfolding GroupsLeft
-  groups_start total bytes = (length bytes, omega arith, none_in_front (groups_at one_at kind (length bytes) total bytes))
-
-  put_group : (front : List X) (x : X) (read : Result (List X) BlobFault) → ((read >>= λ xs. Ok (x ∷ xs)) >>= λ xs. Ok (front ++ xs)) ≡ (read >>= λ xs. Ok ((front ++ x ∷ []) ++ xs))
-  put_group front x (Ok xs) = ap (λ (ys : List X). Ok ys) (sym (append_assoc front (x ∷ []) xs))
-  put_group front x (Err f) = refl
+  groups_start total bytes = (length bytes, omega arith, grind arith)
 
   pub groups_go_on : (front : List X) (total : ℕ) (rest after : List ℕ) (x : X) (all : Result (List X) BlobFault) → 1 ≤ length rest → (get_or rest 0 0 == kind) ≡ true
       → one_at total (behind_of rest) ≡ Ok (x, after) → length after ≤ length (behind_of rest) → GroupsLeft front total rest all → GroupsLeft (front ++ x ∷ []) total after all
   unfolding GroupsLeft groups_at
-  groups_go_on front total [] after x all some same read shorter left = absurd (omega arith)
-  groups_go_on front total (byte ∷ behind) after x all some same read shorter (zero, le, e) = absurd (omega arith)
   groups_go_on front total (byte ∷ behind) after x all some same read shorter (suc most, le, e) =
-      let is : one_at total behind ≡ Ok (x, after) = rw behind-is at read in
-      let fewer : length after ≤ length behind = rw behind-is at shorter in
-      let one : (groups_at one_at kind (suc most) total (byte ∷ behind) >>= λ xs. Ok (front ++ xs)) ≡ (groups_at one_at kind most total after >>= λ xs. Ok ((front ++ x ∷ []) ++ xs)) = rw (same, is) (put_group front x (groups_at one_at kind most total after)) in
-      (most, omega arith, sym one ∙ e)
+      let is = behind-is byte behind in
+      (most, omega (arith, shorter, ap length is, le), grind (arith, append_assoc, same, read, is, e))
+  groups_go_on front total rest after x all some same read shorter (most, le, e) = absurd (omega (arith, some, le))
 
   pub groups_fail : (front : List X) (total : ℕ) (rest : List ℕ) (f : BlobFault) (all : Result (List X) BlobFault) → 1 ≤ length rest → (get_or rest 0 0 == kind) ≡ true
       → one_at total (behind_of rest) ≡ Err f → GroupsLeft front total rest all → all ≡ Err f
   unfolding GroupsLeft groups_at
-  groups_fail front total [] f all some same read left = absurd (omega arith)
-  groups_fail front total (byte ∷ behind) f all some same read (zero, le, e) = absurd (omega arith)
-  groups_fail front total (byte ∷ behind) f all some same read (suc most, le, e) =
-      let is : one_at total behind ≡ Err f = rw behind-is at read in
-      let one : (groups_at one_at kind (suc most) total (byte ∷ behind) >>= λ xs. Ok (front ++ xs)) ≡ Err f = rw (same, is) refl in sym e ∙ one
+  groups_fail front total (byte ∷ behind) f all some same read (suc most, le, e) = sym e ∙ rw (same, ← behind-is byte behind, read) refl
+  groups_fail front total rest f all some same read (most, le, e) = absurd (omega (arith, some, le))
 
   pub groups_other : (front : List X) (total : ℕ) (rest : List ℕ) (all : Result (List X) BlobFault) → 1 ≤ length rest → (get_or rest 0 0 == kind) ≡ false
       → GroupsLeft front total rest all → all ≡ Err (wrong_kind (get_or rest 0 0) (place total rest))
   unfolding GroupsLeft groups_at
-  groups_other front total [] all some other left = absurd (omega arith)
-  groups_other front total (byte ∷ behind) all some other (zero, le, e) = absurd (omega arith)
-  groups_other front total (byte ∷ behind) all some other (suc most, le, e) =
-      let one : (groups_at one_at kind (suc most) total (byte ∷ behind) >>= λ xs. Ok (front ++ xs)) ≡ Err (wrong_kind byte (place total (byte ∷ behind))) = rw other refl in sym e ∙ one
+  groups_other front total (byte ∷ behind) all some other (suc most, le, e) = sym e ∙ rw other refl
+  groups_other front total rest all some other (most, le, e) = absurd (omega (arith, some, le))
 
   pub groups_stop : (front : List X) (total : ℕ) (rest : List ℕ) (all : Result (List X) BlobFault) → length rest < 1 → GroupsLeft front total rest all → all ≡ Ok front
   unfolding GroupsLeft groups_at

@@ -6,4 +6,3 @@ pub mod SpelledBlob
 pub mod Steady
 pub mod Looking
 pub mod StreamLemmas
-pub mod WriteLemmas

@@ -17,23 +17,18 @@ use Rattle.cap_changes.specs.KindByte.{changeset_kind, patchset_kind}
 use Rattle.cap_changes.specs.Operation.{is_operation}
 use Rattle.cap_changes.specs.ChangeReading.{behind, changes_at, with_changes}
 use Rattle.cap_codec.specs.BlobReading.{entries_at, group_at, patch_group_at, groups_at, blob_at}
-use Rattle.cap_field.proofs.Binds.{chosen, err_is}
-use Rattle.cap_codec.proofs.Steady.{IsBehind, Stays, Any, further, stays_then, either_stays, fault_stays, early_then, again, no_longer, same_place, skip_flag, one_stays, header_stays}
+use Rattle.cap_codec.proofs.Steady.{IsBehind, Stays, Any, further, again, no_longer, same_place, skip_flag, one_stays, header_stays}
 
 pub fault_of_lasting : {X : Type 0} (read : Result X BlobFault) (f : BlobFault) → lasting read ≡ Err f → (read ≡ Err f) × (is_cut f.kind ≡ false)
-fault_of_lasting (Ok x) f e = absurd cc
-fault_of_lasting (Err g) f e = elim (chosen (is_cut g.kind) _ _ _ e) [
-  | inl (cut, h) ↦ absurd cc
-  | inr (whole, h) ↦ let same = err_is {A = Unit {0}} g f h in (ap (λ (d : BlobFault). Err d) same, rw (← same) whole)
-]
+fault_of_lasting read f e = grind arith
 
 pub either : {X : Type 0} (read : Result X BlobFault) → ((x : X) × (read ≡ Ok x)) ⊎ ((f : BlobFault) × (read ≡ Err f))
 either (Ok x) = inl (x, refl)
 either (Err f) = inr (f, refl)
 
-wrapped : {G H : Type 0} (read : Result G BlobFault) (f : G → H) → lasting (read >>= (λ x. Ok (f x))) ≡ lasting read
-wrapped (Ok x) f = refl
-wrapped (Err e) f = refl
+-- a fault that further bytes may mend does not last
+cut_is : {X : Type 0} (read : Result X BlobFault) (answer : Result (Unit {0}) BlobFault) → ends_early read ≡ true → ((f : BlobFault) → read ≡ Err f → answer ≡ lasting {X = Unit {0}} (Err f)) → answer ≡ Ok tt
+cut_is read answer early stops = grind (arith, stops)
 
 -- the bytes behind a part, at their offset
 place_is : (bytes rest : List ℕ) → IsBehind rest bytes → (place (length bytes) rest ≤ length bytes) × (drop (place (length bytes) rest) bytes ≡ rest)
@@ -50,17 +45,9 @@ module _ {X : Type 0} (one_at : ℕ → List Bool → ℕ → List ℕ → Resul
   abbrev groups : ℕ → ℕ → List X × List ℕ → Result (List (TableEntries X)) BlobFault
   groups n total changes = groups_at (entries_at one_at) kind n total changes.1
 
-  abbrev with_first : X → List X × List ℕ → Result (List X × List ℕ) BlobFault
-  with_first x others = Ok (x ∷ others.0, others.1)
-
-  behind_first : (x : X) (n total : ℕ) (read : Result (List X × List ℕ) BlobFault) → lasting ((read >>= with_first x) >>= groups n total) ≡ lasting (read >>= groups n total)
-  behind_first x n total (Ok others) = refl
-  behind_first x n total (Err f) = refl
-
   change_follows : (m n total : ℕ) (flags : List Bool) (bytes : List ℕ) (answer : Result (Unit {0}) BlobFault) (read later : Result (X × List ℕ) BlobFault) → length bytes ≤ m → length bytes ≤ n → Stays Any bytes [] read later
-      → lasting ((read >>= (λ change. changes_at one_at m total flags change.1 >>= with_first change.0)) >>= groups n total) ≡ answer → Follows total answer (behind read >>= (λ rest. Ok (flags, rest)))
-  change_follows m n total flags bytes answer (Ok x) later le le2 stays e =
-      let shorter = no_longer x.1 bytes stays.1 in (m, n, omega arith, omega arith, sym (behind_first x.0 n total (changes_at one_at m total flags x.1)) ∙ e)
+      → lasting ((read >>= (λ change. changes_at one_at m total flags change.1 >>= (λ others. Ok (change.0 ∷ others.0, others.1)))) >>= groups n total) ≡ answer → Follows total answer (behind read >>= (λ rest. Ok (flags, rest)))
+  change_follows m n total flags bytes answer (Ok x) later le le2 stays e = let shorter = no_longer x.1 bytes stays.1 in (m, n, omega arith, omega arith, grind (arith, e))
   change_follows m n total flags bytes answer (Err f) later le le2 stays e = e
 
   abbrev opened : ℕ → Header × List ℕ → Result (TableEntries X × List ℕ) BlobFault
@@ -69,34 +56,24 @@ module _ {X : Type 0} (one_at : ℕ → List Bool → ℕ → List ℕ → Resul
   abbrev then_groups : ℕ → ℕ → TableEntries X × List ℕ → Result (List (TableEntries X)) BlobFault
   then_groups n total group = groups_at (entries_at one_at) kind n total group.1 >>= (λ others. Ok (group.0 ∷ others))
 
-  behind_header : (group : TableEntries X) (n total : ℕ) (read : Result (List X × List ℕ) BlobFault) → lasting (with_changes group read >>= then_groups n total) ≡ lasting (read >>= groups n total)
-  behind_header group n total (Ok changes) = wrapped (groups n total changes) (λ others. record group { changes = group.changes ++ changes.0 } ∷ others)
-  behind_header group n total (Err f) = refl
-
   header_follows : (n total : ℕ) (bytes : List ℕ) (answer : Result (Unit {0}) BlobFault) (read later : Result (Header × List ℕ) BlobFault) → length bytes ≤ n → Stays Any bytes [] read later
       → lasting ((read >>= opened total) >>= then_groups n total) ≡ answer → Follows total answer (read >>= (λ header. Ok (header.0.flags, header.1)))
-  header_follows n total bytes answer (Ok header) later le stays e =
-      let shorter = no_longer header.1 bytes stays.1 in
-      (length header.1, n, omega arith, omega arith, sym (behind_header (record { table = header.0.table; schema = header.0.flags; changes = [] }) n total (changes_at one_at (length header.1) total header.0.flags header.1)) ∙ e)
+  header_follows n total bytes answer (Ok header) later le stays e = let shorter = no_longer header.1 bytes stays.1 in (length header.1, n, omega arith, omega arith, grind (arith, e))
   header_follows n total bytes answer (Err f) later le stays e = e
-
-  columns_stay : (P : Result (List ℕ) ℕ → Type 0) (flags : List Bool) (bytes more : List ℕ) (read later : Result (X × List ℕ) BlobFault) → Stays P bytes more read later
-      → Stays P bytes more (behind read >>= (λ rest. Ok (flags, rest))) (behind later >>= (λ rest. Ok (flags, rest)))
-  columns_stay P flags bytes more (Ok x) later stays = (rw stays.0 refl, stays.1, stays.2)
-  columns_stay P flags bytes more (Err f) later stays =
-      (λ lasts. rw (stays.0 lasts) refl, λ cut. let (n, lacks, early) = stays.1 cut in (n, lacks, λ lt. early_then (behind later) _ (early_then later _ (early lt))))
 
 module _ (A : Type 0) (kind : Kind) where
   -- a change, with more bytes behind
   pub change_stays : (P : Result (List ℕ) ℕ → Type 0) (total : ℕ) → ((bytes : List ℕ) → P (Ok bytes) → P (skip_at total bytes)) → (flags : List Bool) (op : ℕ) (bytes more : List ℕ) → P (skip_flag bytes)
       → Stays P bytes more (behind (one_as A kind total flags op bytes) >>= (λ rest. Ok (flags, rest))) (behind (one_as A kind (total + length more) flags op (bytes ++ more)) >>= (λ rest. Ok (flags, rest)))
-  change_stays P total next flags op bytes more p = columns_stay (one_as A kind) (kind_byte kind) P flags bytes more _ _ (one_stays A P total next kind flags op bytes more p)
+  change_stays P total next flags op bytes more p = let one = one_stays A P total next kind flags op bytes more p in grind (arith, one)
 
-  part_stays : (total : ℕ) (flags : List Bool) (first : ℕ) (bytes more : List ℕ) → Stays Any bytes more (part_as A kind total flags (first ∷ bytes)) (part_as A kind (total + length more) flags (first ∷ (bytes ++ more)))
-  part_stays total flags first bytes more =
-      either_stays Any bytes more (is_operation first) _ _ _ _ (change_stays Any total (λ rest any. tt) flags first bytes more tt)
-      (either_stays Any bytes more (first == kind_byte kind) _ _ _ _ (stays_then Any bytes more _ _ _ _ (header_stays total bytes more) (λ header any. (refl, ([], refl), tt)))
-      (rw (same_place total (first ∷ bytes) more) (fault_stays bytes more _ _ (λ lasts. refl))))
+  part_stays : (total : ℕ) (flags : List Bool) (first : ℕ) (bytes more : List ℕ) (read : Result (List Bool × List ℕ) BlobFault) → part_as A kind total flags (first ∷ bytes) ≡ read
+      → Stays Any bytes more read (part_as A kind (total + length more) flags (first ∷ (bytes ++ more)))
+  part_stays total flags first bytes more read is =
+      let change = change_stays Any total (λ rest any. tt) flags first bytes more tt in
+      let header = header_stays total bytes more in
+      let at = same_place total (first ∷ bytes) more in
+      rw (← is) (grind (arith, change, header, at))
 
   part_follows : (total : ℕ) (flags : List Bool) (bytes : List ℕ) (answer : Result (Unit {0}) BlobFault) → GoesOn (one_as A kind) (kind_byte kind) total flags bytes answer → Follows (one_as A kind) (kind_byte kind) total answer (part_as A kind total flags bytes)
   unfolding changes_at groups_at
@@ -104,8 +81,6 @@ module _ (A : Type 0) (kind : Kind) where
   part_follows total flags [] answer (zero, suc n, le, le2, e) = e
   part_follows total flags [] answer (suc m, zero, le, le2, e) = e
   part_follows total flags [] answer (suc m, suc n, le, le2, e) = e
-  part_follows total flags (first ∷ bytes) answer (zero, n, le, le2, e) = absurd (omega arith)
-  part_follows total flags (first ∷ bytes) answer (suc m, zero, le, le2, e) = absurd (omega arith)
   part_follows total flags (first ∷ bytes) answer (suc m, suc n, le, le2, e) = elim (cases_Bool (is_operation first)) [
     | inl operation ↦ rw operation (change_follows (one_as A kind) (kind_byte kind) m (suc n) total flags bytes answer _ _ (omega arith) (omega arith) (one_stays A Any total (λ rest any. tt) kind flags first bytes [] tt) (rw operation at e))
     | inr none ↦ elim (cases_Bool (first == kind_byte kind)) [
@@ -113,6 +88,7 @@ module _ (A : Type 0) (kind : Kind) where
       | inr other ↦ rw (none, other) (rw (none, other) at e)
     ]
   ]
+  part_follows total flags (first ∷ bytes) answer (m, n, le, le2, e) = absurd (omega arith)
 
   -- the next part leads on, or its fault is that of the bytes
   part_leads : (bytes more : List ℕ) (flags : List Bool) (at : ℕ) → Leads A kind bytes flags at
@@ -121,10 +97,7 @@ module _ (A : Type 0) (kind : Kind) where
   part_leads bytes more flags at leads = part_follows (length (bytes ++ more)) flags (drop at (bytes ++ more)) (lasting (blob_at {A = A} (bytes ++ more))) (leads more)
 
   pub part_stops : (bytes : List ℕ) (flags : List Bool) (at : ℕ) (f : BlobFault) → part_as A kind (length bytes) flags (drop at bytes) ≡ Err f → Leads A kind bytes flags at → lasting (blob_at {A = A} bytes) ≡ lasting {X = Unit {0}} (Err f)
-  part_stops bytes flags at f read leads =
-      let on : Follows (one_as A kind) (kind_byte kind) (length bytes) (lasting (blob_at {A = A} bytes)) (part_as A kind (length bytes) flags (drop at bytes)) =
-      subst (λ (all : List ℕ). Follows (one_as A kind) (kind_byte kind) (length all) (lasting (blob_at {A = A} all)) (part_as A kind (length all) flags (drop at all))) (append-nil bytes) (part_leads bytes [] flags at leads) in
-      sym (subst (Follows (one_as A kind) (kind_byte kind) (length bytes) (lasting (blob_at {A = A} bytes))) read on)
+  part_stops bytes flags at f read leads = sym (rw (append-nil, read) at (part_leads bytes [] flags at leads))
 
   pub leads_longer : (bytes piece : List ℕ) (flags : List Bool) (at : ℕ) → Leads A kind bytes flags at → Leads A kind (bytes ++ piece) flags at
   unfolding Leads
@@ -142,8 +115,7 @@ module _ (A : Type 0) (kind : Kind) where
   unfolding Leads
   part_passes bytes flags at [] columns after le parts read leads = absurd cc
   part_passes bytes flags at (first ∷ behind) columns after le parts read leads =
-      let stay : (more : List ℕ) → (part_as A kind (length bytes + length more) flags (first ∷ (behind ++ more)) ≡ Ok (columns, after ++ more)) × IsBehind after behind × Unit {0} = λ more.
-      subst (λ (r : Result (List Bool × List ℕ) BlobFault). Stays Any behind more r (part_as A kind (length bytes + length more) flags (first ∷ (behind ++ more)))) read (part_stays (length bytes) flags first behind more) in
+      let stay = λ (more : List ℕ). part_stays (length bytes) flags first behind more (Ok (columns, after)) read in
       let front : take at bytes ++ first ∷ behind ≡ bytes = subst (λ (r : List ℕ). take at bytes ++ r ≡ bytes) parts (take-append-drop at bytes) in
       let here = place_is bytes after (further after behind bytes (stay []).1 (further behind (first ∷ behind) bytes (first ∷ [], refl) (take at bytes, front))) in
       record {
@@ -154,8 +126,7 @@ module _ (A : Type 0) (kind : Kind) where
             let rest : drop at (bytes ++ more) ≡ first ∷ (behind ++ more) = drop-append-le at bytes more le ∙ ap (λ (r : List ℕ). r ++ more) parts in
             let again : part_as A kind (length (bytes ++ more)) flags (drop at (bytes ++ more)) ≡ Ok (columns, after ++ more) = rw (rest, length-append bytes more) (stay more).0 in
             let left : drop (place (length bytes) after) (bytes ++ more) ≡ after ++ more = drop-append-le (place (length bytes) after) bytes more here.0 ∙ ap (λ (r : List ℕ). r ++ more) here.1 in
-            subst (λ (r : List ℕ). GoesOn (one_as A kind) (kind_byte kind) (length (bytes ++ more)) columns r (lasting (blob_at {A = A} (bytes ++ more)))) (sym left)
-            (subst (Follows (one_as A kind) (kind_byte kind) (length (bytes ++ more)) (lasting (blob_at {A = A} (bytes ++ more)))) again (part_leads bytes more flags at leads));
+            rw left (rw again at (part_leads bytes more flags at leads));
       }
 
   pub passes : (bytes : List ℕ) (flags columns : List Bool) (at : ℕ) (after : List ℕ) → part_as A kind (length bytes) flags (drop at bytes) ≡ Ok (columns, after) → (at ≤ length bytes) × Leads A kind bytes flags at
@@ -176,11 +147,9 @@ module _ (A : Type 0) (kind : Kind) where
         lasts most bytes x.0 (place (length bytes) x.1) x.1 f (omega (arith, on.shorter)) on.within on.parts on.leads fault more
     | inr (g, read) ↦
         let stops : lasting {X = Unit {0}} (Err g) ≡ Err f = sym (part_stops bytes flags at g (ap (part_as A kind (length bytes) flags) parts ∙ read) leads) ∙ fault in
-        let is = fault_of_lasting (Err g) f stops in
-        let whole : is_cut g.kind ≡ false = rw (err_is {A = Unit {0}} g f is.0) is.1 in
         let rest : drop at (bytes ++ more) ≡ first ∷ (behind ++ more) = drop-append-le at bytes more le ∙ ap (λ (r : List ℕ). r ++ more) parts in
-        let stay = subst (λ (r : Result (List Bool × List ℕ) BlobFault). Stays Any behind more r (part_as A kind (length bytes + length more) flags (first ∷ (behind ++ more)))) read (part_stays (length bytes) flags first behind more) in
-        let again : part_as A kind (length (bytes ++ more)) flags (drop at (bytes ++ more)) ≡ Err g = rw (rest, length-append bytes more) (stay.0 whole) in
+        let stay = part_stays (length bytes) flags first behind more (Err g) read in
+        let again : part_as A kind (length (bytes ++ more)) flags (drop at (bytes ++ more)) ≡ Err g = rw (rest, length-append bytes more) (stay.0 (grind (arith, stops))) in
         part_stops (bytes ++ more) flags at g again (leads_longer bytes more flags at leads) ∙ stops
   ]
 
@@ -189,9 +158,9 @@ module _ (A : Type 0) where
   begins : (kind : Kind) (bytes : List ℕ) → Leads A kind (kind_byte kind ∷ bytes) [] 0
   unfolding Leads changes_at group_at patch_group_at blob_at
   begins kinds.Changes bytes = λ more.
-      let all = changeset_kind ∷ (bytes ++ more) in (length all, length all, omega arith, omega arith, sym (wrapped (groups_at group_at changeset_kind (length all) (length all) all) Changes))
+      let all = changeset_kind ∷ (bytes ++ more) in (length all, length all, omega arith, omega arith, grind arith)
   begins kinds.Patches bytes = λ more.
-      let all = patchset_kind ∷ (bytes ++ more) in (length all, length all, omega arith, omega arith, sym (wrapped (groups_at patch_group_at patchset_kind (length all) (length all) all) Patches))
+      let all = patchset_kind ∷ (bytes ++ more) in (length all, length all, omega arith, omega arith, grind arith)
 
   pub first_leads : (kind : Kind) (bytes : List ℕ) → 1 ≤ length bytes → get_or bytes 0 0 ≡ kind_byte kind → Leads A kind bytes [] 0
   first_leads kind [] some first = absurd (omega arith)
@@ -201,15 +170,11 @@ module _ (A : Type 0) where
   unfolding blob_at
   err_lasts [] more f fault = absurd cc
   err_lasts (byte ∷ bytes) more f fault =
-      let from : (kind : Kind) → (byte == kind_byte kind) ≡ true → lasting (blob_at {A = A} (byte ∷ (bytes ++ more))) ≡ Err f = λ kind is.
+      let from = λ (kind : Kind) (is : (byte == kind_byte kind) ≡ true).
       lasts A kind (length (byte ∷ bytes)) (byte ∷ bytes) [] 0 (byte ∷ bytes) f (omega arith) (omega arith) refl (first_leads kind (byte ∷ bytes) (omega arith) (eqb-true byte (kind_byte kind) is)) fault more in
-      elim (cases_Bool (byte == changeset_kind)) [
-        | inl e ↦ from kinds.Changes e
-        | inr no_changes ↦ elim (cases_Bool (byte == patchset_kind)) [
-          | inl e ↦ from kinds.Patches e
-          | inr no_patches ↦ rw (no_changes, no_patches) (rw (no_changes, no_patches) at fault)
-        ]
-      ]
+      let changes = from kinds.Changes in
+      let patches = from kinds.Patches in
+      grind (arith, changes, patches, fault)
 
   -- ---- what a decoder knows of its bytes
 
@@ -220,8 +185,7 @@ module _ (A : Type 0) where
       ((omega (arith, is.0.0, length-append bytes piece), leads_longer A place.kind bytes piece place.flags.items place.at is.0.1), λ more lt. rw (append_assoc bytes piece more) (is.1 (piece ++ more) (rw (append_assoc bytes piece more) at lt)))
 
   pub looked_fault : (bytes all : List ℕ) (place : Option (ScanPosition A)) (fault : Option BlobFault) (f : BlobFault) → bytes ≡ all → fault ≡ Some f → IsLookedAt bytes place fault → lasting (blob_at {A = A} all) ≡ Err f
-  looked_fault bytes all place None f same is looked = absurd cc
-  looked_fault bytes all place (Some g) f same is looked = let one : g ≡ f = cc in subst (λ (b : List ℕ). lasting (blob_at {A = A} b) ≡ Err f) same (looked ∙ ap (λ (d : BlobFault). Err d) one)
+  looked_fault bytes all place fault f same is looked = grind (arith, same, is, looked)
 
   pub looked_place : (bytes piece all : List ℕ) (place taken : Option (ScanPosition A)) (fault : Option BlobFault) → fault ≡ None → taken ≡ place → all ≡ bytes ++ piece → IsLookedAt bytes place fault → IfSome taken (IsScanned all)
   looked_place bytes piece all place taken None none same parts looked = rw (same, parts) (places_longer bytes piece place looked.1)
@@ -247,16 +211,14 @@ next_left total n bytes (zero, is) = subst (Left total n) (sym is) refl
 next_left total n bytes (suc k, (rest, is, lack)) = subst (Left total n) (sym is) (k, lack)
 
 waits : {X : Type 0} (total n : ℕ) (bytes more : List ℕ) (read later : Result (X × List ℕ) BlobFault) → Stays (Left total n) bytes more read later → length more < n → ends_early read ≡ true → ends_early later ≡ true
-waits total n bytes more (Ok x) later stays lt early = absurd cc
-waits total n bytes more (Err f) later stays lt early = let (lacks, same, ends) = stays.1 early in ends (omega arith)
+waits total n bytes more read later stays lt early = grind (arith, stays)
 
 module _ (A : Type 0) where
   pub change_lacks : (total n : ℕ) (bytes : List ℕ) → 2 ≤ length bytes → is_operation (get_or bytes 0 0) ≡ true → FieldsLack total n (drop 2 bytes) → Lacks A total bytes n
   unfolding Lacks
-  change_lacks total n [] some operation lack = absurd (omega arith)
-  change_lacks total n (first ∷ []) some operation lack = absurd (omega arith)
   change_lacks total n (first ∷ flag ∷ fields) some operation lack = λ kind flags more lt.
       rw operation (waits total n (flag ∷ fields) more _ _ (change_stays A kind (Left total n) total (next_left total n) flags first (flag ∷ fields) more lack) lt)
+  change_lacks total n bytes some operation lack = absurd (omega arith)
 
   pub one_lacks : (total : ℕ) (bytes : List ℕ) → Lacks A total bytes 1
   unfolding Lacks
@@ -266,14 +228,9 @@ module _ (A : Type 0) where
       → (at ≤ length bytes) × Leads A kind bytes flags at → Lacks A (length bytes) (drop at bytes) missing → due ≤ length bytes + missing → IsQuiet A bytes due
   unfolding Lacks IsQuiet
   is_quiet kind bytes flags at missing due f read cut is lacks le = λ more lt.
-      let early : ends_early (part_as A kind (length bytes + length more) flags (drop at bytes ++ more)) ≡ true = lacks kind flags more (omega (arith, length-append bytes more)) (rw read cut) in
-      let here : ends_early (part_as A kind (length (bytes ++ more)) flags (drop at (bytes ++ more))) ≡ true = rw (length-append bytes more, drop-append-le at bytes more is.0) early in
-      elim (either (part_as A kind (length (bytes ++ more)) flags (drop at (bytes ++ more)))) [
-        | inl (x, whole) ↦ absurd cc
-        | inr (g, ends) ↦
-            let lasts : is_cut g.kind ≡ true = rw ends at here in
-            part_stops A kind (bytes ++ more) flags at g ends (leads_longer A kind bytes more flags at is.1) ∙ rw lasts refl
-      ]
+      let early = lacks kind flags more (omega (arith, length-append bytes more)) (rw read cut) in
+      cut_is (part_as A kind (length (bytes ++ more)) flags (drop at (bytes ++ more))) _ (rw (length-append bytes more, drop-append-le at bytes more is.0) early)
+      (λ g ends. part_stops A kind (bytes ++ more) flags at g ends (leads_longer A kind bytes more flags at is.1))
 
   pub quiet_now : (bytes : List ℕ) (due : ℕ) → length bytes < due → IsQuiet A bytes due → lasting (blob_at {A = A} bytes) ≡ Ok tt
   unfolding IsQuiet

@@ -1,20 +1,18 @@
 -- What was read, and a fault other than `Truncated`, stay as they are where more bytes follow. What ends early
 -- still does, while fewer bytes follow than it lacks.
-use Rattle.std.proofs.Common.{◌≡◌, ℕ, ◌+◌, ◌-◌, ◌*◌, ◌<◌, ◌≤◌, Bool, true, false, not, cond, nat_lt, nat_le, ◌==◌, ◌&&◌, ◌||◌, List, [], ◌∷◌, ◌++◌, length, take, drop, Result, Ok, Err, if◌then◌else◌, refl, sym, ap, subst, ◌∙◌, inl, inr, arith, append_assoc, append-nil, length-append, length-take, take-append-drop, lt-ltb, le-ltb, le-leb}
-use Rattle.std.specs.List.{list_any, position_or_len}
-use Rattle.std.specs.Str.{is_utf8}
-use Rattle.std.proofs.lemmas.Bool.{cases_lt, lt-leb}
+use Rattle.std.proofs.Common.{◌≡◌, ℕ, ◌+◌, ◌-◌, ◌*◌, ◌<◌, ◌≤◌, Bool, true, false, not, cond, nat_lt, ◌==◌, List, [], ◌∷◌, ◌++◌, length, take, drop, Result, Ok, Err, refl, sym, ap, subst, ◌∙◌, arith, append_assoc, append-nil, length-append, length-take, take-append-drop, le-ltb}
+use Rattle.std.specs.List.{position_or_len}
+use Rattle.std.proofs.lemmas.Bool.Decides.{nat_tests}
 use Rattle.std.proofs.lemmas.List.{take-append-le, drop-append-le}
 use Rattle.cap_changes.specs.declared.field_requirement.FieldRequirement.{FieldRequirement}
 use Rattle.cap_changes.specs.declared.field_requirement.FieldRequirement.TheVariants as required
 use Rattle.cap_field.specs.declared.fault.BlobFault.{BlobFault}
-use Rattle.cap_field.specs.declared.fault.FaultKind.TheVariants.{BadField, BadName}
 use Rattle.cap_changes.specs.declared.record_kind.RecordKind.TheVariants as record_kinds
 use Rattle.cap_changes.specs.Requirements.{requirements, new_requirements}
 use Rattle.cap_field.specs.FieldReading.{number_at, sized_at, text_at}
-use Rattle.cap_changes.specs.FieldReading.{allows, content_at, typed_at, field_at}
+use Rattle.cap_changes.specs.FieldReading.{content_at, typed_at, field_at}
 use Rattle.cap_codec.specs.HeaderReading.{is_zero, count_at, flags_at, name_at, header_at}
-use Rattle.cap_changes.specs.ChangeReading.{is_set, change_at, patch_at}
+use Rattle.cap_changes.specs.ChangeReading.{change_at, patch_at}
 use Rattle.cap_codec.specs.Missing.{content_len_at, skip_content, skip_at}
 use Rattle.cap_codec.specs.declared.scan.Kind.{Kind}
 use Rattle.cap_codec.specs.declared.scan.Kind.TheVariants as kinds
@@ -47,10 +45,6 @@ abbrev pub Stays : {X : Type 0} → (Result (List ℕ) ℕ → Type 0) → List 
 Stays P bytes more (Ok x) later = (later ≡ Ok (x.0, x.1 ++ more)) × IsBehind x.1 bytes × P (Ok x.1)
 Stays P bytes more (Err f) later = (is_cut f.kind ≡ false → later ≡ Err f) × (is_cut f.kind ≡ true → (n : ℕ) × P (Err n) × (length more < n → ends_early later ≡ true))
 
-pub early_then : {X Y : Type 0} (read : Result X BlobFault) (f : X → Result Y BlobFault) → ends_early read ≡ true → ends_early (read >>= f) ≡ true
-early_then (Ok x) f early = absurd cc
-early_then (Err fault) f early = early
-
 module _ (P : Result (List ℕ) ℕ → Type 0) where
   -- the same, of a longer list of bytes
   pub wider : {X : Type 0} (some bytes more : List ℕ) (read later : Result (X × List ℕ) BlobFault) → IsBehind some bytes → Stays P some more read later → Stays P bytes more read later
@@ -61,38 +55,31 @@ module _ (P : Result (List ℕ) ℕ → Type 0) where
       → Stays P bytes more read later → ((x : X × List ℕ) → P (Ok x.1) → Stays P x.1 more (f x) (g (x.0, x.1 ++ more))) → Stays P bytes more (read >>= f) (later >>= g)
   stays_then {Y = Y} bytes more (Ok x) later f g stays others =
       subst (λ (all : Result (Y × List ℕ) BlobFault). Stays P bytes more (f x) all) (sym (ap (λ r. r >>= g) stays.0)) (wider x.1 bytes more (f x) (g (x.0, x.1 ++ more)) stays.1 (others x stays.2))
-  stays_then bytes more (Err e) later f g stays others =
-      (λ lasts. ap (λ r. r >>= g) (stays.0 lasts), λ cut. let (n, lacks, early) = stays.1 cut in (n, lacks, λ lt. early_then later g (early lt)))
+  stays_then bytes more (Err e) later f g stays others = grind (arith, stays)
 
   -- a test of what does not change
   pub either_stays : {X : Type 0} (bytes more : List ℕ) (test : Bool) (x y later_x later_y : Result (X × List ℕ) BlobFault) → Stays P bytes more x later_x → Stays P bytes more y later_y
       → Stays P bytes more (cond test x y) (cond test later_x later_y)
-  either_stays bytes more true x y later_x later_y of_x of_y = of_x
-  either_stays bytes more false x y later_x later_y of_x of_y = of_y
+  either_stays bytes more test x y later_x later_y of_x of_y = grind (arith, of_x, of_y)
 
   bytes_stay : (total later count : ℕ) (bytes more : List ℕ) → P (skip_content (Ok (count, bytes))) → Stays P bytes more (bytes_at total count bytes) (bytes_at later count (bytes ++ more))
-  bytes_stay total later count bytes more = elim (cases_lt (length bytes) count) [
-    | inl short ↦
-        let longer : length more < count - length bytes → nat_lt (length (bytes ++ more)) count ≡ true = λ lt. lt-ltb _ _ (omega (arith, length-append bytes more)) in
-        rw (lt-ltb (length bytes) count short) (λ p. (λ lasts. absurd cc, λ cut. (count - length bytes, p, λ lt. rw (longer lt) refl)))
-    | inr long ↦
-        let later : nat_lt (length (bytes ++ more)) count ≡ false = le-ltb _ _ (omega (arith, length-append bytes more)) in
-        rw (le-ltb (length bytes) count long, later, take-append-le count bytes more long, drop-append-le count bytes more long) (λ p. (refl, (take count bytes, take-append-drop count bytes), p))
-  ]
+  bytes_stay total later count bytes more p =
+      let behind : IsBehind (drop count bytes) bytes = (take count bytes, take-append-drop count bytes) in
+      let front = take-append-le count bytes more in
+      let rest = drop-append-le count bytes more in
+      let long = length-append bytes more in
+      grind (arith, nat_tests, behind, front, rest, long, p)
 
 -- nothing is asked
 abbrev pub Any : Result (List ℕ) ℕ → Type 0
 Any skipped = Unit {0}
 
-pub fault_stays : {X : Type 0} (bytes more : List ℕ) (f : BlobFault) (later : Result (X × List ℕ) BlobFault) → (is_cut f.kind ≡ false → later ≡ Err f) → Stays Any bytes more (Err f) later
-fault_stays bytes more f later lasts = (lasts, λ cut. (0, tt, λ lt. absurd (omega arith)))
-
 varint_from_stays : (total later at read high : ℕ) (bytes more : List ℕ) → Stays Any bytes more (varint_from total at read high bytes) (varint_from later at read high (bytes ++ more))
-varint_from_stays total later at read high [] more = fault_stays [] more _ _ (λ lasts. absurd cc)
+varint_from_stays total later at read high [] more = (λ lasts. absurd cc, λ cut. (0, tt, λ lt. absurd (omega arith)))
 varint_from_stays total later at read high (byte ∷ bytes) more =
-    either_stays Any (byte ∷ bytes) more (nat_lt byte 128) _ _ _ _ (refl, (byte ∷ [], refl), tt)
-    (either_stays Any (byte ∷ bytes) more ((read == 4) || (read == 0) && (byte == 128)) _ _ _ _ (λ lasts. refl, λ cut. absurd cc)
-    (wider Any bytes (byte ∷ bytes) more _ _ (byte ∷ [], refl) (varint_from_stays total later at (read + 1) (high * 128 + (byte - 128)) bytes more)))
+    let here : IsBehind bytes (byte ∷ bytes) = (byte ∷ [], refl) in
+    let rest = wider Any bytes (byte ∷ bytes) more _ _ here (varint_from_stays total later at (read + 1) (high * 128 + (byte - 128)) bytes more) in
+    grind (arith, here, rest)
 
 varint_stays : (total : ℕ) (bytes more : List ℕ) → Stays Any bytes more (varint_at total bytes) (varint_at (total + length more) (bytes ++ more))
 unfolding varint_at
@@ -101,27 +88,22 @@ varint_stays total bytes more = rw (same_place total bytes more) (varint_from_st
 -- ---- a field, of which `P` holds when it is skipped
 
 module _ (A : Type 0) (P : Result (List ℕ) ℕ → Type 0) where
-  sized_from : (total at : ℕ) (bytes more : List ℕ) (read later : Result (ℕ × List ℕ) BlobFault) → Stays Any bytes more read later → (length more < 1 → later ≡ read) → P (skip_content read)
-      → Stays P bytes more (read >>= (λ count. if nat_lt 1000000000 count.0 then fault BadField at else bytes_at total count.0 count.1))
-      (later >>= (λ count. if nat_lt 1000000000 count.0 then fault BadField at else bytes_at (total + length more) count.0 count.1))
-  sized_from total at bytes more (Ok count) later stays same p = rw stays.0
-      (either_stays P bytes more (nat_lt 1000000000 count.0) _ _ _ _ (λ lasts. refl, λ cut. absurd cc) (wider P count.1 bytes more _ _ stays.1 (bytes_stay P total (total + length more) count.0 count.1 more p)))
-  sized_from total at bytes more (Err f) later stays same p = (λ lasts. rw (stays.0 lasts) refl, λ cut. (1, p, λ lt. rw (same lt) cut))
-
   sized_stays : (total at : ℕ) (bytes more : List ℕ) → P (skip_content (varint_at total bytes)) → Stays P bytes more (sized_at total at bytes) (sized_at (total + length more) at (bytes ++ more))
   unfolding sized_at
-  sized_stays total at bytes more p = sized_from total at bytes more _ _ (varint_stays total bytes more) (again varint_at total bytes more) p
+  sized_stays total at bytes more p =
+      let read = varint_stays total bytes more in
+      let same = again varint_at total bytes more in
+      let rest = λ (count : ℕ) (left : List ℕ) (behind : IsBehind left bytes) (q : P (skip_content (Ok (count, left)))). wider P left bytes more _ _ behind (bytes_stay P total (total + length more) count left more q) in
+      grind (arith, read, same, rest, p)
 
   text_stays : (total at : ℕ) (bytes more : List ℕ) → P (skip_content (varint_at total bytes)) → Stays P bytes more (text_at total at bytes) (text_at (total + length more) at (bytes ++ more))
   unfolding text_at
-  text_stays total at bytes more p = stays_then P bytes more _ _ _ _ (sized_stays total at bytes more p)
-      (λ text q. either_stays P text.1 more (is_utf8 text.0) _ _ _ _ (refl, ([], refl), q) (λ lasts. refl, λ cut. absurd cc))
+  text_stays total at bytes more p = let sized = sized_stays total at bytes more p in grind (arith, sized)
 
   -- a test that what is skipped makes too
   either_skip : {X : Type 0} (bytes more : List ℕ) (test : Bool) (s t : Result (ℕ × List ℕ) BlobFault) (x y later_x later_y : Result (X × List ℕ) BlobFault) → (P (skip_content s) → Stays P bytes more x later_x)
       → (P (skip_content t) → Stays P bytes more y later_y) → P (skip_content (cond test s t)) → Stays P bytes more (cond test x y) (cond test later_x later_y)
-  either_skip bytes more true s t x y later_x later_y of_x of_y p = of_x p
-  either_skip bytes more false s t x y later_x later_y of_x of_y p = of_y p
+  either_skip bytes more test s t x y later_x later_y of_x of_y p = grind (arith, of_x, of_y)
 
   content_stays : (total at kind : ℕ) (bytes more : List ℕ) → P (skip_content (content_len_at total kind bytes)) → Stays P bytes more (content_at {A = A} total at kind bytes) (content_at (total + length more) at kind (bytes ++ more))
   unfolding content_at
@@ -136,18 +118,7 @@ module _ (A : Type 0) (P : Result (List ℕ) ℕ → Type 0) where
 
   typed_stays : (total at : ℕ) (requirement : FieldRequirement) (kind : ℕ) (bytes more : List ℕ) → P (skip_content (content_len_at total kind bytes))
       → Stays P bytes more (typed_at {A = A} total at requirement kind bytes) (typed_at (total + length more) at requirement kind (bytes ++ more))
-  typed_stays total at requirement kind bytes more p =
-      either_stays P bytes more (kind == 2) _ _ _ _ (λ lasts. refl, λ cut. absurd cc)
-      (either_stays P bytes more (nat_lt 5 kind) _ _ _ _ (λ lasts. refl, λ cut. absurd cc)
-      (either_stays P bytes more (not (allows requirement kind)) _ _ _ _ (λ lasts. refl, λ cut. absurd cc) (content_stays total at kind bytes more p)))
-
-  present_stays : (total : ℕ) (requirement : FieldRequirement) (bytes more : List ℕ) → P (skip_at total bytes)
-      → Stays P bytes more (byte_at total bytes >>= (λ kind. typed_at {A = A} total (place total bytes) requirement kind.0 kind.1))
-      (byte_at (total + length more) (bytes ++ more) >>= (λ kind. typed_at {A = A} (total + length more) (place (total + length more) (bytes ++ more)) requirement kind.0 kind.1))
-  present_stays total requirement [] [] p = (λ lasts. absurd cc, λ cut. (1, p, λ lt. refl))
-  present_stays total requirement [] (byte ∷ more) p = (λ lasts. absurd cc, λ cut. (1, p, λ lt. absurd (omega arith)))
-  present_stays total requirement (kind ∷ bytes) more p = rw (same_place total (kind ∷ bytes) more)
-      (wider P bytes (kind ∷ bytes) more _ _ (kind ∷ [], refl) (typed_stays total (place total (kind ∷ bytes)) requirement kind bytes more p))
+  typed_stays total at requirement kind bytes more p = let content = content_stays total at kind bytes more p in grind (arith, content)
 
 -- the bytes behind the flag byte of a change, or that it lacks
 abbrev pub skip_flag : List ℕ → Result (List ℕ) ℕ
@@ -160,7 +131,9 @@ module _ (A : Type 0) (P : Result (List ℕ) ℕ → Type 0) (total : ℕ) (next
   field_stays : (requirement : FieldRequirement) (bytes more : List ℕ) → P (Ok bytes) → Stays P bytes more (field_at {A = A} total requirement bytes) (field_at (total + length more) requirement (bytes ++ more))
   unfolding field_at
   field_stays required.Omitted bytes more p = (refl, ([], refl), p)
-  field_stays requirement bytes more p = present_stays A P total requirement bytes more (next bytes p)
+  field_stays requirement [] more p = (λ lasts. absurd cc, λ cut. (1, next [] p, λ lt. grind arith))
+  field_stays requirement (kind ∷ bytes) more p = rw (same_place total (kind ∷ bytes) more)
+      (wider P bytes (kind ∷ bytes) more _ _ (kind ∷ [], refl) (typed_stays A P total (place total (kind ∷ bytes)) requirement kind bytes more (next (kind ∷ bytes) p)))
 
   record_stays : (requirements : List FieldRequirement) (bytes more : List ℕ) → P (Ok bytes) → Stays P bytes more (record_at {A = A} total requirements bytes) (record_at (total + length more) requirements (bytes ++ more))
   unfolding record_at
@@ -170,8 +143,7 @@ module _ (A : Type 0) (P : Result (List ℕ) ℕ → Type 0) (total : ℕ) (next
       (λ field q. stays_then P field.1 more _ _ _ _ (record_stays requirements field.1 more q) (λ others last. (refl, ([], refl), last)))
 
   flag_stays : (bytes more : List ℕ) → P (skip_flag bytes) → Stays P bytes more (byte_at total bytes) (byte_at (total + length more) (bytes ++ more))
-  flag_stays [] [] p = (λ lasts. absurd cc, λ cut. (1, p, λ lt. refl))
-  flag_stays [] (byte ∷ more) p = (λ lasts. absurd cc, λ cut. (1, p, λ lt. absurd (omega arith)))
+  flag_stays [] more p = (λ lasts. absurd cc, λ cut. (1, p, λ lt. grind arith))
   flag_stays (flag ∷ bytes) more p = (refl, (flag ∷ [], refl), p)
 
   pub one_stays : (kind : Kind) (flags : List Bool) (op : ℕ) (bytes more : List ℕ) → P (skip_flag bytes) → Stays P bytes more (one_as A kind total flags op bytes) (one_as A kind (total + length more) flags op (bytes ++ more))
@@ -183,47 +155,37 @@ module _ (A : Type 0) (P : Result (List ℕ) ℕ → Type 0) (total : ℕ) (next
       (stays_then P flag.1 more _ _ _ _ (record_stays (requirements record_kinds.Keyed flags) flag.1 more q)
       (λ old r. stays_then P old.1 more _ _ _ _ (record_stays (new_requirements flags old.0) old.1 more r) (λ new s. (refl, ([], refl), s))))
       (stays_then P flag.1 more _ _ _ _ (record_stays (requirements record_kinds.Full flags) flag.1 more q) (λ old r. (refl, ([], refl), r)))))
-  one_stays kinds.Patches flags op bytes more p = stays_then P bytes more _ _ _ _ (flag_stays bytes more p)
-      (λ flag q. either_stays P flag.1 more (op == 0x12) _ _ _ _
-      (stays_then P flag.1 more _ _ _ _ (record_stays (requirements record_kinds.Full flags) flag.1 more q) (λ new r. (refl, ([], refl), r)))
-      (either_stays P flag.1 more (op == 0x17) _ _ _ _
-      (stays_then P flag.1 more _ _ _ _ (record_stays (requirements record_kinds.Keyed flags) flag.1 more q) (λ new r. (refl, ([], refl), r)))
-      (stays_then P flag.1 more _ _ _ _ (record_stays (requirements record_kinds.KeyAlone flags) flag.1 more q) (λ key r. (refl, ([], refl), r)))))
+  one_stays kinds.Patches flags op bytes more p = stays_then P bytes more _ _ _ _ (flag_stays bytes more p) (λ flag q.
+      let full = record_stays (requirements record_kinds.Full flags) flag.1 more q in
+      let keyed = record_stays (requirements record_kinds.Keyed flags) flag.1 more q in
+      let alone = record_stays (requirements record_kinds.KeyAlone flags) flag.1 more q in
+      grind (arith, full, keyed, alone))
 
 -- ---- headers
 
 count_stays : (total : ℕ) (bytes more : List ℕ) → Stays Any bytes more (count_at total bytes) (count_at (total + length more) (bytes ++ more))
 unfolding count_at
-count_stays total bytes more = rw (same_place total bytes more) (stays_then Any bytes more _ _ _ _ (varint_stays total bytes more)
-    (λ count any. either_stays Any count.1 more ((count.0 == 0) || nat_lt 2000 count.0) _ _ _ _ (λ lasts. refl, λ cut. absurd cc) (refl, ([], refl), tt)))
+count_stays total bytes more = let read = varint_stays total bytes more in let at = same_place total bytes more in grind (arith, read, at)
 
 flags_stay : (total count : ℕ) (bytes more : List ℕ) → Stays Any bytes more (flags_at total count bytes) (flags_at (total + length more) count (bytes ++ more))
 unfolding flags_at
-flags_stay total count bytes more = rw (same_place total bytes more) (stays_then Any bytes more _ _ _ _ (bytes_stay Any total (total + length more) count bytes more tt)
-    (λ flags any. either_stays Any flags.1 more (list_any is_set flags.0) _ _ _ _ (refl, ([], refl), tt) (λ lasts. refl, λ cut. absurd cc)))
-
--- with a zero byte behind it
-named_stays : (total : ℕ) (name rest more : List ℕ) → length name < 256 → list_any is_zero name ≡ false
-    → Stays Any (name ++ 0 ∷ rest) more (name_at total (name ++ 0 ∷ rest)) (name_at (total + length more) ((name ++ 0 ∷ rest) ++ more))
-named_stays total name rest more short none =
-    rw (append_assoc name (0 ∷ rest) more, name_is total name rest short none, name_is (total + length more) name (rest ++ more) short none)
-    (either_stays Any (name ++ 0 ∷ rest) more (nat_lt 0 (length name) && is_utf8 name) _ _ _ _ (refl, (name ++ 0 ∷ [], append_assoc name (0 ∷ []) rest), tt)
-    (λ lasts. ap (λ (b : List ℕ). fault BadName (place (total + length more) b)) (sym (append_assoc name (0 ∷ rest) more)) ∙ ap (λ (at : ℕ). fault BadName at) (same_place total (name ++ 0 ∷ rest) more), λ cut. absurd cc))
+flags_stay total count bytes more = let read = bytes_stay Any total (total + length more) count bytes more tt in let at = same_place total bytes more in grind (arith, read, at)
 
 name_stays : (total : ℕ) (bytes more : List ℕ) → Stays Any bytes more (name_at total bytes) (name_at (total + length more) (bytes ++ more))
 unfolding name_at
-name_stays total bytes more = elim (cases_lt (position_or_len is_zero (take 256 bytes)) (length (take 256 bytes))) [
-  | inl found ↦
-      let len = position_or_len is_zero (take 256 bytes) in
-      subst (λ (b : List ℕ). Stays Any b more (name_at total b) (name_at (total + length more) (b ++ more))) (sym (zero_at 256 bytes found))
-      (named_stays total (take len bytes) (drop (len + 1) bytes) more (omega (arith, length-take len bytes, length-take 256 bytes)) (no_zero_before bytes len (rw (lt-ltb _ _ found) refl)))
-  | inr none ↦ elim (cases_lt (length bytes) 256) [
-    | inl short ↦ rw (le-ltb _ _ none, le-leb (length bytes) 255 (omega arith)) (fault_stays bytes more _ _ (λ lasts. absurd cc))
-    | inr long ↦
-        let past : nat_le (length (bytes ++ more)) 255 ≡ false = lt-leb _ _ (omega (arith, length-append bytes more)) in
-        rw (take-append-le 256 bytes more long, le-ltb _ _ none, lt-leb (length bytes) 255 (omega arith), past) (fault_stays bytes more _ _ (λ lasts. ap (λ (at : ℕ). fault BadName at) (same_place total bytes more)))
-  ]
-]
+name_stays total bytes more =
+    let len = position_or_len is_zero (take 256 bytes) in
+    let behind : IsBehind (drop (len + 1) bytes) bytes = (take (len + 1) bytes, take-append-drop (len + 1) bytes) in
+    let parts = zero_at 256 bytes in
+    let none = no_zero_before bytes len in
+    let now = name_is total (take len bytes) (drop (len + 1) bytes) in
+    let later = name_is (total + length more) (take len bytes) (drop (len + 1) bytes ++ more) in
+    let at = same_place total bytes more in
+    let same = take-append-le 256 bytes more in
+    let longer = length-append bytes more in
+    let among = length-take 256 bytes in
+    let long = length-take len bytes in
+    grind (arith, nat_tests, append_assoc, behind, parts, none, now, later, at, same, longer, among, long)
 
 pub header_stays : (total : ℕ) (bytes more : List ℕ) → Stays Any bytes more (header_at total bytes) (header_at (total + length more) (bytes ++ more))
 unfolding header_at

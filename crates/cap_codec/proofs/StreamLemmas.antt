@@ -1,5 +1,5 @@
 -- What was read of a reader's bytes.
-use Rattle.std.proofs.Common.{◌≡◌, ℕ, zero, suc, ◌+◌, ◌<◌, ◌≤◌, inl, inr, refl, arith, List, [], ◌++◌, length, take, Option, Some, None, IfSome, Result, Ok, Err, ap, subst, ◌∙◌, add-one, append-nil, length-take}
+use Rattle.std.proofs.Common.{◌≡◌, ℕ, zero, suc, ◌+◌, ◌<◌, ◌≤◌, inl, inr, refl, arith, List, [], ◌++◌, length, take, Option, IfSome, Result, Ok, Err, ap, subst, ◌∙◌, add-one, append-nil, length-take}
 use Rattle.std.specs.Io.KnownBytes.{Consumes, IsAtEnd, Keeps}
 use Rattle.std.proofs.KnownBytes.{Consumes-nil, Consumes-trans, Consumes-kept, Consumes-whole}
 use Rattle.cap_value.specs.Memory.{AnswersUnlessMemory}
@@ -13,20 +13,14 @@ use Rattle.cap_codec.specs.declared.stream.ReadFault.{ReadFault}
 use Rattle.cap_codec.specs.declared.stream.ReadFault.TheVariants as read
 use Rattle.cap_stream.specs.StreamCalls.{GaveAtMost, ReadsGave}
 use Rattle.cap_codec.specs.Stream.{IsBlobOf, ReadsOn, EndsReads, read_fault}
-use Rattle.cap_codec.proofs.Looking.{err_lasts, fault_of_lasting}
+use Rattle.cap_codec.proofs.Looking.{err_lasts}
 
 -- ---- the bytes of a reader
 
 module _ (A : Type 0) where
   -- where they show a fault
   fault_of : (a c : Option (List ℕ)) (fed : List ℕ) (f : BlobFault) → Consumes a c fed → lasting (blob_at {A = A} fed) ≡ Err f → IfSome a (λ given. blob_at {A = A} given ≡ Err f)
-  fault_of None c fed f p lasts = tt
-  fault_of (Some xs) None fed f p lasts = absurd p
-  fault_of (Some xs) (Some ys) fed f p lasts = ap blob_at p ∙ (fault_of_lasting (blob_at {A = A} (fed ++ ys)) f (err_lasts A fed ys f lasts)).0
-
-not_asked : (a : Option (List ℕ)) → IfSome a (λ given. Unit {0})
-not_asked None = tt
-not_asked (Some xs) = tt
+  fault_of a c fed f p lasts = let later = λ (more : List ℕ). err_lasts A fed more f lasts in grind (arith, later, p)
 
 -- ---- what the reads gave
 
@@ -57,12 +51,7 @@ module _ (A : Type 0) {R : Type 0} (remaining : R → Option (List ℕ)) (gave f
         | inl lasts ↦ fault_of A (remaining old) (remaining new) (front ++ piece) f all lasts
         | inr (none, end, read) ↦ Consumes-whole (remaining old) (remaining new) (front ++ piece) (λ given. blob_at given ≡ Err f) all end (rw (none, append-nil front) read)
       ]
-  blob_is (Err read.Read) old new ends = not_asked (remaining old)
-  blob_is (Err read.Memory) old new ends = not_asked (remaining old)
-
-  pub no_reads : (old : R) → On 0 old old []
-  unfolding blob_at
-  no_reads old = ((refl, refl), refl)
+  blob_is (Err fault) old new ends = grind arith
 
   pub reads_on : (n : ℕ) (old before new : R) (front piece : List ℕ) → On n old before front → Gave before new piece → lasting (blob_at {A = A} (front ++ piece)) ≡ Ok tt
       → On (n + 1) old new (front ++ piece)
@@ -94,6 +83,3 @@ module _ (A : Type 0) {R : Type 0} (remaining : R → Option (List ℕ)) (gave f
       → AnswersUnlessMemory {X = Unit {0}} (Err fault) (lasting (blob_at {A = A} (front ++ piece))) → EndsReads A remaining gave failed (Err (read_fault fault)) old new
   ends_fed (Refused f) n old before new front piece lt on last read = (n, lt, before, front, piece, on, last, inl read)
   ends_fed OutOfMemory n old before new front piece lt on last read = (n, lt, before, front, piece, on, last, tt)
-
-  pub ends_limit : (n : ℕ) (old new : R) (front : List ℕ) → n ≡ 1099511627776 → On n old new front → EndsReads A remaining gave failed (Err read.Read) old new
-  ends_limit n old new front is on = inr (n, is, front, on)

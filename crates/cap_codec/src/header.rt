@@ -73,7 +73,7 @@ fn name_len(bytes: &[u8]) -> Option<usize>
         .position(|byte| *byte == 0)
 }
 
-#[tactic(auto, unfolding(crate::specs::HeaderReading::name_at))]
+#[tactic(auto, using(crate::proofs::HeaderLemmas::name_before), unfolding(crate::specs::HeaderReading::name_at))]
 fn take_name(total: usize, bytes: &[u8]) -> Result<(&str, &[u8]), BlobFault>
     ensures reads { Reads (λ x. (x.0.now, x.1.now)) result (name_at total bytes.now) }
     ensures behind { IfOk result (λ x. length x.1.now ≤ length bytes.now) }

@@ -101,6 +101,7 @@ pub fn push_group_header<A: AllocHandle>(
 }
 
 // Appends a group. A group without changes has no bytes.
+#[tactic(auto, using(std::proofs::lemmas::Bool::Decides::nat_tests))]
 fn push_group<C: Entry, A: AllocHandle>(
     out: &mut Vec<u8, A>,
     key_flags: KeyFlags,

@@ -1,11 +1,10 @@
-use Rattle.std.proofs.Common.{◌≡◌, ◌++◌, min, map}
-use Rattle.std.specs.List.{range_with_len}
+use Rattle.std.proofs.Common.{◌≡◌, ◌++◌, min, map, take}
+use Rattle.std.specs.List.{count_by, range_with_len}
 use Rattle.cap_codec.specs.Changeset.{key_place}
-use Rattle.cap_codec.proofs.KeyFlagLemmas.{keys_before}
 use Rattle.cap_codec.proofs.write.push_places.Given as goal
 
 abbrev pub invariant-loop-flag : goal.invariant-loop-flag
 invariant-loop-flag g l = record {
   written : l.out.items ≡ l.fn.out.items ++ map (key_place l.flags) (range_with_len 0 l.flag-index);
-  place : l.place ≡ min (keys_before l.flags l.flag-index) 255;
+  place : l.place ≡ min (count_by (λ key. key) (take l.flag-index l.flags)) 255;
 }
