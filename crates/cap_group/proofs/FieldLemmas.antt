@@ -1,6 +1,7 @@
 -- Two records of one row, field by field, by the bytes of their fields.
 use Rattle.std.proofs.Common.{◌≡◌, ℕ, ◌+◌, ◌<◌, List, [], ◌∷◌, ◌++◌, Bool, true, false, not, ◌&&◌, ◌||◌, cond, length, drop, get_or, Option, Some, None, IfSome, ◌⊎◌, inl, inr, refl, sym, ap, ◌∙◌, append_assoc, append-nil}
-use Rattle.std.proofs.Math.Bool.{or_assoc}
+use Rattle.std.proofs.Math.Bool.{or_assoc, or-false}
+use Rattle.std.proofs.lemmas.List.{drop_more}
 use Rattle.std.specs.List.{cons_option}
 use Rattle.cap_value.specs.Bytes.{bytes_eq}
 use Rattle.cap_value.specs.declared.value.Value.{Value}
@@ -11,16 +12,11 @@ use Rattle.cap_changes.specs.Column.{by_column}
 use Rattle.cap_changes.specs.Field.{record_bytes, field_bytes}
 use Rattle.cap_changes.specs.FieldRecord.{RecordFields}
 use Rattle.cap_changes.specs.Record.{BeginsWithField}
-use Rattle.cap_changes.proofs.PassLemmas.{flags-cons}
 use Rattle.cap_changes.proofs.PutLemmas.{goes_on}
 use Rattle.cap_changes.proofs.TouchedLemmas.{choose, eq_by_bytes}
 use Rattle.cap_group.specs.ChangeKey.{key_values}
 use Rattle.cap_group.specs.Put.{IsPut}
 use Rattle.cap_group.specs.Record as together
-
-or_none : (a b : Bool) → b ≡ false → a ≡ (a || b)
-or_none true b none = refl
-or_none false b none = sym none
 
 module _ {A : Type 0} where
   -- a column outside the key has no value of it
@@ -52,37 +48,26 @@ module _ {A : Type 0} where
   over_self (None ∷ fields) = ap (λ (l : RecordFields A). None ∷ l) (over_self fields)
   over_self (Some v ∷ fields) = ap (λ (l : RecordFields A). Some v ∷ l) (over_self fields)
 
-  modified_is : (key : Bool) (b a : Option (Value A)) → IfSome b IsValue → IfSome a IsValue → (not key && not (bytes_eq (field_bytes b) (field_bytes a))) ≡ together.is_modified key b a
-  modified_is key b a p q = ap (λ (t : Bool). not key && not t) (field_eq_bytes b a p q)
-
   -- the field of a column, in the old record or in the new one
   piece_is : (old key : Bool) (b a : Option (Value A)) → field_bytes (together.field_of old key b a)
-      ≡ cond old (cond (key || together.is_modified key b a) (field_bytes b) (0 ∷ [])) (cond (together.is_modified key b a) (field_bytes a) (0 ∷ []))
+      ≡ cond ((old && key) || together.is_modified key b a) (cond old (field_bytes b) (field_bytes a)) (0 ∷ [])
   piece_is true key b a = sym (choose (key || together.is_modified key b a) b)
   piece_is false key b a = sym (choose (together.is_modified key b a) a)
 
   module _ (old : Bool) (flags : List Bool) (i : ℕ) (before befores after afters : RecordFields A) (was is : List ℕ) (modified : Bool) (within : i < length flags)
       (begins : BeginsWithField before was befores) (begins' : BeginsWithField after is afters) (test : modified ≡ (not (get_or flags i false) && not (bytes_eq was is))) where
     modified_here : modified ≡ together.is_modified (get_or flags i false) begins.0 begins'.0
-    modified_here =
-        test ∙ (λ k. not (get_or flags i false) && not (bytes_eq (begins.2 k) (begins'.2 k)))
-        ∙ modified_is (get_or flags i false) begins.0 begins'.0 begins.3 begins'.3
+    modified_here = rw (begins.2, begins'.2, field_eq_bytes begins.0 begins'.0 begins.3 begins'.3) at test
 
-    -- the field of a column is put
-    pub field_put : (out out' all : List ℕ) → out' ≡ out ++ cond old (cond (get_or flags i false || modified) was (0 ∷ [])) (cond modified is (0 ∷ [])) →
-        out ++ record_bytes (by_column (together.field_of old) (drop i flags) before after) ≡ all → out' ++ record_bytes (by_column (together.field_of old) (drop (i + 1) flags) befores afters) ≡ all
-    field_put out out' all put so_far =
-        goes_on (together.field_of old) flags i before after befores afters begins.0 begins'.0 out out' all within so_far begins.1 begins'.1
-        (put ∙ (λ k. out ++ cond old (cond (get_or flags i false || modified_here k) (begins.2 k) (0 ∷ [])) (cond (modified_here k) (begins'.2 k) (0 ∷ [])))
-        ∙ ap (λ (l : List ℕ). out ++ l) (sym (piece_is old (get_or flags i false) begins.0 begins'.0)))
-
-    -- whether a column has differed so far
-    pub differ_more : (some some' all : Bool) → some' ≡ (some || modified) → (some || together.differ (drop i flags) before after) ≡ all → (some' || together.differ (drop (i + 1) flags) befores afters) ≡ all
-    differ_more some some' all more so_far =
-        let others = together.differ (drop (i + 1) flags) befores afters in
-        let here : together.differ (drop i flags) before after ≡ (modified || others) =
-        (λ k. together.differ (flags-cons flags i within k) (begins.1 k) (begins'.1 k)) ∙ ap (λ (t : Bool). t || others) (sym modified_here) in
-        ap (λ (t : Bool). t || others) more ∙ or_assoc some modified others ∙ ap (λ (t : Bool). some || t) (sym here) ∙ so_far
+    -- the field of a column is put, and it is seen whether it differs
+    pub column_put : (out out' all : List ℕ) (some whole : Bool) → out' ≡ out ++ cond ((old && get_or flags i false) || modified) (cond old was is) (0 ∷ []) →
+        out ++ record_bytes (by_column (together.field_of old) (drop i flags) before after) ≡ all → (some || together.differ (drop i flags) before after) ≡ whole →
+        (out' ++ record_bytes (by_column (together.field_of old) (drop (i + 1) flags) befores afters) ≡ all) × (((some || modified) || together.differ (drop (i + 1) flags) befores afters) ≡ whole)
+    column_put out out' all some whole put so_far differ_so_far = (
+      goes_on (together.field_of old) flags i before after befores afters begins.0 begins'.0 out out' all within so_far begins.1 begins'.1
+          (rw (modified_here, begins.2, begins'.2, ← piece_is old (get_or flags i false) begins.0 begins'.0) at put),
+      rw (or_assoc some modified _, modified_here) (rw (drop_more flags i false within, begins.1, begins'.1) at differ_so_far),
+    )
 
   none_before : (flags : List Bool) (after : RecordFields A) → together.differ flags [] after ≡ false
   none_before [] after = refl
@@ -95,8 +80,8 @@ module _ {A : Type 0} where
 
   -- one of the records ends
   pub differ_ends : (flags : List Bool) (before after : RecordFields A) (some all : Bool) → (before ≡ []) ⊎ (after ≡ []) → (some || together.differ flags before after) ≡ all → some ≡ all
-  differ_ends flags before after some all (inl none) so_far = or_none some _ (ap (λ (b : RecordFields A). together.differ flags b after) none ∙ none_before flags after) ∙ so_far
-  differ_ends flags before after some all (inr none) so_far = or_none some _ (ap (λ (a : RecordFields A). together.differ flags before a) none ∙ none_after flags before) ∙ so_far
+  differ_ends flags before after some all (inl none) so_far = rw (none, none_before flags after, or-false) at so_far
+  differ_ends flags before after some all (inr none) so_far = rw (none, none_after flags before, or-false) at so_far
 
   -- the update is put, where a column differs
   pub update_put : (flags : List Bool) (indirect : Bool) (before after : RecordFields A) (out mid next new : List ℕ) → together.differ flags before after ≡ true → mid ≡ out ++ 0x17 ∷ flag_byte indirect ∷ [] →

@@ -1,5 +1,5 @@
 -- The tables of a changegroup, found by their names, and the groups that are added to them.
-use Rattle.std.proofs.Common.{◌≡◌, ℕ, zero, suc, ◌+◌, ◌<◌, List, [], ◌∷◌, ◌++◌, length, take, drop, get_or, set, cond, Bool, true, false, Option, Some, None, Ok, Err, Result, refl, ap, sym, ◌∙◌, arith}
+use Rattle.std.proofs.Common.{◌≡◌, ℕ, zero, suc, ◌+◌, ◌<◌, List, [], ◌∷◌, ◌++◌, length, take, get_or, set, cond, Bool, true, false, Option, Some, None, Ok, Err, Result, refl, ap, sym, ◌∙◌, arith}
 use Rattle.std.specs.Prelude.{map, not, position, ◌==◌}
 use Rattle.std.proofs.lemmas.Bool.Decides.{nat_tests}
 use Rattle.std.specs.Cmp.{booleans_Decides}
@@ -17,11 +17,9 @@ use Rattle.cap_value.specs.Memory.{LeavesUnlessMemory}
 use Rattle.cap_row.specs.Fields.{Fields}
 use Rattle.cap_row.specs.Schema.{flags_eq}
 use Rattle.cap_changes.specs.Entries.{TableEntries}
-use Rattle.cap_changes.proofs.LeftLemmas.{drop_here}
 use Rattle.cap_codec.specs.Writable.{has_some}
 use Rattle.cap_group.specs.KeyedChanges.{KeyedChanges, entries_of, keyed_of, no_changes, table_at, with_change, with_changes, with_table}
-use Rattle.cap_group.specs.ChangeGroup.{and_then, groups_of, with_group, with_groups}
-use Rattle.cap_group.specs.declared.refusal.GroupRefusal.{GroupRefusal}
+use Rattle.cap_group.specs.ChangeGroup.{and_then, groups_of, with_group}
 use Rattle.cap_group.specs.declared.refusal.GroupRefusal.TheVariants.{OtherColumns}
 
 pub flags_same : (a b : List Bool) → flags_eq a b ≡ true → a ≡ b
@@ -35,13 +33,15 @@ only_none true x e = cc
 only_none false x e = refl
 
 module _ {A X : Type 0} (key : List Bool → X → Fields A) (combine : List Bool → X → X → Option X) where
-  pub kept_table : (keyed : KeyedChanges A X) (changes : List X) → (with_changes key combine keyed changes).table ≡ keyed.table
-  kept_table keyed [] = refl
-  kept_table keyed (change ∷ changes) = kept_table (with_change key combine keyed change) changes
+  pub kept_names : (keyed : KeyedChanges A X) (changes : List X) → with_changes key combine keyed changes ≡ record keyed { changes = (with_changes key combine keyed changes).changes }
+  kept_names keyed [] = refl
+  kept_names keyed (change ∷ changes) = kept_names (with_change key combine keyed change) changes
 
-  pub kept_schema : (keyed : KeyedChanges A X) (changes : List X) → (with_changes key combine keyed changes).schema ≡ keyed.schema
-  kept_schema keyed [] = refl
-  kept_schema keyed (change ∷ changes) = kept_schema (with_change key combine keyed change) changes
+  pub kept_table : (keyed : KeyedChanges A X) (changes : List X) → (with_changes key combine keyed changes).table ≡ keyed.table
+  kept_table keyed changes = ap (λ (t : KeyedChanges A X). t.table) (kept_names keyed changes)
+
+  kept_schema : (keyed : KeyedChanges A X) (changes : List X) → (with_changes key combine keyed changes).schema ≡ keyed.schema
+  kept_schema keyed changes = ap (λ (t : KeyedChanges A X). t.schema) (kept_names keyed changes)
 
   abbrev keyed : TableEntries X → KeyedChanges A X
   keyed group = keyed_of key combine group
@@ -106,19 +106,6 @@ module _ {A X : Type 0} (key : List Bool → X → Fields A) (combine : List Boo
       let all = ltb-false _ _ (only_none _ _ at) in
       let none = nowhere group.table tables group (λ k within. fails_before_first (named group.table) tables k group (omega (arith, all))) in
       rw map-append (group_new place (map keyed tables) group (keyed group) none.0 refl none.1)
-
-  -- ---- groups that are added, one more at a time
-
-  module _ (i : ℕ) (tables : List (KeyedChanges A X)) (groups : List (TableEntries X)) (group : TableEntries X) (within : i < length groups) (is : group ≡ get_or groups i group) where
-    at_group : with_groups key combine i tables (drop i groups) ≡ with_groups key combine i tables (group ∷ drop (i + 1) groups)
-    at_group = ap (with_groups key combine i tables) (drop_here groups i group within is)
-
-    pub group_some : (made : Result (List (KeyedChanges A X)) GroupRefusal) → has_some group.changes ≡ true → with_group key combine i tables group ≡ made →
-        with_groups key combine i tables (drop i groups) ≡ and_then made (λ more. with_groups key combine (i + 1) more (drop (i + 1) groups))
-    group_some made some is_made = at_group ∙ rw (some, is_made) refl
-
-    pub group_empty : has_some group.changes ≡ false → with_groups key combine i tables (drop i groups) ≡ with_groups key combine (i + 1) tables (drop (i + 1) groups)
-    group_empty none = at_group ∙ rw none refl
 
 -- the tables that have changes, with one more
 pub groups_more : {A X : Type 0} (f : TableEntries X → KeyedChanges A X) (tables : List (TableEntries X)) (i : ℕ) (t made : TableEntries X) → i < length tables → t ≡ get_or tables i t → made ≡ entries_of (f t) →

@@ -2,7 +2,6 @@ pub mod FitLemmas
 pub mod GroupLemmas
 pub mod RowLemmas
 pub mod RisingLemmas
-pub mod BytesLemmas
 pub mod SameLemmas
 pub mod SortLemmas
 pub mod RunLemmas

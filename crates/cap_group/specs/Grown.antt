@@ -1,11 +1,11 @@
 -- Groups to which changes were added, and how they go back.
-use Rattle.std.specs.Prelude.{◌≡◌, ℕ, zero, suc, List, [], ◌∷◌, ◌++◌, Option, Some, None, take}
+use Rattle.std.specs.Prelude.{◌≡◌, ℕ, zero, suc, List, [], ◌∷◌, Option, Some, None, length, take}
 use Rattle.cap_changes.specs.Entries.{TableEntries}
 
 module _ {X : Type 0} where
   -- changes were appended to a group
   abbrev pub IsGrown : TableEntries X → TableEntries X → Type 0
-  IsGrown old new = (more : List X) × (new ≡ record old { changes = old.changes ++ more })
+  IsGrown old new = record new { changes = take (length old.changes) new.changes } ≡ old
 
   -- so many changes of the group at an index
   abbrev pub cut_at : ℕ → ℕ → List (TableEntries X) → List (TableEntries X)

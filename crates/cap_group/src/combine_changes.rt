@@ -63,7 +63,7 @@ fn push_together<A: AllocHandle>(
                 ..
             },
         ) => {
-            push_operation(out, Operation::Insert, indirect && too)?;
+            push_operation(out, Operation::Insert, indirect & too)?;
             push_over(out, RecordOver::new(new, last))?;
             Ok(true)
         }
@@ -78,7 +78,7 @@ fn push_together<A: AllocHandle>(
         ) => {
             let first = RecordOver::new(then, old);
             let last = RecordOver::new(new, last);
-            push_update_between(out, flags, indirect && too, &first, &last)
+            push_update_between(out, flags, indirect & too, &first, &last)
         }
         (
             ChangeRef::Update { indirect, old, .. },
@@ -87,14 +87,14 @@ fn push_together<A: AllocHandle>(
                 old: then,
             },
         ) => {
-            push_operation(out, Operation::Delete, indirect && too)?;
+            push_operation(out, Operation::Delete, indirect & too)?;
             push_over(out, RecordOver::new(then, old))?;
             Ok(true)
         }
         (ChangeRef::Delete { indirect, old }, ChangeRef::Insert { indirect: too, new }) => {
             let first = RecordOver::alone(old);
             let last = RecordOver::alone(new);
-            push_update_between(out, flags, indirect && too, &first, &last)
+            push_update_between(out, flags, indirect & too, &first, &last)
         }
         _ => {
             out.extend_from_slice(present.as_bytes())?;

@@ -63,7 +63,7 @@ fn push_together<A: AllocHandle>(
                 new: last,
             },
         ) => {
-            push_operation(out, Operation::Insert, indirect && too)?;
+            push_operation(out, Operation::Insert, indirect & too)?;
             push_over(out, RecordOver::new(new, last))?;
             Ok(true)
         }
@@ -75,17 +75,17 @@ fn push_together<A: AllocHandle>(
                 new: last,
             },
         ) => {
-            push_operation(out, Operation::Update, indirect && too)?;
+            push_operation(out, Operation::Update, indirect & too)?;
             push_over(out, RecordOver::new(new, last))?;
             Ok(true)
         }
         (PatchRef::Update { indirect, .. }, PatchRef::Delete { indirect: too, key }) => {
-            push_operation(out, Operation::Delete, indirect && too)?;
+            push_operation(out, Operation::Delete, indirect & too)?;
             push_key(out, key)?;
             Ok(true)
         }
         (PatchRef::Delete { indirect, .. }, PatchRef::Insert { indirect: too, new }) => {
-            push_operation(out, Operation::Update, indirect && too)?;
+            push_operation(out, Operation::Update, indirect & too)?;
             push_record(out, new)?;
             Ok(true)
         }

@@ -112,19 +112,11 @@ fn first_value<'a, A: AllocHandle>(
 {
     let mut rest = flags;
     while let [key, others @ ..] = rest {
-        let found = if_key(*key, fields.next_field()?);
-        if let Some(value) = found {
+        let field = fields.next_field()?;
+        if let (true, Some(value)) = (*key, field) {
             return Some((value, others));
         }
         rest = others;
     }
     None
-}
-
-// The value of a field of the key.
-#[inline(always)]
-fn if_key(key: bool, field: Option<ValueRef<'_>>) -> Option<ValueRef<'_>>
-    ensures { result ≡ (if key then field.entry else None) }
-{
-    if key { field } else { None }
 }

@@ -19,6 +19,8 @@ pub(crate) fn one_each<C: Combine<A> + Drop, A: AllocHandle>(
         (no_changes group.now.table group.now.schema) group.now.changes)) }
     ensures again { IfOk result (λ made. keyed_of C.key C.combined made ≡ keyed_of C.key C.combined group.now) }
 {
+    // For the proof: the changes fit.
+    group.fits();
     let mut places = places_of(alloc, group)?;
     places.sort_by(|one, other| one.order(other))?;
     let mut made = TableGroup::new(alloc, group.table().copy()?, group.schema().copy()?);
@@ -50,10 +52,11 @@ fn push_rows<'a, C: Combine<A> + Drop, A: AllocHandle>(
     let mut row = Together::new(alloc, flags);
     row.add(places[0].change())?;
     for number in 1..places.len() {
-        if !places[number - 1].order(&places[number]).is_eq() {
+        let place = &places[number];
+        if !places[number - 1].order(place).is_eq() {
             row.finish(group)?;
         }
-        row.add(places[number].change())?;
+        row.add(place.change())?;
     }
     row.finish(group)
 }

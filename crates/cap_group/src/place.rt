@@ -1,7 +1,7 @@
 //! Changes in the order of their keys.
-ghost use Rattle.std.specs.Prelude.{◌≡◌, All, IfOk, map};
+ghost use Rattle.std.specs.Prelude.{◌≡◌, IfOk, map};
 ghost use Rattle.cap_row.specs.Key.{fields_cmp};
-ghost use Rattle.cap_group.specs.Place.{IsPlace, place_of};
+ghost use Rattle.cap_group.specs.Place.{place_of};
 
 use crate::combine::Combine;
 use crate::key_ref::KeyRef;
@@ -78,9 +78,8 @@ pub(crate) fn places_of<'a, C: Combine<A> + Drop, A: AllocHandle>(
     alloc: A,
     group: &'a TableGroup<C, A>,
 ) -> Result<Vec<Place<'a, C, A>, A>, OutOfMemory>
-    ensures places { IfOk result (λ places.
+    ensures { IfOk result (λ places.
         places.items ≡ map (place_of C.key group.now.schema) group.now.changes) }
-    ensures each { IfOk result (λ places. All (IsPlace C.key C.fits_in group.now.schema) places.items) }
 {
     let changes = group.changes();
     let mut places = Vec::with_capacity(alloc, changes.len())?;

@@ -1,5 +1,5 @@
 //! Two records of one row: the fields of both together, and those that differ.
-ghost use Rattle.std.specs.Prelude.{◌≡◌, ◌++◌, ◌∷◌, [], IfOk, MatchOption, OnOk, not, ◌&&◌, ◌||◌, if◌then◌else◌};
+ghost use Rattle.std.specs.Prelude.{◌≡◌, ◌++◌, ◌∷◌, [], IfOk, MatchOption, OnOk, not, ◌&&◌, if◌then◌else◌};
 ghost use Rattle.cap_value.specs.Bytes.{bytes_eq};
 ghost use Rattle.cap_changes.specs.Column.{by_column};
 ghost use Rattle.cap_changes.specs.Field.{record_bytes};
@@ -64,22 +64,17 @@ impl<'a, A: AllocHandle> RecordOver<'a, A> {
             (λ field. BeginsWithField self.old field.now self.new) }
     {
         let below = self.below.next_bytes()?;
-        let Some(above) = self.above.next_bytes() else {
-            return None;
-        };
-        Some(over(below, above))
+        let above = self.above.next_bytes()?;
+        Some(either(above == [UNDEFINED].as_slice(), below, above))
     }
 }
 
-// The bytes of the field above, or of the one below where that is undefined.
-fn over<'a>(below: &'a [u8], above: &'a [u8]) -> &'a [u8]
-    ensures { result.now ≡ (if bytes_eq above.now (0 ∷ []) then below.now else above.now) }
+// The first bytes, or the second.
+#[inline]
+pub(crate) fn either<'a>(is_first: bool, first: &'a [u8], second: &'a [u8]) -> &'a [u8]
+    ensures { result.now ≡ (if is_first then first.now else second.now) }
 {
-    if above == [UNDEFINED].as_slice() {
-        below
-    } else {
-        above
-    }
+    if is_first { first } else { second }
 }
 
 /// Appends the fields, in column order.
@@ -137,30 +132,10 @@ fn push_fields<A: AllocHandle>(
             return Ok(some);
         };
         let modified = is_modified(*key, was, is);
-        push_field(out, old, *key, modified, was, is)?;
-        some = some || modified;
+        push_if(out, old & *key | modified, either(old, was, is))?;
+        some |= modified;
     }
     Ok(some)
-}
-
-// Appends the field of a column in the old record, or in the new one.
-fn push_field<A: AllocHandle>(
-    out: &mut Vec<u8, A>,
-    old: bool,
-    key: bool,
-    modified: bool,
-    was: &[u8],
-    is: &[u8],
-) -> Result<(), OutOfMemory>
-    ensures { OnOk result (out.new.items ≡ out.old.items ++ (if old
-        then (if key || modified then was.now else 0 ∷ [])
-        else if modified then is.now else 0 ∷ [])) }
-{
-    if old {
-        push_if(out, key || modified, was)
-    } else {
-        push_if(out, modified, is)
-    }
 }
 
 // Whether these are the bytes of a field outside the key that differs.

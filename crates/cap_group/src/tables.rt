@@ -128,8 +128,7 @@ fn push_at<C: Combine<A> + Drop, A: AllocHandle>(
         if steps.push((index, Some(table.changes().len()))).is_err() {
             return Err(Fault::OutOfMemory);
         }
-        push_changes(table, group)?;
-        Ok(())
+        Ok(push_changes(table, group)?)
     } else {
         Err(Fault::Refused(GroupRefusal::OtherColumns { group: place }))
     }

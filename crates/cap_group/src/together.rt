@@ -1,9 +1,10 @@
 //! What changes of one row are together.
-ghost use Rattle.std.specs.Prelude.{◌≡◌, ◌++◌, IsTrue, None, OnOk, if◌then◌else◌};
+ghost use Rattle.std.specs.Prelude.{◌≡◌, ◌++◌, IsTrue, None, OnOk};
 ghost use Rattle.std.specs.Option.{option_to_list};
 ghost use Rattle.cap_group.specs.KeyedChanges.{change_after};
 
 use crate::combine::Combine;
+use crate::record::either;
 use cap_changes::{EntryRef, TableGroup};
 use cap_value::{AllocHandle, OutOfMemory};
 use std::marker::{Model, PhantomData};
@@ -86,7 +87,7 @@ impl<'a, C: Combine<A> + Drop, A: AllocHandle> Together<'a, C, A> {
             return Ok(());
         }
         self.spare.clear();
-        let present = EntryRef::of(self.flags, bytes_of(self.is_only, self.only, &self.bytes));
+        let present = EntryRef::of(self.flags, either(self.is_only, self.only, &self.bytes));
         self.some = C::push_combined(&mut self.spare, self.flags, &present, added)?;
         self.is_only = false;
         mem::swap(&mut self.bytes, &mut self.spare);
@@ -104,16 +105,8 @@ impl<'a, C: Combine<A> + Drop, A: AllocHandle> Together<'a, C, A> {
         if !self.some {
             return Ok(());
         }
-        group.push(bytes_of(self.is_only, self.only, &self.bytes))?;
+        group.push(either(self.is_only, self.only, &self.bytes))?;
         self.some = false;
         Ok(())
     }
-}
-
-// The bytes of the only change, or those of more.
-#[inline]
-fn bytes_of<'b>(is_only: bool, only: &'b [u8], bytes: &'b [u8]) -> &'b [u8]
-    ensures { result.now ≡ (if is_only then only.now else bytes.now) }
-{
-    if is_only { only } else { bytes }
 }

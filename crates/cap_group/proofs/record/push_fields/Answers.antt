@@ -1,9 +1,8 @@
-use Rattle.std.proofs.Common.{◌≡◌, ◌||◌, drop, inl, inr, sym, ap, ◌∙◌}
+use Rattle.std.proofs.Common.{drop, inl, inr}
 use Rattle.cap_changes.proofs.PutLemmas.{first_ends, second_ends}
 use Rattle.cap_group.specs.Record.{field_of}
-use Rattle.cap_group.proofs.FieldLemmas.{differ_ends, differ_more, field_put}
+use Rattle.cap_group.proofs.FieldLemmas.{column_put, differ_ends}
 use Rattle.cap_group.proofs.record.push_fields.Goals as goal
-use Rattle.cap_group.proofs.record.push_fields.Goals.{then-some, else-some}
 
 pub returns-in_default : goal.returns-in_default
 returns-in_default g c = record {
@@ -19,14 +18,7 @@ returns-in_default-2 g c = record {
 
 pub loop-key-preserved : goal.loop-key-preserved
 loop-key-preserved g c =
-    let more : c.if-some.some ≡ (c.loop-key.some || c.is_modified-modified.result) =
-    elim c.if-some.branch [
-      | then-some w ↦ w.some-is ∙ w.if-some.true ∙ ap (λ b. b || c.is_modified-modified.result) (sym w.if-some.true)
-      | else-some w ↦ w.some-is ∙ ap (λ b. b || c.is_modified-modified.result) (sym w.if-some.false)
-    ] in
-    record {
-      bytes = field_put c.args.old c.args.flags.now c.loop-key.key-index c.loop-key.before c.next_bytes.new.self c.loop-key.after c.next_bytes-in-loop-key.new.self c.in-Some-Some.was.now c.in-Some-Some.is'.now c.is_modified-modified.result
-          c.loop-key-test.true c.in-Some-Some.ensures c.in-Some-Some.ensures' c.is_modified-modified.ensures c.loop-key.out.items c.push_field.new.out.items _ c.in_ok-push_field.ensures c.loop-key.invariant.bytes;
-      some = differ_more c.args.old c.args.flags.now c.loop-key.key-index c.loop-key.before c.next_bytes.new.self c.loop-key.after c.next_bytes-in-loop-key.new.self c.in-Some-Some.was.now c.in-Some-Some.is'.now c.is_modified-modified.result
-          c.loop-key-test.true c.in-Some-Some.ensures c.in-Some-Some.ensures' c.is_modified-modified.ensures c.loop-key.some c.if-some.some _ more c.loop-key.invariant.some;
-    }
+    let put = column_put c.args.old c.args.flags.now c.loop-key.key-index c.loop-key.before c.next_bytes.new.self c.loop-key.after c.next_bytes-in-loop-key.new.self c.in-Some-Some.was.now c.in-Some-Some.is'.now c.is_modified-modified.result
+    c.loop-key-test.true c.in-Some-Some.ensures c.in-Some-Some.ensures' c.is_modified-modified.ensures c.loop-key.out.items c.push_if.new.out.items _ c.loop-key.some _
+    (rw c.either.ensures at c.in_ok-push_if.ensures) c.loop-key.invariant.bytes c.loop-key.invariant.some in
+    record { bytes = put.0; some = put.1 }

@@ -1,10 +1,12 @@
+use Rattle.std.proofs.Common.{◌≡◌, ◌++◌}
 use Rattle.cap_changes.specs.Entries.{AllFit}
-use Rattle.cap_group.proofs.GrownLemmas.{Pushed}
+use Rattle.cap_group.specs.Grown.{IsGrown}
 use Rattle.cap_group.proofs.tables.push_changes.Given as goal
 
--- what was put, and the changes that are left
+-- with the changes that are left, and what was put alone
 abbrev pub invariant-loop-change : goal.invariant-loop-change
 invariant-loop-change g l = record {
-  put : Pushed l.fn.table l.table l.change-iterator l.group.changes;
+  put : record l.table { changes = l.table.changes ++ l.change-iterator } ≡ record l.fn.table { changes = l.fn.table.changes ++ l.group.changes };
+  grown : IsGrown l.fn.table l.table;
   fit : AllFit g.C.Entry.fits_in l.group.schema l.change-iterator;
 }
