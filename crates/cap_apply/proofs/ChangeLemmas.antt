@@ -1,5 +1,5 @@
 -- One change: its table, its conflict, and what it leaves.
-use Rattle.std.proofs.Common.{◌≡◌, ℕ, Bool, true, false, cond, Option, Some, None, Result, Ok, Err, List, length, refl, sym, ap, ◌∙◌}
+use Rattle.std.proofs.Common.{◌≡◌, ℕ, Bool, true, false, Option, Some, None, Result, Ok, Err, List, length, refl, sym, ap, ◌∙◌, arith}
 use Rattle.std.specs.Prelude.{IfOk, is_some}
 use Rattle.cap_value.specs.Memory.{AnswersUnlessMemory, LeavesUnlessMemory}
 use Rattle.cap_value.specs.declared.memory.Fault.{Fault}
@@ -15,13 +15,10 @@ use Rattle.cap_changes.specs.FieldRecord.{RecordFields}
 use Rattle.cap_apply.specs.Applied.{AppliedState}
 use Rattle.cap_apply.specs.Apply.{change_applied, change_at, change_in, concluded, counted, left_out, noted, with_row, with_row_in}
 use Rattle.cap_apply.specs.Requested.{Requested}
-use Rattle.cap_apply.specs.Policy.{is_made, made_anyway}
+use Rattle.cap_apply.specs.Policy.{is_made}
 use Rattle.cap_apply.specs.Row.{conflict_of, key_record_of, key_values, missed, row_after}
 use Rattle.cap_apply.specs.Target.{columns_fit, fitting, target}
 use Rattle.cap_apply.specs.declared.conflict.ConflictKind.{ConflictKind}
-use Rattle.cap_apply.specs.declared.conflict.ConflictKind.TheVariants.{NotFound}
-use Rattle.cap_apply.specs.declared.policy.Answer.{Answer}
-use Rattle.cap_apply.specs.declared.policy.Answer.TheVariants.{Omit, Replace, Abort}
 use Rattle.cap_apply.specs.declared.policy.Policy.{Policy}
 
 module _ {A : Type 0} where
@@ -34,33 +31,24 @@ module _ {A : Type 0} where
 
   fitting_there : (flags : List Bool) (found : Option (TableState A)) (table : TableState A) → fitting flags found ≡ Some table → (found ≡ Some table) × (columns_fit flags table.schema ≡ true)
   fitting_there flags None table is = cc
-  fitting_there flags (Some other) table is =
-      elim (columns_fit flags other.schema) as (λ b. columns_fit flags other.schema ≡ b → cond b (Some other) None ≡ Some table → (Some other ≡ Some table) × (columns_fit flags table.schema ≡ true)) [
-        | true ↦ λ fit e. let same : other ≡ table = cc in (e, ap (λ (t : TableState A). columns_fit flags t.schema) (sym same) ∙ fit)
-        | false ↦ λ fit e. cc
-      ] refl is
+  fitting_there flags (Some other) table is = (grind arith, grind arith)
 
   the_target : (database : Tables A) (name : List ℕ) (flags : List Bool) (table : TableState A) → target database name flags ≡ Some table → HasTarget database name flags
   the_target database name flags table is =
       let found = fitting_there flags (table_of database name) table is in record { table = table; there = found.0; fit = found.1; is = is }
 
   pub has_target : (database : Tables A) (name : List ℕ) (flags : List Bool) → is_some (target database name flags) ≡ true → HasTarget database name flags
-  has_target database name flags e = inner (target database name flags) refl e
-    where
-      inner : (found : Option (TableState A)) → target database name flags ≡ found → is_some found ≡ true → HasTarget database name flags
-      inner None is e = cc
-      inner (Some table) is e = the_target database name flags table is
+  has_target database name flags e = elim (target database name flags) as (λ t. target database name flags ≡ t → is_some t ≡ true → HasTarget database name flags) [
+    | None ↦ λ is none. cc
+    | Some table ↦ λ is some. the_target database name flags table is
+  ] refl e
 
   -- a change whose conflict is known
   pub applied_at : (policy : Policy) (number : ℕ) (name : List ℕ) (flags : List Bool) (requested : Requested A) (state : AppliedState A) (h : HasTarget state.database name flags)
       (before : Option (Fields A)) (conflict : Option ConflictKind) →
       get fields_cmp h.table.keyed (key_values flags (key_record_of requested.patch)) ≡ before → conflict_of flags requested.old requested.patch before ≡ conflict →
       change_applied policy number name flags requested state ≡ change_at policy number name requested h.table (key_values flags (key_record_of requested.patch)) before conflict state
-  applied_at policy number name flags requested state h before conflict found met =
-      let key = key_values flags (key_record_of requested.patch) in
-      ap (λ t. change_in policy number name flags requested t state) h.is
-      ∙ ap (λ b. change_at policy number name requested h.table key b (conflict_of flags requested.old requested.patch b) state) found
-      ∙ ap (λ k. change_at policy number name requested h.table key before k state) met
+  applied_at policy number name flags requested state h before conflict found met = rw (h.is, found, met)
 
   -- a row under a key changes nothing else of the table
   pub same_rest : (table : TableState A) (key : Fields A) (row : Option (Fields A)) → with_row table key row ≡ record table { keyed = (with_row table key row).keyed }
@@ -106,14 +94,9 @@ pub answers_err : (X Y : Type 0) {E : Type 0} (fault : Fault E) (a b : Result Y 
 answers_err X Y (Refused why) a b left e h = sym e ∙ h
 answers_err X Y OutOfMemory a b left e h = tt
 
--- there is nothing to replace where no row was found
-no_replacement : (number : ℕ) (answer : Answer) → made_anyway number NotFound answer ≡ Ok true → ⊥
-no_replacement number Omit e = cc
-no_replacement number Replace e = cc
-no_replacement number Abort e = cc
-
 module _ {A : Type 0} where
+  -- there is nothing to replace where no row was found
   pub missed_made : (policy : Policy) (number : ℕ) (flags : List Bool) (old : RecordFields A) (before : Option (Fields A)) →
       is_made policy number (missed flags old before) ≡ Ok true → (row : Fields A) × (before ≡ Some row)
-  missed_made policy number flags old None e = absurd (no_replacement number policy.on_notfound e)
+  missed_made policy number flags old None e = absurd (grind arith)
   missed_made policy number flags old (Some row) e = (row, refl)

@@ -1,10 +1,12 @@
 -- Changes and groups, one after another.
-use Rattle.std.proofs.Common.{◌≡◌, ℕ, ◌+◌, ◌<◌, Bool, true, false, cond, Option, Some, None, Ok, List, [], ◌∷◌, length, map, drop, get_or, refl, ap, subst, ◌∙◌}
-use Rattle.std.specs.Prelude.{IfOk, is_some}
+use Rattle.std.proofs.Common.{◌≡◌, ℕ, ◌+◌, ◌<◌, Bool, true, false, Option, Some, None, Result, Ok, Err, List, [], ◌∷◌, length, map, drop, get_or, refl, ap, subst, ◌∙◌, arith}
+use Rattle.std.specs.Prelude.{All, IfOk, is_some}
 use Rattle.std.specs.Cmp.{tied_itself}
 use Rattle.std.proofs.lemmas.Cmp.{nat_list_cmp_total}
 use Rattle.std.proofs.lemmas.List.{length-map}
+use Rattle.std.proofs.lemmas.List.Elements.{All-head, All-tail}
 use Rattle.cap_value.specs.Bytes.{bytes_cmp}
+use Rattle.cap_value.specs.declared.refusal.Refusal.{Refusal}
 use Rattle.cap_tree.specs.Tree.{put_entry}
 use Rattle.cap_table.specs.Table.{TableState}
 use Rattle.cap_database.specs.Tables.{Tables}
@@ -14,7 +16,7 @@ use Rattle.cap_apply.specs.Applied.{AppliedState}
 use Rattle.cap_apply.specs.Apply.{and_then, change_applied, change_in, changes_applied, group_applied, groups_applied, skipped, skipped_unless, with_row}
 use Rattle.cap_apply.specs.Requested.{Requested, requested_in}
 use Rattle.cap_apply.specs.Row.{row_after}
-use Rattle.cap_apply.specs.Target.{columns_fit, fitting, target}
+use Rattle.cap_apply.specs.Target.{columns_fit, target}
 use Rattle.cap_apply.specs.declared.policy.Policy.{Policy}
 use Rattle.cap_apply.proofs.ChangeLemmas.{change_leaves, same_columns}
 use Rattle.cap_apply.proofs.EntryLemmas.{get_put}
@@ -24,9 +26,7 @@ module _ {A : Type 0} where
 
   put_target : (database : Tables A) (name : List ℕ) (flags : List Bool) (table : TableState A) → columns_fit flags table.schema ≡ true →
       is_some (target (put_entry bytes_cmp database name table) name flags) ≡ true
-  put_target database name flags table fit =
-      ap (λ t. is_some (fitting flags t)) (get_put bytes_cmp name table (tied_itself nat_list_cmp_total name) database)
-      ∙ ap (λ b. is_some (cond b (Some table) None)) fit
+  put_target database name flags table fit = rw (get_put bytes_cmp name table (tied_itself nat_list_cmp_total name) database, fit)
 
   pub target_stays : (policy : Policy) (number : ℕ) (name : List ℕ) (flags : List Bool) (requested : Requested A) (state next : AppliedState A) →
       is_some (target state.database name flags) ≡ true → change_applied policy number name flags requested state ≡ Ok next →
@@ -42,9 +42,7 @@ module _ {A : Type 0} where
   pub changes_more : {X : Type 0} (policy : Policy) (name : List ℕ) (flags : List Bool) (number : ℕ) (f : X → Requested A) (xs others : List X) (x : X) (state next : AppliedState A) → xs ≡ x ∷ others →
       change_applied policy number name flags (f x) state ≡ Ok next →
       changes_applied policy number name flags (map f xs) state ≡ changes_applied policy (number + 1) name flags (map f others) next
-  changes_more policy name flags number f xs others x state next is ok =
-      ap (λ l. changes_applied policy number name flags (map f l) state) is
-      ∙ ap (λ r. and_then r (λ s. changes_applied policy (number + 1) name flags (map f others) s)) ok
+  changes_more policy name flags number f xs others x state next is ok = rw (is, ok)
 
   -- the changes of a skipped group do nothing
   pub changes_skipped : (policy : Policy) (name : List ℕ) (flags : List Bool) (number : ℕ) (asks : List (Requested A)) (state : AppliedState A) →
@@ -58,25 +56,54 @@ module _ {A : Type 0} where
       nothing_done None e = refl
       nothing_done (Some table) e = cc
 
+  -- ---- what each step keeps
+
+  pub both_keep : (P Q : AppliedState A → Type 0) (first : Result (AppliedState A) Refusal) (next : AppliedState A → Result (AppliedState A) Refusal) → IfOk first P
+      → ((state : AppliedState A) → first ≡ Ok state → P state → IfOk (next state) Q) → IfOk (and_then first next) Q
+  both_keep P Q (Ok state) next holds more = more state refl holds
+  both_keep P Q (Err why) next holds more = tt
+
+  -- what each change keeps, with the number of the next one
+  pub changes_keep : (policy : Policy) (name : List ℕ) (flags : List Bool) (Asked : Requested A → Type 0) (Holds : ℕ → AppliedState A → Type 0)
+      → ((number : ℕ) (requested : Requested A) (state : AppliedState A) → Asked requested → Holds number state → IfOk (change_applied policy number name flags requested state) (Holds (number + 1)))
+      → (asks : List (Requested A)) (number last : ℕ) (state : AppliedState A) → number + length asks ≡ last → All Asked asks → Holds number state → IfOk (changes_applied policy number name flags asks state) (Holds last)
+  changes_keep policy name flags Asked Holds one [] number last state count asked holds = let same : number ≡ last = omega (arith, count) in subst (λ n. Holds n state) same holds
+  changes_keep policy name flags Asked Holds one (requested ∷ asks) number last state count asked holds =
+      both_keep (Holds (number + 1)) (Holds last) (change_applied policy number name flags requested state) (λ next. changes_applied policy (number + 1) name flags asks next)
+      (one number requested state (All-head Asked requested asks asked) holds)
+      (λ next _. changes_keep policy name flags Asked Holds one asks (number + 1) last next (omega (arith, count)) (All-tail Asked requested asks asked))
+
+  abbrev pub AllAsked : (List Bool → Requested A → Type 0) → TableEntries (Requested A) → Type 0
+  AllAsked Asked group = All (Asked group.schema) group.changes
+
+  -- what each change and each skipped group keep
+  module _ (policy : Policy) (Asked : List Bool → Requested A → Type 0) (Holds : AppliedState A → Type 0) (skips : (place : ℕ) (state : AppliedState A) → Holds state → Holds (skipped place state))
+      (one : (number : ℕ) (name : List ℕ) (flags : List Bool) (requested : Requested A) (state : AppliedState A) → Asked flags requested → Holds state → IfOk (change_applied policy number name flags requested state) Holds) where
+    pub groups_keep : (groups : List (TableEntries (Requested A))) (place number : ℕ) (state : AppliedState A) → All (AllAsked Asked) groups → Holds state → IfOk (groups_applied policy place number groups state) Holds
+    groups_keep [] place number state asked holds = holds
+    groups_keep (group ∷ groups) place number state asked holds =
+        both_keep Holds Holds (group_applied policy place number group state) (λ next. groups_applied policy (place + 1) (number + length group.changes) groups next)
+        (changes_keep policy group.table group.schema (Asked group.schema) (λ _. Holds) (λ n. one n group.table group.schema) group.changes number (number + length group.changes)
+        (skipped_unless there place state) refl (All-head (AllAsked Asked) group groups asked) (start there))
+        (λ next _. groups_keep groups (place + 1) (number + length group.changes) next (All-tail (AllAsked Asked) group groups asked))
+      where
+        there : Bool
+        there = is_some (target state.database group.table group.schema)
+
+        start : (b : Bool) → Holds (skipped_unless b place state)
+        start true = holds
+        start false = skips place state holds
+
   -- ---- groups
 
   module _ {X : Type 0} (policy : Policy) (f : List Bool → X → Requested A) (number : ℕ) (group : TableEntries X) (i : ℕ) (state : AppliedState A) where
     pub group_there : is_some (target state.database group.table group.schema) ≡ true →
         group_applied policy i number (requested_in f group) state ≡ changes_applied policy number group.table group.schema (map (f group.schema) group.changes) state
-    group_there e = ap (λ b. changes_applied policy number group.table group.schema (map (f group.schema) group.changes) (skipped_unless b i state)) e
+    group_there e = rw e
 
     pub group_skipped : is_some (target state.database group.table group.schema) ≡ false → group_applied policy i number (requested_in f group) state ≡ Ok (skipped i state)
-    group_skipped e =
-        ap (λ b. changes_applied policy number group.table group.schema (map (f group.schema) group.changes) (skipped_unless b i state)) e
-        ∙ changes_skipped policy group.table group.schema number (map (f group.schema) group.changes) (skipped i state) e
+    group_skipped e = rw (e, changes_skipped policy group.table group.schema number (map (f group.schema) group.changes) (skipped i state) e)
 
-    module _ (groups : List (TableEntries X)) (within : i < length groups) (is : group ≡ get_or groups i group) where
-      groups_from : groups_applied policy i number (map (requested_in f) (drop i groups)) state
-          ≡ and_then (group_applied policy i number (requested_in f group) state) (λ next. groups_applied policy (i + 1) (number + length (map (f group.schema) group.changes)) (map (requested_in f) (drop (i + 1) groups)) next)
-      groups_from = ap (λ l. groups_applied policy i number (map (requested_in f) l) state) (drop_here groups i group within is)
-
-      pub groups_more : (next : AppliedState A) → group_applied policy i number (requested_in f group) state ≡ Ok next →
-          groups_applied policy i number (map (requested_in f) (drop i groups)) state ≡ groups_applied policy (i + 1) (number + length group.changes) (map (requested_in f) (drop (i + 1) groups)) next
-      groups_more next ok =
-          groups_from ∙ ap (λ r. and_then r (λ s. groups_applied policy (i + 1) (number + length (map (f group.schema) group.changes)) (map (requested_in f) (drop (i + 1) groups)) s)) ok
-          ∙ ap (λ n. groups_applied policy (i + 1) (number + n) (map (requested_in f) (drop (i + 1) groups)) next) (length-map group.changes (f group.schema))
+    pub groups_more : (groups : List (TableEntries X)) → i < length groups → group ≡ get_or groups i group → (next : AppliedState A) → group_applied policy i number (requested_in f group) state ≡ Ok next →
+        groups_applied policy i number (map (requested_in f) (drop i groups)) state ≡ groups_applied policy (i + 1) (number + length group.changes) (map (requested_in f) (drop (i + 1) groups)) next
+    groups_more groups within is next ok = rw (drop_here groups i group within is, ok, length-map group.changes (f group.schema))

@@ -45,9 +45,9 @@ module _ {A : Type 0} where
     changes = state.changes ++ changes_to name Direct (row_goes key (option_and_then (λ t. get fields_cmp t.keyed key) (there i)) ++ row_comes key after);
   }
 
-  module _ (policy : Policy) (number : ℕ) (name : List ℕ) (flags : List Bool) (asks requested : Requested A) (asks_are : asks ≡ requested) (state begun : AppliedState A) (state_is : state ≡ begun)
-      (there : is_some (target begun.database name flags) ≡ true) (key : Fields A) (key_is : key ≡ key_values flags (key_record_of asks.patch)) (before : Option (Fields A))
-      (at : before ≡ row_at state.database name key) (conflict : Option ConflictKind) (met : conflict ≡ conflict_of flags asks.old asks.patch before) where
+  module _ (policy : Policy) (number : ℕ) (name : List ℕ) (flags : List Bool) {asks requested : Requested A} (asks_are : asks ≡ requested) {state begun : AppliedState A} (state_is : state ≡ begun)
+      (there : is_some (target begun.database name flags) ≡ true) {key : Fields A} (key_is : key ≡ key_values flags (key_record_of asks.patch)) {before : Option (Fields A)}
+      (at : before ≡ row_at state.database name key) {conflict : Option ConflictKind} (met : conflict ≡ conflict_of flags asks.old asks.patch before) where
     abbrev h : HasTarget state.database name flags
     h = has_target state.database name flags (ap (λ (s : AppliedState A). is_some (target s.database name flags)) state_is ∙ there)
 
@@ -72,15 +72,15 @@ module _ {A : Type 0} where
     refuses X (Refused why) now decided = concludes (Err why) decided
     refuses X OutOfMemory now decided = tt
 
-    module _ (made : Bool) (judged : ReportState) (decided : is_made policy number conflict ≡ Ok made) (judged_is : judged ≡ cond made kept.report (with_omitted number kept.report)) where
+    module _ {made : Bool} {judged : ReportState} (decided : is_made policy number conflict ≡ Ok made) (judged_is : judged ≡ cond made kept.report (with_omitted number kept.report)) where
       by_made : (b : Bool) → made ≡ b → judged ≡ cond b kept.report (with_omitted number kept.report)
       by_made b is = judged_is ∙ ap (λ (m : Bool). cond m kept.report (with_omitted number kept.report)) is
 
       pub omits : made ≡ false → change_applied policy number name flags requested begun ≡ Ok (record state { report = judged })
       omits omitted = concludes (Ok false) (decided ∙ ap Ok omitted) ∙ ap (λ (r : ReportState). Ok (record state { report = r })) (sym (by_made false omitted))
 
-      module _ (agreed : made ≡ true) (width : ℕ) (wide : (table : TableState A) → table_of state.database name ≡ Some table → width ≡ length table.schema)
-          (after : Option (Fields A)) (after_is : after ≡ row_after width asks.patch before) where
+      module _ (agreed : made ≡ true) {width : ℕ} (wide : (table : TableState A) → table_of state.database name ≡ Some table → width ≡ length table.schema)
+          {after : Option (Fields A)} (after_is : after ≡ row_after width asks.patch before) where
         after_row : after ≡ row
         after_row = after_is ∙ ap (λ (n : ℕ). row_after n asks.patch before) (wide h.table h.there)
 
@@ -89,9 +89,9 @@ module _ {A : Type 0} where
             subst (λ (o : Option (Fields A)). IfSome o (IsOwnRow state.database name key)) (sym after_row)
             (own_there state.database name h.table key row h.there (leaves-own flags asks.patch state.database name h each has (patch-keyed flags asks.patch fits) key before key_is found))
 
-        pub makes : (replaced : AppliedState A) (count : ReportState) → replaced ≡ row_replaced name key after (record state { report = judged })
+        pub makes : {replaced : AppliedState A} {count : ReportState} → replaced ≡ row_replaced name key after (record state { report = judged })
             → count ≡ record replaced.report { applied = replaced.report.applied + 1 } → change_applied policy number name flags requested begun ≡ Ok (record replaced { report = count })
-        makes replaced count replaced_as count_is =
+        makes {replaced = replaced} replaced_as count_is =
             concludes (Ok true) (decided ∙ ap Ok agreed)
             ∙ ap (λ (s : AppliedState A). Ok (counted s)) (sym (replaced_as
             ∙ (λ i. row_replaced name key (after_row i) (record state { report = by_made true agreed i }))

@@ -1,9 +1,8 @@
 -- Names, keys and ids still rise, and rows are under their own keys, after any blob that fits its tables is applied.
-use Rattle.std.proofs.Common.{◌≡◌, ℕ, ◌+◌, Bool, true, false, Option, Some, None, Result, Ok, Err, List, [], ◌∷◌, map, length, sym, ap, ◌∙◌}
-use Rattle.std.specs.Prelude.{IfOk, IfSome, is_some}
+use Rattle.std.proofs.Common.{◌≡◌, ℕ, Bool, true, Option, Some, None, List, map, length, sym, ap, ◌∙◌}
+use Rattle.std.specs.Prelude.{All, IfOk, IfSome}
 use Rattle.std.specs.List.{AllByRecursion}
-use Rattle.std.proofs.lemmas.List.Elements.{recursion_from_All}
-use Rattle.cap_value.specs.declared.refusal.Refusal.{Refusal}
+use Rattle.std.proofs.lemmas.List.Elements.{All-map, All-weaker}
 use Rattle.cap_row.specs.Fields.{Fields}
 use Rattle.cap_row.specs.Key.{fields_cmp, key_of}
 use Rattle.cap_row.specs.Schema.{has_key}
@@ -15,20 +14,20 @@ use Rattle.cap_table.specs.declared.row_ref.RowRef.TheVariants.{Key}
 use Rattle.cap_table.proofs.BackLemmas.{own-row}
 use Rattle.cap_database.specs.Tables.{AreRising, EachRises, Tables, table_of}
 use Rattle.cap_database.proofs.KeptLemmas.{each-found, each-put, sorted-put}
-use Rattle.cap_changes.specs.Entries.{IsFitting, TableEntries}
+use Rattle.cap_changes.specs.Entries.{AreFitting, IsFitting, TableEntries}
 use Rattle.cap_changes.specs.Fits.{change_fits, patch_fits}
 use Rattle.cap_changes.specs.declared.patch.Patch.{Patch}
 use Rattle.cap_changes.specs.declared.patch.Patch.TheVariants as patched
 use Rattle.cap_codec.specs.declared.read.Contents.{Contents}
 use Rattle.cap_codec.specs.declared.read.Contents.TheVariants.{Changes, Patches}
 use Rattle.cap_apply.specs.Applied.{AppliedState}
-use Rattle.cap_apply.specs.Apply.{and_then, apply, change_applied, changes_applied, group_applied, groups_applied, nothing_applied, skipped, skipped_unless, with_row}
+use Rattle.cap_apply.specs.Apply.{apply, change_applied, nothing_applied, with_row}
 use Rattle.cap_apply.specs.Requested.{Requested, requested_by_change, requested_by_patch, requested_in, requested_of}
 use Rattle.cap_apply.specs.Fitting.{FitsItsColumns}
 use Rattle.cap_apply.specs.Row.{key_record_of, key_values, row_after}
-use Rattle.cap_apply.specs.Target.{target}
 use Rattle.cap_apply.specs.declared.policy.Policy.{Policy}
 use Rattle.cap_apply.proofs.ChangeLemmas.{HasTarget, change_leaves}
+use Rattle.cap_apply.proofs.GroupLemmas.{AllAsked, groups_keep}
 use Rattle.cap_apply.proofs.KeyLemmas.{Keyed, change-keyed, patch-keyed}
 use Rattle.cap_apply.proofs.RowLemmas.{key_of-new_row, key_of-set_fields, length-new_row, length-set_fields}
 
@@ -48,37 +47,24 @@ module _ {A : Type 0} where
       (length-set_fields new row ∙ wide, key_of-set_fields flags h.table.schema new h.fit has keyed row wide ∙ ap Some (sym is))
   leaves-own flags (patched.Delete indirect old) database name h each has keyed key before is found = tt
 
-  -- ---- a group whose changes have keys
+  -- ---- changes that have keys
 
-  pub record IsKeyedGroup (group : TableEntries (Requested A)) : Type 0 where
-    pub keyed : has_key group.schema ≡ true
-    pub each : AllByRecursion (λ requested. Keyed group.schema requested.patch) group.changes
+  -- the columns have a key, and the change its key fields
+  abbrev pub HasItsKey : List Bool → Requested A → Type 0
+  HasItsKey flags requested = (has_key flags ≡ true) × Keyed flags requested.patch
 
   groups-keyed : {X : Type 0} (f : List Bool → X → Requested A) (fits : List Bool → X → Bool) → ((flags : List Bool) (x : X) → fits flags x ≡ true → Keyed flags (f flags x).patch)
-      → (groups : List (TableEntries X)) → AllByRecursion (IsFitting fits) groups → AllByRecursion IsKeyedGroup (map (requested_in f) groups)
-  groups-keyed f fits says [] all = tt
-  groups-keyed {X = X} f fits says (group ∷ groups) all = (
-    record { keyed = all.0.keyed; each = each group.changes (recursion_from_All (λ x. fits group.schema x ≡ true) group.changes all.0.each) },
-    groups-keyed f fits says groups all.1,
-  )
-    where
-      each : (xs : List X) → AllByRecursion (λ x. fits group.schema x ≡ true) xs → AllByRecursion (λ requested. Keyed group.schema requested.patch) (map (f group.schema) xs)
-      each [] all = tt
-      each (x ∷ xs) all = (says group.schema x all.0, each xs all.1)
+      → (groups : List (TableEntries X)) → AreFitting fits groups → All (AllAsked HasItsKey) (map (requested_in f) groups)
+  groups-keyed f fits says groups all =
+      All-map (AllAsked HasItsKey) (requested_in f) groups (All-weaker (IsFitting fits) (λ group. AllAsked HasItsKey (requested_in f group)) (λ group fit.
+      All-map (HasItsKey group.schema) (f group.schema) group.changes
+      (All-weaker (λ x. fits group.schema x ≡ true) (λ x. HasItsKey group.schema (f group.schema x)) (λ x met. (fit.keyed, says group.schema x met)) group.changes fit.each)) groups all)
 
-  pub blob-keyed : (blob : Contents A) → FitsItsColumns blob → AllByRecursion IsKeyedGroup (requested_of blob)
-  blob-keyed (Changes groups) all = groups-keyed requested_by_change change_fits change-keyed groups (recursion_from_All (IsFitting change_fits) groups all)
-  blob-keyed (Patches groups) all = groups-keyed requested_by_patch patch_fits patch-keyed groups (recursion_from_All (IsFitting patch_fits) groups all)
+  pub blob-keyed : (blob : Contents A) → FitsItsColumns blob → All (AllAsked HasItsKey) (requested_of blob)
+  blob-keyed (Changes groups) all = groups-keyed requested_by_change change_fits change-keyed groups all
+  blob-keyed (Patches groups) all = groups-keyed requested_by_patch patch_fits patch-keyed groups all
 
-  -- ---- what is left after one part and the next
-
-  abbrev Rises : AppliedState A → Type 0
-  Rises state = AreRising state.database
-
-  both-rise : (first : Result (AppliedState A) Refusal) (next : AppliedState A → Result (AppliedState A) Refusal) → IfOk first Rises → ((state : AppliedState A) → Rises state → IfOk (next state) Rises)
-      → IfOk (and_then first next) Rises
-  both-rise (Ok state) next rise more = more state rise
-  both-rise (Err why) next rise more = tt
+  -- ---- what is left
 
   module _ (puts : (table : TableState A) (key row : Fields A) → IsRising table → length row ≡ length table.schema → key_of table.schema row ≡ Some key → IsRising (with_key table key row))
       (takes : (table : TableState A) (key : Fields A) → IsRising table → IsRising (without table (Key key))) (policy : Policy) where
@@ -87,34 +73,17 @@ module _ {A : Type 0} where
     row-rises table key None rise own = takes table key rise
     row-rises table key (Some row) rise own = puts table key row rise own.0 own.1
 
-    change-rises : (number : ℕ) (name : List ℕ) (flags : List Bool) → has_key flags ≡ true → (requested : Requested A) → Keyed flags requested.patch → (state : AppliedState A) → Rises state
-        → IfOk (change_applied policy number name flags requested state) Rises
-    change-rises number name flags has requested keyed state rise =
+    change-rises : (number : ℕ) (name : List ℕ) (flags : List Bool) (requested : Requested A) (state : AppliedState A) → HasItsKey flags requested → AreRising state.database
+        → IfOk (change_applied policy number name flags requested state) (λ left. AreRising left.database)
+    change-rises number name flags requested state keyed rise =
         change_leaves (λ tables changes. AreRising tables) policy number name flags requested state rise (λ h key before is found.
         let after = row_after (length h.table.schema) requested.patch before in
-        let own = leaves-own flags requested.patch state.database name h rise.each has keyed key before is found in
+        let own = leaves-own flags requested.patch state.database name h rise.each keyed.0 keyed.1 key before is found in
         record {
           names = sorted-put state.database name (with_row h.table key after) rise.names;
           each = each-put IsRising state.database name (with_row h.table key after) rise.each (row-rises h.table key after (found-rises state.database name h.table rise.each h.there) own);
         })
 
-    changes-rise : (name : List ℕ) (flags : List Bool) → has_key flags ≡ true → (asks : List (Requested A)) (number : ℕ) (state : AppliedState A)
-        → AllByRecursion (λ requested. Keyed flags requested.patch) asks → Rises state → IfOk (changes_applied policy number name flags asks state) Rises
-    changes-rise name flags has [] number state all rise = rise
-    changes-rise name flags has (requested ∷ asks) number state all rise =
-        both-rise (change_applied policy number name flags requested state) (λ next. changes_applied policy (number + 1) name flags asks next)
-        (change-rises number name flags has requested all.0 state rise) (λ next more. changes-rise name flags has asks (number + 1) next all.1 more)
-
-    groups-rise : (groups : List (TableEntries (Requested A))) (place number : ℕ) (state : AppliedState A) → AllByRecursion IsKeyedGroup groups → Rises state
-        → IfOk (groups_applied policy place number groups state) Rises
-    groups-rise [] place number state all rise = rise
-    groups-rise (group ∷ groups) place number state all rise =
-        both-rise (group_applied policy place number group state) (λ next. groups_applied policy (place + 1) (number + length group.changes) groups next)
-        (start (is_some (target state.database group.table group.schema))) (λ next more. groups-rise groups (place + 1) (number + length group.changes) next all.1 more)
-      where
-        start : (there : Bool) → IfOk (changes_applied policy number group.table group.schema group.changes (skipped_unless there place state)) Rises
-        start true = changes-rise group.table group.schema all.0.keyed group.changes number state all.0.each rise
-        start false = changes-rise group.table group.schema all.0.keyed group.changes number (skipped place state) all.0.each rise
-
     pub apply-rises : (tables : Tables A) (blob : Contents A) → AreRising tables → FitsItsColumns blob → IfOk (apply tables blob policy) (λ left. AreRising left.database)
-    apply-rises tables blob rise fits = groups-rise (requested_of blob) 0 0 (nothing_applied tables) (blob-keyed blob fits) rise
+    apply-rises tables blob rise fits =
+        groups_keep policy HasItsKey (λ state. AreRising state.database) (λ _ _ still. still) change-rises (requested_of blob) 0 0 (nothing_applied tables) (blob-keyed blob fits) rise

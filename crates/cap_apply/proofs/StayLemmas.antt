@@ -1,5 +1,5 @@
 -- A row that no change of a blob names stays as it was, and the first change that names it carries it.
-use Rattle.std.proofs.Common.{◌≡◌, ℕ, ◌+◌, Bool, true, false, cond, Option, Some, None, Result, Ok, Err, IfOk, List, [], ◌∷◌, ◌++◌, ◌||◌, length, refl, sym, ap, append_assoc, ◌∙◌}
+use Rattle.std.proofs.Common.{◌≡◌, ℕ, true, false, cond, Option, Some, None, Result, Ok, Err, IfOk, List, [], ◌∷◌, ◌++◌, length, refl, sym, ap, append_assoc, ◌∙◌, arith}
 use Rattle.std.specs.Prelude.{is_some, option_and_then}
 use Rattle.std.specs.List.{find, list_any}
 use Rattle.std.specs.Option.{option_map}
@@ -23,17 +23,15 @@ use Rattle.cap_database.specs.declared.cause.Cause.TheVariants.{Direct}
 use Rattle.cap_database.specs.declared.change.Change.{Change}
 use Rattle.cap_database.proofs.KeptLemmas.{schema_of-put}
 use Rattle.cap_table.proofs.TableLemmas.{fields_same}
-use Rattle.cap_database.proofs.StayLemmas.{either_false, found-in, found-row, get-put-other, get-take-other, named-table, other_false, other_key, put-stays, same_found, unnamed-rows}
-use Rattle.cap_changes.specs.Entries.{TableEntries}
+use Rattle.cap_database.proofs.StayLemmas.{either_false, found-in, found-row, get-put-other, get-take-other, named-table, other_key, put-stays, same_found, unnamed-rows}
 use Rattle.cap_codec.specs.declared.read.Contents.{Contents}
 use Rattle.cap_apply.specs.Applied.{AppliedState}
-use Rattle.cap_apply.specs.Apply as applied
-use Rattle.cap_apply.specs.Apply.{apply, change_applied, changes_applied, group_applied, groups_applied, nothing_applied, row_comes, row_goes, skipped, skipped_unless, with_row}
-use Rattle.cap_apply.specs.Requested.{Requested, requested_of}
+use Rattle.cap_apply.specs.Apply.{apply, nothing_applied, row_comes, row_goes, with_row}
+use Rattle.cap_apply.specs.Requested.{requested_of}
 use Rattle.cap_apply.specs.Row.{row_after}
-use Rattle.cap_apply.specs.Target.{target}
 use Rattle.cap_apply.specs.declared.policy.Policy.{Policy}
 use Rattle.cap_apply.proofs.ChangeLemmas.{change_leaves, same_columns}
+use Rattle.cap_apply.proofs.GroupLemmas.{groups_keep}
 
 module _ {A : Type 0} where
   module _ (name : List ℕ) (key : Fields A) where
@@ -59,33 +57,23 @@ module _ {A : Type 0} where
     abbrev pub AppliedMore : AppliedState A → Result (AppliedState A) Refusal → Type 0
     AppliedMore state r = IfOk r (λ left. MoreChanges state.database state.changes left.database left.changes)
 
-    both-more : (state next left : AppliedState A) → MoreChanges state.database state.changes next.database next.changes → MoreChanges next.database next.changes left.database left.changes
-        → MoreChanges state.database state.changes left.database left.changes
-    both-more state next left a b = record {
+    both-more : (first next last : Tables A) (start so_far all : List (Change A)) → MoreChanges first start next so_far → MoreChanges next so_far last all → MoreChanges first start last all
+    both-more first next last start so_far all a b = record {
       more = a.more ++ b.more;
-      are = b.are ∙ ap (λ cs. cs ++ b.more) a.are ∙ append_assoc state.changes a.more b.more;
+      are = b.are ∙ ap (λ cs. cs ++ b.more) a.are ∙ append_assoc start a.more b.more;
       stays = λ unnamed.
-          let parts = sym (list_any-append (is_of_row name key) a.more b.more) ∙ unnamed in
-          b.stays (other_false (list_any (is_of_row name key) a.more) (list_any (is_of_row name key) b.more) parts)
-          ∙ a.stays (either_false (list_any (is_of_row name key) a.more) (list_any (is_of_row name key) b.more) parts);
+          let parts = list_any-append (is_of_row name key) a.more b.more in
+          let one = a.stays in
+          let other = b.stays in
+          grind (arith, parts, one, other);
       there = λ named.
-          let parts = sym (list_any-append (is_of_row name key) a.more b.more) ∙ named in
-          elim (list_any (is_of_row name key) a.more) as (λ t. list_any (is_of_row name key) a.more ≡ t → (t || list_any (is_of_row name key) b.more) ≡ true → is_some (schema_of state.database name) ≡ true) [
-            | true ↦ λ first _. a.there first
-            | false ↦ λ _ second. ap is_some (sym a.columns) ∙ b.there second
-          ] refl parts;
+          let parts = list_any-append (is_of_row name key) a.more b.more in
+          let one = a.there in
+          let other = b.there in
+          grind (arith, parts, one, other, a.columns);
       columns = b.columns ∙ a.columns;
-      carries = found-in (is_of_row name key) (λ change. change.before ≡ row_at state.database name key) a.more b.more a.carries (λ none change is. b.carries change is ∙ a.stays none);
+      carries = found-in (is_of_row name key) (λ change. change.before ≡ row_at first name key) a.more b.more a.carries (λ none change is. b.carries change is ∙ a.stays none);
     }
-
-    one-then : (state : AppliedState A) (first : Result (AppliedState A) Refusal) (next : AppliedState A → Result (AppliedState A) Refusal) → AppliedMore state first
-        → ((mid : AppliedState A) → AppliedMore mid (next mid)) → AppliedMore state (applied.and_then first next)
-    one-then state (Ok mid) next a more = inner (next mid) (more mid)
-      where
-        inner : (r : Result (AppliedState A) Refusal) → AppliedMore mid r → AppliedMore state r
-        inner (Ok left) b = both-more state mid left a b
-        inner (Err why) b = tt
-    one-then state (Err why) next a more = tt
 
     -- a row under a key that goes, comes or is replaced
     row-stays : (other : List ℕ) (table : TableState A) (own : Fields A) (before after : Option (Fields A)) (database : Tables A) (changes : List (Change A)) → table_of database other ≡ Some table → get fields_cmp table.keyed own ≡ before
@@ -128,29 +116,14 @@ module _ {A : Type 0} where
         carried (Some old) None found = one-carries (Some own, Some old) (sym found) refl [] (λ _. refl)
         carried (Some old) (Some row) found = one-carries (Some own, Some old) (sym found) refl ((Some own, None) ∷ []) (λ apart. ap (λ b. cond b (Some (Some own, None)) None) apart)
 
-    change-more : (policy : Policy) (number : ℕ) (other : List ℕ) (flags : List Bool) (asked : Requested A) (state : AppliedState A) → AppliedMore state (change_applied policy number other flags asked state)
-    change-more policy number other flags asked state =
-        change_leaves (λ left all. MoreChanges state.database state.changes left all) policy number other flags asked state (nothing-more state.database state.changes)
-        (λ h own before _ found. row-stays other h.table own before (row_after (length h.table.schema) asked.patch before) state.database state.changes h.there found)
-
-    changes-more : (policy : Policy) (other : List ℕ) (flags : List Bool) (asks : List (Requested A)) (number : ℕ) (state : AppliedState A) → AppliedMore state (changes_applied policy number other flags asks state)
-    changes-more policy other flags [] number state = nothing-more state.database state.changes
-    changes-more policy other flags (asked ∷ asks) number state =
-        one-then state (change_applied policy number other flags asked state) (λ next. changes_applied policy (number + 1) other flags asks next) (change-more policy number other flags asked state)
-        (λ mid. changes-more policy other flags asks (number + 1) mid)
-
-    groups-more : (policy : Policy) (groups : List (TableEntries (Requested A))) (place number : ℕ) (state : AppliedState A) → AppliedMore state (groups_applied policy place number groups state)
-    groups-more policy [] place number state = nothing-more state.database state.changes
-    groups-more policy (group ∷ groups) place number state =
-        one-then state (group_applied policy place number group state) (λ next. groups_applied policy (place + 1) (number + length group.changes) groups next)
-        (start (is_some (target state.database group.table group.schema))) (λ mid. groups-more policy groups (place + 1) (number + length group.changes) mid)
-      where
-        start : (there : Bool) → AppliedMore state (changes_applied policy number group.table group.schema group.changes (skipped_unless there place state))
-        start true = changes-more policy group.table group.schema group.changes number state
-        start false = changes-more policy group.table group.schema group.changes number (skipped place state)
-
     pub apply-more : (tables : Tables A) (blob : Contents A) (policy : Policy) → AppliedMore (nothing_applied tables) (apply tables blob policy)
-    apply-more tables blob policy = groups-more policy (requested_of blob) 0 0 (nothing_applied tables)
+    apply-more tables blob policy =
+        groups_keep policy (λ _ _. Unit {0}) (λ state. MoreChanges tables [] state.database state.changes) (λ _ _ still. still)
+        (λ number other flags asked state _ so_far. change_leaves (λ left all. MoreChanges tables [] left all) policy number other flags asked state so_far (λ h own before _ found.
+        let after = row_after (length h.table.schema) asked.patch before in
+        both-more tables state.database (put_entry bytes_cmp state.database other (with_row h.table own after)) [] state.changes _ so_far
+        (row-stays other h.table own before after state.database state.changes h.there found)))
+        (requested_of blob) 0 0 (nothing_applied tables) (λ _ _ _ _ _ _. tt) (nothing-more tables [])
 
   -- what is so of each row is so of a blob
   each-row : (P : AppliedState A → Type 0) (tables : Tables A) (blob : Contents A) (policy : Policy)

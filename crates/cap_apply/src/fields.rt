@@ -36,6 +36,7 @@ pub(crate) fn key_of_fields<A: AllocHandle>(
 }
 
 // The value of the key, where it is one alone: most keys have one column.
+#[tactic(auto, using(crate::proofs::FieldLemmas::no_fields))]
 fn only_value<'a, A: AllocHandle>(flags: &[bool], fields: &RecordRef<'a, A>) -> Option<ValueRef<'a>>
     ensures value { IfSome result (λ value. key_values {A = A} flags.now fields.now ≡ value_of value ∷ []) }
     ensures fits { IfSome result (λ value. IsValue {A = A} (value_of value)) }
@@ -44,7 +45,7 @@ fn only_value<'a, A: AllocHandle>(flags: &[bool], fields: &RecordRef<'a, A>) -> 
     let mut rest = fields.copy();
     for flag in flags {
         let Some(field) = rest.next_field() else {
-            break;
+            return only;
         };
         if *flag && let Some(value) = field {
             if only.is_some() {
@@ -67,7 +68,7 @@ fn key_values<A: AllocHandle>(
     let mut rest = fields.copy();
     for flag in flags {
         let Some(field) = rest.next_field() else {
-            break;
+            return Ok(values);
         };
         if *flag && let Some(value) = field {
             values.push(value.own(alloc)?)?;

@@ -1,5 +1,5 @@
-use Rattle.std.proofs.Common.{append-nil, sym, ◌∙◌}
-use Rattle.cap_apply.proofs.FieldLemmas.{full_defined, values_put}
+use Rattle.std.proofs.Common.{append-nil, ◌∙◌}
+use Rattle.cap_apply.proofs.FieldLemmas.{full_defined, full_values}
 use Rattle.cap_apply.proofs.fields.new_row.Goals as goal
 
 pub as_values-values-requires : goal.as_values-values-requires
@@ -7,4 +7,4 @@ as_values-values-requires g c = full_defined c.args.flags.now c.args.fields.now 
 
 pub loop-further-init : goal.loop-further-init
 loop-further-init g c =
-    rw c.in_ok-builder.ensures at c.in_ok-push_rest.ensures.pushed ∙ values_put c.args.fields.now c.as_values-values.result c.as_values-values.ensures ∙ sym (append-nil _)
+    rw c.in_ok-builder.ensures at c.in_ok-push_rest.ensures.pushed ∙ rw (c.as_values-values.ensures, full_values c.as_values-values.result, append-nil)

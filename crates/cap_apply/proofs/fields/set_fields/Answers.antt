@@ -2,8 +2,9 @@ use Rattle.std.proofs.Common.{◌≡◌, ◌++◌, Bool, Bor, List, ℕ, false, 
 use Rattle.std.specs.Prelude.{if◌then◌else◌}
 use Rattle.std.proofs.lemmas.Result.{on_ok_weaker}
 use Rattle.cap_changes.specs.Patch.{update_record}
+use Rattle.cap_changes.proofs.PassLemmas.{flags-past}
 use Rattle.cap_apply.specs.Row.{set_fields}
-use Rattle.cap_apply.proofs.FieldLemmas.{bytes_chosen, bytes_put, set_done, set_ended, set_stopped}
+use Rattle.cap_apply.proofs.FieldLemmas.{bytes_chosen, bytes_put, no_kept, no_set}
 use Rattle.cap_apply.proofs.fields.set_fields.Goals as goal
 use Rattle.cap_apply.proofs.fields.set_fields.Goals.{then-flag, else-flag, else-loop-flag-test, then-loop-flag-test+in_default, then-loop-flag-test+in_default-2}
 
@@ -35,11 +36,9 @@ pub returns : goal.returns
 returns g c =
     let flags = c.args.flags.now in
     let i = c.loop-flag.flag-index in
-    let made = c.loop-flag.builder in
-    let rest = c.loop-flag.rest in
-    let left : made ++ rest ≡ c.args.builder.now ++ set_fields (update_record flags c.args.key.now c.args.new.now) c.args.row = elim c.loop-flag-test.branch [
-      | else-loop-flag-test w ↦ set_done flags i c.loop-flag.key c.loop-flag.new rest made _ w.loop-flag-test.false c.loop-flag.invariant
-      | then-loop-flag-test+in_default w ↦ set_stopped (drop i flags) c.loop-flag.key c.loop-flag.new rest made _ w.in_default.ensures'.0 c.loop-flag.invariant
-      | then-loop-flag-test+in_default-2 w ↦ set_ended (drop i flags) c.loop-flag.key c.loop-flag.new rest made _ w.in_default.ensures.0 c.loop-flag.invariant
+    let left : c.loop-flag.builder ++ c.loop-flag.rest ≡ c.args.builder.now ++ set_fields (update_record flags c.args.key.now c.args.new.now) c.args.row = elim c.loop-flag-test.branch [
+      | else-loop-flag-test w ↦ rw (flags-past flags i w.loop-flag-test.false) at c.loop-flag.invariant
+      | then-loop-flag-test+in_default w ↦ rw (w.in_default.ensures'.0, no_set (drop i flags) c.loop-flag.key) at c.loop-flag.invariant
+      | then-loop-flag-test+in_default-2 w ↦ rw (w.in_default.ensures.0, no_kept (drop i flags) c.loop-flag.new) at c.loop-flag.invariant
     ] in
     on_ok_weaker c.push_rest.result (λ is. is ∙ left) c.push_rest.ensures.pushed
