@@ -1,166 +1,187 @@
--- The changes of a blob are applied, omitted or in a skipped group.
-use Rattle.std.proofs.Common.{◌≡◌, ℕ, suc, ◌+◌, ◌-◌, ◌<◌, Bool, true, false, Option, Some, None, Result, Ok, Err, List, [], ◌∷◌, ◌++◌, length, map, drop, get_or, refl, sym, ap, subst, ◌∙◌, arith, length-append}
-use Rattle.std.specs.Prelude.{IfOk, is_some, sum, sum_by}
-use Rattle.std.proofs.lemmas.List.{drop_more, length-drop, length-map}
-use Rattle.std.proofs.lemmas.List.Sums.{sum_by-cons, sum_by_push}
+-- Each change of a blob is applied, omitted or in a skipped group, and no change and no group comes twice in a report.
+use Rattle.std.proofs.Common.{◌≡◌, ℕ, ◌+◌, ◌<◌, ◌≤◌, inl, inr, Bool, true, false, Some, None, Result, Ok, Err, List, [], ◌∷◌, ◌++◌, length, map, take, drop, get_or, refl, sym, ap, subst, ◌∙◌, arith, length-append}
+use Rattle.std.specs.Prelude.{IfOk, is_some, sum}
+use Rattle.std.specs.List.{AllByRecursion}
+use Rattle.std.proofs.lemmas.List.{drop_more, length-map, take-take}
+use Rattle.std.proofs.lemmas.List.Sums.{sum_by-take-drop, sum_by-take-le, sum_by_more, sum_by_push}
+use Rattle.std.proofs.lemmas.Result.{IfOk-weaker}
+use Rattle.std.proofs.lemmas.Simd.{map-map}
 use Rattle.cap_value.specs.declared.refusal.Refusal.{Refusal}
-use Rattle.cap_row.specs.Fields.{Fields}
 use Rattle.cap_row.specs.Key.{fields_cmp}
 use Rattle.cap_tree.specs.Tree.{get}
-use Rattle.cap_table.specs.Table.{TableState}
 use Rattle.cap_database.specs.Tables.{Tables}
 use Rattle.cap_changes.specs.Entries.{TableEntries}
+use Rattle.cap_changes.proofs.LeftLemmas.{taken}
 use Rattle.cap_codec.specs.declared.read.Contents.{Contents}
 use Rattle.cap_codec.specs.declared.read.Contents.TheVariants.{Changes, Patches}
 use Rattle.cap_apply.specs.Applied.{AppliedState}
-use Rattle.cap_apply.specs.Apply.{and_then, apply, change_applied, changes_applied, concluded, counted, group_applied, groups_applied, left_out, noted, nothing_applied, skipped, skipped_unless, with_row_in}
-use Rattle.cap_apply_laws.specs.Counted.{change_count, changes_in_groups, group_sizes}
-use Rattle.cap_apply.specs.Requested.{Requested, requested_by_change, requested_by_patch, requested_in, requested_of}
+use Rattle.cap_apply.specs.Apply.{apply, change_applied, changes_applied, concluded, counted, group_applied, groups_applied, left_out, noted, nothing_applied, skipped, skipped_unless, with_row_in}
+use Rattle.cap_apply.specs.Report.{ReportState}
+use Rattle.cap_apply.specs.Requested.{Requested, requested_of}
 use Rattle.cap_apply.specs.Policy.{is_made}
 use Rattle.cap_apply.specs.Row.{conflict_of, key_record_of, key_values, row_after}
 use Rattle.cap_apply.specs.Target.{target}
-use Rattle.cap_apply.specs.declared.conflict.ConflictKind.{ConflictKind}
 use Rattle.cap_apply.specs.declared.policy.Policy.{Policy}
 use Rattle.cap_apply.proofs.ChangeLemmas.{applied_at, has_target}
-use Rattle.cap_apply.proofs.GroupLemmas.{changes_skipped, target_stays}
+use Rattle.cap_apply.proofs.GroupLemmas.{both_keep, changes_keep, changes_skipped, target_stays}
+use Rattle.cap_apply_laws.specs.Counted.{AreReportedOnce, IsOutside, RiseWithin, change_count, changes_in_groups, first_of, group_sizes}
 
--- the item at a place, and what comes after it
-pub at_head : {X : Type 0} (xs : List X) (i : ℕ) (d x : X) (rest : List X) → drop i xs ≡ x ∷ rest → (get_or xs i d ≡ x) × (drop (i + 1) xs ≡ rest)
-at_head xs i d x rest is =
-    let some : length xs - i ≡ suc (length rest) = sym (length-drop i xs) ∙ ap length is in
-    let within : i < length xs = omega (arith, some) in
-    let both : get_or xs i d ∷ drop (i + 1) xs ≡ x ∷ rest = sym (drop_more xs i d within) ∙ is in
-    (cc, cc)
+-- ---- numbers that rise
 
--- the changes of the groups with these sizes that are at these places
-abbrev in_groups : List ℕ → List ℕ → ℕ
-in_groups sizes places = sum_by (λ place. get_or sizes place 0) places
+bounds-rise : (low high : ℕ) (numbers : List ℕ) → RiseWithin low high numbers → low ≤ high
+bounds-rise low high [] rise = rise
+bounds-rise low high (number ∷ numbers) rise = let above = bounds-rise (number + 1) high numbers rise.1 in omega (arith, above, rise.0)
+
+rise-wider : (low high wide : ℕ) (numbers : List ℕ) → RiseWithin low high numbers → high ≤ wide → RiseWithin low wide numbers
+rise-wider low high wide [] rise l = omega (arith, rise, l)
+rise-wider low high wide (number ∷ numbers) rise l = (rise.0, rise-wider (number + 1) high wide numbers rise.1 l)
+
+rise-more : (low last : ℕ) (numbers : List ℕ) → RiseWithin low last numbers → RiseWithin low (last + 1) (numbers ++ last ∷ [])
+rise-more low last [] rise = (rise, omega arith)
+rise-more low last (number ∷ numbers) rise = (rise.0, rise-more (number + 1) last numbers rise.1)
+
+rise-each : (P : ℕ → Type 0) (low high : ℕ) (numbers : List ℕ) → RiseWithin low high numbers → ((number : ℕ) → number < high → P number) → AllByRecursion P numbers
+rise-each P low high [] rise says = tt
+rise-each P low high (number ∷ numbers) rise says =
+    let above = bounds-rise (number + 1) high numbers rise.1 in (says number (omega (arith, above)), rise-each P (number + 1) high numbers rise.1 says)
+
+each-more : {X : Type 0} (P : X → Type 0) (xs : List X) (x : X) → AllByRecursion P xs → P x → AllByRecursion P (xs ++ x ∷ [])
+each-more P [] x all says = (says, tt)
+each-more P (y ∷ xs) x all says = (all.0, each-more P xs x all.1 says)
 
 module _ {A : Type 0} where
-  -- the changes that count as applied or omitted
-  abbrev settled : AppliedState A → ℕ
-  settled state = state.report.applied + length state.report.omitted
+  abbrev size : TableEntries (Requested A) → ℕ
+  size group = length group.changes
 
-  -- this many more of them, and no group more is skipped
-  record Settles (count : ℕ) (before after : AppliedState A) : Type 0 where
-    settles : settled after ≡ settled before + count
-    skips : after.report.skipped ≡ before.report.skipped
+  sizes-are : (blob : Contents A) → group_sizes blob ≡ map size (requested_of blob)
+  sizes-are (Changes list) = simp (map-map, length-map)
+  sizes-are (Patches list) = simp (map-map, length-map)
 
-  concluded-settles : (policy : Policy) (number : ℕ) (conflict : Option ConflictKind) (name : List ℕ) (table : TableState A) (key : Fields A) (before after : Option (Fields A)) (state : AppliedState A) (answer : Result Bool Refusal)
-      → IfOk (concluded answer (counted (with_row_in name table key before after (noted policy number conflict state))) (left_out number (noted policy number conflict state))) (Settles 1 state)
-  concluded-settles policy number None name table key before after state (Ok true) = record { settles = omega arith; skips = refl }
-  concluded-settles policy number None name table key before after state (Ok false) = record { settles = rw (length-append state.report.omitted (number ∷ [])) (omega arith); skips = refl }
-  concluded-settles policy number (Some kind) name table key before after state (Ok true) = record { settles = omega arith; skips = refl }
-  concluded-settles policy number (Some kind) name table key before after state (Ok false) = record { settles = rw (length-append state.report.omitted (number ∷ [])) (omega arith); skips = refl }
-  concluded-settles policy number conflict name table key before after state (Err why) = tt
+module _ {A : Type 0} (blob : Contents A) where
+  -- ---- the groups of a blob
 
-  module _ (policy : Policy) (name : List ℕ) (flags : List Bool) where
-    change-settles : (number : ℕ) (requested : Requested A) (state : AppliedState A) → is_some (target state.database name flags) ≡ true
-        → IfOk (change_applied policy number name flags requested state) (Settles 1 state)
-    change-settles number requested state there =
+  first-later : (place later : ℕ) → place ≤ later → first_of blob place ≤ first_of blob later
+  first-later place later l = subst (λ front. sum front ≤ first_of blob later) (take-take place later (group_sizes blob) l) (sum_by-take-le (λ m. m) (take later (group_sizes blob)) place)
+
+  -- the group at a place, and the first change behind it
+  size-at : (place n : ℕ) (rest : List ℕ) → drop place (group_sizes blob) ≡ n ∷ rest
+      → (get_or (group_sizes blob) place 0 ≡ n) × (drop (place + 1) (group_sizes blob) ≡ rest) × (first_of blob (place + 1) ≡ first_of blob place + n)
+  size-at place n rest is =
+      let left = taken (group_sizes blob) place n rest is in
+      let within : place < length (group_sizes blob) = omega (arith, left.within) in
+      let here : get_or (group_sizes blob) place 0 ≡ n = let both = sym (drop_more (group_sizes blob) place 0 within) ∙ is in cc in
+      (here, sym left.left, sum_by_more (λ m. m) (group_sizes blob) place 0 within ∙ ap (λ m. first_of blob place + m) here)
+
+  -- a change of a group is outside those before it
+  apart-more : (place number low : ℕ) (omitted places : List ℕ) → first_of blob place ≤ number → RiseWithin low place places
+      → AllByRecursion (λ at. AllByRecursion (IsOutside blob at) omitted) places → AllByRecursion (λ at. AllByRecursion (IsOutside blob at) (omitted ++ number ∷ [])) places
+  apart-more place number low omitted [] l rise apart = tt
+  apart-more place number low omitted (at ∷ places) l rise apart =
+      let behind = first-later (at + 1) place (bounds-rise (at + 1) place places rise.1) in
+      (each-more (IsOutside blob at) omitted number apart.0 (inr (omega (arith, behind, l))), apart-more place number (at + 1) omitted places l rise.1 apart.1)
+
+  -- ---- a report, up to this group and this change
+
+  record Told (place number applied : ℕ) (omitted skipped : List ℕ) : Type 0 where
+    counted : applied + length omitted + changes_in_groups blob skipped ≡ number
+    changes : RiseWithin 0 number omitted
+    groups : RiseWithin 0 place skipped
+    apart : AllByRecursion (λ at. AllByRecursion (IsOutside blob at) omitted) skipped
+
+  abbrev IsTold : ℕ → ℕ → AppliedState A → Type 0
+  IsTold place number state = Told place number state.report.applied state.report.omitted state.report.skipped
+
+  told-skipped : (place number count : ℕ) (state : AppliedState A) → IsTold place number state → number ≡ first_of blob place → get_or (group_sizes blob) place 0 ≡ count → IsTold (place + 1) (number + count) (skipped place state)
+  told-skipped place number count state told from is = record {
+    counted = omega (arith, told.counted, sum_by_push (λ at. get_or (group_sizes blob) at 0) state.report.skipped place, is);
+    changes = rise-wider 0 number (number + count) state.report.omitted told.changes (omega arith);
+    groups = rise-more 0 place state.report.skipped told.groups;
+    apart = each-more (λ at. AllByRecursion (IsOutside blob at) state.report.omitted) state.report.skipped place told.apart
+        (rise-each (IsOutside blob place) 0 number state.report.omitted told.changes (λ change l. inl (omega (arith, l, from))));
+  }
+
+  module _ (policy : Policy) (name : List ℕ) (flags : List Bool) (place : ℕ) where
+    concluded-told : (number : ℕ) (made kept : AppliedState A) (answer : Result Bool Refusal) → first_of blob place ≤ number → IsTold place number kept → made.report ≡ record kept.report { applied = kept.report.applied + 1 }
+        → IfOk (concluded answer made (left_out number kept)) (IsTold place (number + 1))
+    concluded-told number made kept (Ok true) from told is =
+        subst (λ (r : ReportState). Told place (number + 1) r.applied r.omitted r.skipped) (sym is) (record {
+          counted = omega (arith, told.counted);
+          changes = rise-wider 0 number (number + 1) kept.report.omitted told.changes (omega arith);
+          groups = told.groups;
+          apart = told.apart;
+        })
+    concluded-told number made kept (Ok false) from told is = record {
+      counted = omega (arith, told.counted, length-append kept.report.omitted (number ∷ []));
+      changes = rise-more 0 number kept.report.omitted told.changes;
+      groups = told.groups;
+      apart = apart-more place number 0 kept.report.omitted kept.report.skipped from told.groups told.apart;
+    }
+    concluded-told number made kept (Err why) from told is = tt
+
+    -- in a group that is there
+    abbrev IsWithin : ℕ → AppliedState A → Type 0
+    IsWithin number state = (is_some (target state.database name flags) ≡ true) × (first_of blob place ≤ number) × IsTold place number state
+
+    change-told : (number : ℕ) (requested : Requested A) (state : AppliedState A) → IsWithin number state → IfOk (change_applied policy number name flags requested state) (IsWithin (number + 1))
+    change-told number requested state (there, from, told) =
         let h = has_target state.database name flags there in
         let key = key_values flags (key_record_of requested.patch) in
         let before = get fields_cmp h.table.keyed key in
         let conflict = conflict_of flags requested.old requested.patch before in
-        subst (λ r. IfOk r (Settles 1 state)) (sym (applied_at policy number name flags requested state h before conflict refl refl))
-        (concluded-settles policy number conflict name h.table key before (row_after (length h.table.schema) requested.patch before) state (is_made policy number conflict))
-
-    changes-settle : (asks : List (Requested A)) (number : ℕ) (state : AppliedState A) → is_some (target state.database name flags) ≡ true
-        → IfOk (changes_applied policy number name flags asks state) (Settles (length asks) state)
-    changes-settle [] number state there = record { settles = omega arith; skips = refl }
-    changes-settle (requested ∷ asks) number state there =
-        first (change_applied policy number name flags requested state) refl (change-settles number requested state there) (λ next. changes-settle asks (number + 1) next)
+        let kept = noted policy number conflict state in
+        let kept_told : IsTold place number kept = elim conflict as (λ k. IsTold place number (noted policy number k state)) [ None ↦ told | Some kind ↦ told ] in
+        still (change_applied policy number name flags requested state) refl (subst (λ r. IfOk r (IsTold place (number + 1))) (sym (applied_at policy number name flags requested state h before conflict refl refl))
+        (concluded-told number (counted (with_row_in name h.table key before (row_after (length h.table.schema) requested.patch before) kept)) kept (is_made policy number conflict) from kept_told refl))
       where
-        rest : (next : AppliedState A) → Settles 1 state next → (r : Result (AppliedState A) Refusal) → IfOk r (Settles (length asks) next) → IfOk r (Settles (suc (length asks)) state)
-        rest next one (Ok left) more = record { settles = omega (arith, one.settles, more.settles); skips = more.skips ∙ one.skips }
-        rest next one (Err why) more = tt
+        still : (r : Result (AppliedState A) Refusal) → change_applied policy number name flags requested state ≡ r → IfOk r (IsTold place (number + 1)) → IfOk r (IsWithin (number + 1))
+        still (Ok next) is more = (target_stays policy number name flags requested state next there is, omega (arith, from), more)
+        still (Err why) is more = tt
 
-        first : (r : Result (AppliedState A) Refusal) → change_applied policy number name flags requested state ≡ r → IfOk r (Settles 1 state)
-            → ((next : AppliedState A) → is_some (target next.database name flags) ≡ true → IfOk (changes_applied policy (number + 1) name flags asks next) (Settles (length asks) next))
-            → IfOk (and_then r (λ next. changes_applied policy (number + 1) name flags asks next)) (Settles (suc (length asks)) state)
-        first (Ok next) is one others =
-            rest next one (changes_applied policy (number + 1) name flags asks next)
-            (others next (target_stays policy number name flags requested state next there is))
-        first (Err why) is one others = tt
-
-  -- ---- groups of these sizes
-
-  abbrev pub size : TableEntries (Requested A) → ℕ
-  size group = length group.changes
-
-  module _ (sizes : List ℕ) where
-    -- the same changes, and those in skipped groups
-    abbrev spoken_of : AppliedState A → ℕ
-    spoken_of state = settled state + in_groups sizes state.report.skipped
-
-    abbrev Speaks : ℕ → AppliedState A → AppliedState A → Type 0
-    Speaks count before after = spoken_of after ≡ spoken_of before + count
-
-    settled-speaks : (count : ℕ) (before after : AppliedState A) → Settles count before after → Speaks count before after
-    settled-speaks count before after s =
-        let same : in_groups sizes after.report.skipped ≡ in_groups sizes before.report.skipped = ap (in_groups sizes) s.skips in
-        omega (arith, s.settles, same)
-
-    skipped-speaks : (place count : ℕ) (state : AppliedState A) → get_or sizes place 0 ≡ count → Speaks count state (skipped place state)
-    skipped-speaks place count state is =
-        let more : in_groups sizes (state.report.skipped ++ place ∷ []) ≡ in_groups sizes state.report.skipped + get_or sizes place 0 = sum_by_push (λ at. get_or sizes at 0) state.report.skipped place in
-        omega (arith, more, is)
-
-    group-speaks : (policy : Policy) (place number : ℕ) (group : TableEntries (Requested A)) (state : AppliedState A) → get_or sizes place 0 ≡ size group
-        → IfOk (group_applied policy place number group state) (Speaks (size group) state)
-    group-speaks policy place number group state is = by_target (is_some (target state.database group.table group.schema)) refl
-      where
-        settled-all : (r : Result (AppliedState A) Refusal) → IfOk r (Settles (size group) state) → IfOk r (Speaks (size group) state)
-        settled-all (Ok left) s = settled-speaks (size group) state left s
-        settled-all (Err why) s = tt
-
-        by_target : (there : Bool) → is_some (target state.database group.table group.schema) ≡ there
-            → IfOk (changes_applied policy number group.table group.schema group.changes (skipped_unless there place state)) (Speaks (size group) state)
-        by_target true there =
-            settled-all (changes_applied policy number group.table group.schema group.changes state)
-            (changes-settle policy group.table group.schema group.changes number state there)
-        by_target false there =
-            subst (λ r. IfOk r (Speaks (size group) state))
-            (sym (changes_skipped policy group.table group.schema number group.changes (skipped place state) there))
-            (skipped-speaks place (size group) state is)
-
-    groups-speak : (policy : Policy) (groups : List (TableEntries (Requested A))) (place number : ℕ) (state : AppliedState A) → drop place sizes ≡ map size groups
-        → IfOk (groups_applied policy place number groups state) (Speaks (sum (map size groups)) state)
-    groups-speak policy [] place number state are = omega arith
-    groups-speak policy (group ∷ groups) place number state are =
-        let heads = at_head sizes place 0 (size group) (map size groups) are in
-        first (group_applied policy place number group state) (group-speaks policy place number group state heads.0)
-        (λ next. groups-speak policy groups (place + 1) (number + length group.changes) next heads.1)
-      where
-        all : sum (map size (group ∷ groups)) ≡ size group + sum (map size groups)
-        all = sum_by-cons (λ n. n) (size group) (map size groups)
-
-        rest : (next : AppliedState A) → Speaks (size group) state next → (r : Result (AppliedState A) Refusal) → IfOk r (Speaks (sum (map size groups)) next) → IfOk r (Speaks (sum (map size (group ∷ groups))) state)
-        rest next one (Ok left) more = omega (arith, one, more, all)
-        rest next one (Err why) more = tt
-
-        first : (r : Result (AppliedState A) Refusal) → IfOk r (Speaks (size group) state)
-            → ((next : AppliedState A) → IfOk (groups_applied policy (place + 1) (number + length group.changes) groups next) (Speaks (sum (map size groups)) next))
-            → IfOk (and_then r (λ next. groups_applied policy (place + 1) (number + length group.changes) groups next)) (Speaks (sum (map size (group ∷ groups))) state)
-        first (Ok next) one others = rest next one (groups_applied policy (place + 1) (number + length group.changes) groups next) (others next)
-        first (Err why) one others = tt
-
-  -- ---- a blob
-
-  requested-sizes : {X : Type 0} (f : List Bool → X → Requested A) (groups : List (TableEntries X)) → map (λ (group : TableEntries X). length group.changes) groups ≡ map size (map (requested_in f) groups)
-  requested-sizes f [] = refl
-  requested-sizes f (group ∷ groups) = λ i. sym (length-map group.changes (f group.schema)) i ∷ requested-sizes f groups i
-
-  pub sizes-are : (blob : Contents A) → group_sizes blob ≡ map size (requested_of blob)
-  sizes-are (Changes list) = requested-sizes requested_by_change list
-  sizes-are (Patches list) = requested-sizes requested_by_patch list
-
-  pub each-counted : (tables : Tables A) (blob : Contents A) (policy : Policy) → IfOk (apply tables blob policy)
-      (λ left. left.report.applied + length left.report.omitted + changes_in_groups blob left.report.skipped ≡ change_count blob)
-  each-counted tables blob policy =
-      told (apply tables blob policy) (groups-speak (group_sizes blob) policy (requested_of blob) 0 0 (nothing_applied tables) (sizes-are blob))
+  group-told : (policy : Policy) (place number : ℕ) (group : TableEntries (Requested A)) (state : AppliedState A) → number ≡ first_of blob place → get_or (group_sizes blob) place 0 ≡ size group → IsTold place number state
+      → IfOk (group_applied policy place number group state) (IsTold (place + 1) (number + size group))
+  group-told policy place number group state from is told = by_target (is_some (target state.database group.table group.schema)) refl
     where
-      told : (r : Result (AppliedState A) Refusal) → IfOk r (Speaks (group_sizes blob) (sum (map size (requested_of blob))) (nothing_applied tables))
-          → IfOk r (λ left. left.report.applied + length left.report.omitted + changes_in_groups blob left.report.skipped ≡ change_count blob)
-      told (Ok left) speaks = let same : sum (map size (requested_of blob)) ≡ change_count blob = ap sum (sym (sizes-are blob)) in omega (arith, speaks, same)
-      told (Err why) speaks = tt
+      by_target : (there : Bool) → is_some (target state.database group.table group.schema) ≡ there
+          → IfOk (changes_applied policy number group.table group.schema group.changes (skipped_unless there place state)) (IsTold (place + 1) (number + size group))
+      by_target true there =
+          IfOk-weaker (changes_applied policy number group.table group.schema group.changes state) (IsWithin policy group.table group.schema place (number + size group)) (IsTold (place + 1) (number + size group))
+          (λ left within. record {
+            counted = within.2.counted;
+            changes = within.2.changes;
+            groups = rise-wider 0 place (place + 1) left.report.skipped within.2.groups (omega arith);
+            apart = within.2.apart;
+          })
+          (changes_keep policy group.table group.schema (λ _. Unit {0}) (IsWithin policy group.table group.schema place) (λ n requested next _. change-told policy group.table group.schema place n requested next)
+          group.changes number (number + size group) state refl (λ _ _ _. tt) (there, omega (arith, from), told))
+      by_target false there =
+          subst (λ r. IfOk r (IsTold (place + 1) (number + size group))) (sym (changes_skipped policy group.table group.schema number group.changes (skipped place state) there))
+          (told-skipped place number (size group) state told from is)
+
+  abbrev IsToldWhole : AppliedState A → Type 0
+  IsToldWhole state = IsTold (length (group_sizes blob)) (change_count blob) state
+
+  groups-told : (policy : Policy) (groups : List (TableEntries (Requested A))) (place number : ℕ) (state : AppliedState A) → drop place (group_sizes blob) ≡ map size groups → place + length groups ≡ length (group_sizes blob)
+      → number ≡ first_of blob place → IsTold place number state → IfOk (groups_applied policy place number groups state) IsToldWhole
+  groups-told policy [] place number state are left from told =
+      let places : place ≡ length (group_sizes blob) = omega (arith, left) in
+      let numbers : number ≡ change_count blob = omega (arith, from, sum_by-take-drop (λ m. m) (group_sizes blob) place, ap sum are) in
+      subst (λ n. IsTold (length (group_sizes blob)) n state) numbers (subst (λ p. IsTold p number state) places told)
+  groups-told policy (group ∷ groups) place number state are left from told =
+      let here = size-at place (size group) (map size groups) are in
+      both_keep (IsTold (place + 1) (number + size group)) IsToldWhole (group_applied policy place number group state) (λ next. groups_applied policy (place + 1) (number + length group.changes) groups next)
+      (group-told policy place number group state from here.0 told)
+      (λ next _. groups-told policy groups (place + 1) (number + size group) next here.1 (omega (arith, left)) (omega (arith, from, here.2)))
+
+  blob-told : (tables : Tables A) (policy : Policy) → IfOk (apply tables blob policy) IsToldWhole
+  blob-told tables policy =
+      let all : 0 + length (requested_of blob) ≡ length (group_sizes blob) = omega (arith, ap length (sizes-are blob), length-map (requested_of blob) size) in
+      groups-told policy (requested_of blob) 0 0 (nothing_applied tables) (sizes-are blob) all refl (record { counted = refl; changes = omega arith; groups = omega arith; apart = tt })
+
+module _ {A : Type 0} (tables : Tables A) (blob : Contents A) (policy : Policy) where
+  pub each-counted : IfOk (apply tables blob policy) (λ left. left.report.applied + length left.report.omitted + changes_in_groups blob left.report.skipped ≡ change_count blob)
+  each-counted = IfOk-weaker (apply tables blob policy) (IsToldWhole blob) (λ left. left.report.applied + length left.report.omitted + changes_in_groups blob left.report.skipped ≡ change_count blob)
+      (λ left told. told.counted) (blob-told blob tables policy)
+
+  pub told-once : IfOk (apply tables blob policy) (λ left. AreReportedOnce blob left.report)
+  told-once = IfOk-weaker (apply tables blob policy) (IsToldWhole blob) (λ left. AreReportedOnce blob left.report)
+      (λ left told. record { omitted = told.changes; skipped = told.groups; apart = told.apart }) (blob-told blob tables policy)

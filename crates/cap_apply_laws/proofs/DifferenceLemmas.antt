@@ -1,42 +1,45 @@
 -- All changes of a capture, one after another.
 use Rattle.std.proofs.Common.{◌≡◌, ℕ, suc, ◌+◌, Bool, cond, Option, Some, None, Ok, List, [], ◌∷◌, length, map, refl, sym, ap, ◌∙◌, arith}
-use Rattle.std.specs.Cmp.{Equal-is, tied_itself}
-use Rattle.std.proofs.lemmas.Cmp.{nat_list_cmp_total}
+use Rattle.std.proofs.lemmas.List.{length-map}
+use Rattle.std.proofs.lemmas.Simd.{map-map}
 use Rattle.cap_value.specs.Bytes.{bytes_cmp, bytes_cmp-Equal}
 use Rattle.cap_row.specs.Fields.{Fields}
-use Rattle.cap_row.specs.Key.{fields_cmp, fields_cmp_total, fields_cmp-Equal}
+use Rattle.cap_row.specs.Key.{fields_cmp, fields_cmp_total, fields_cmp-Equal, fields_eq, fields_eq_decides}
 use Rattle.cap_tree.specs.Tree.{IsOrdered, get, put_entry}
-use Rattle.cap_tree.proofs.EntryLemmas.{ordered_take}
+use Rattle.cap_tree.proofs.EntryLemmas.{ordered_put, ordered_take, put_entry-Updates, take_entry-Updates}
 use Rattle.cap_table.specs.Table.{TableState}
 use Rattle.cap_database.specs.Tables.{Tables, table_of}
-use Rattle.cap_tree.proofs.EntryLemmas.{ordered_put}
+use Rattle.cap_database_laws.proofs.UndoneLemmas.{put-found}
+use Rattle.cap_changes.specs.FieldRecord.{RecordFields}
+use Rattle.cap_changes.specs.Patch.{patch_of}
+use Rattle.cap_changes.specs.declared.patch.Patch.{Patch}
+use Rattle.cap_changes.specs.declared.patch.Patch.TheVariants as patched
+use Rattle.cap_changes.specs.declared.row_change.RowChange.{RowChange}
 use Rattle.cap_changes.proofs.ChangeLemmas.{other_order}
 use Rattle.cap_apply.specs.Applied.{AppliedState}
 use Rattle.cap_apply.specs.Apply.{and_then, changes_applied, counted, with_row, with_row_in}
-use Rattle.cap_apply.specs.Requested.{Requested, requested_by_change}
-use Rattle.cap_apply.specs.Difference.{AllApplied, AreApart, Difference, HoldBefore, IsDifference, OtherTables, RowsAfter}
+use Rattle.cap_apply.specs.Requested.{Requested, old_record, requested_by_change, requested_by_patch}
+use Rattle.cap_apply.specs.Difference.{AllApplied, AreApart, Difference, GivesRowsNow, HoldAfter, HoldBefore, IsDifference, OtherTables, RowsAfter, RowsBefore, requested_by_changes, requested_by_inverses, turned}
+use Rattle.cap_apply.specs.Row.{conflict_of}
+use Rattle.cap_apply.specs.declared.conflict.ConflictKind.TheVariants.{Data}
 use Rattle.cap_apply.specs.declared.policy.Policy.{Policy}
-use Rattle.cap_apply_laws.proofs.CaptureLemmas.{AsksFor, asks_by_change, captured_one}
-use Rattle.cap_apply.proofs.EntryLemmas.{get_put, get_put_other, get_take}
 use Rattle.cap_apply.proofs.ChangeLemmas.{same_columns, same_rest}
+use Rattle.cap_apply.proofs.EntryLemmas.{get_put_other}
+use Rattle.cap_apply.proofs.FieldLemmas.{no_old}
+use Rattle.cap_apply_laws.proofs.CaptureLemmas.{AsksFor, asks_by_change, captured_one, turned_difference}
 
 module _ {A : Type 0} where
   -- ---- a table with a row under a key
 
   module _ (table : TableState A) (key : Fields A) where
-    rows_here : (after : Option (Fields A)) → IsOrdered fields_cmp table.keyed → get fields_cmp (with_row table key after).keyed key ≡ after
-    rows_here None ordered =
-        get_take fields_cmp fields_cmp_total key table.keyed ordered key
-        ∙ ap (λ b. cond b None (get fields_cmp table.keyed key)) ((Equal-is (fields_cmp key key)).1 (tied_itself fields_cmp_total key))
-    rows_here (Some row) ordered = get_put fields_cmp key row (tied_itself fields_cmp_total key) table.keyed
+    rows_at : (after : Option (Fields A)) → IsOrdered fields_cmp table.keyed → (q : Fields A) → get fields_cmp (with_row table key after).keyed q ≡ cond (fields_eq key q) after (get fields_cmp table.keyed q)
+    rows_at None ordered = take_entry-Updates fields_cmp fields_cmp_total key table.keyed ordered
+    rows_at (Some row) ordered = put_entry-Updates fields_cmp fields_cmp_total key row table.keyed
 
     rows_other : (after : Option (Fields A)) → IsOrdered fields_cmp table.keyed → (other : Fields A) → (other ≡ key → ⊥) →
         get fields_cmp (with_row table key after).keyed other ≡ get fields_cmp table.keyed other
-    rows_other None ordered other apart =
-        get_take fields_cmp fields_cmp_total key table.keyed ordered other
-        ∙ ap (λ b. cond b None (get fields_cmp table.keyed other)) (other_order (fields_cmp key other) (λ e. apart (sym ((fields_cmp-Equal key other).0 e))))
-    rows_other (Some row) ordered other apart =
-        get_put_other fields_cmp (λ x y. (fields_cmp-Equal x y).0) key row other (other_order (fields_cmp other key) (λ e. apart ((fields_cmp-Equal other key).0 e))) table.keyed
+    rows_other after ordered other apart =
+        rows_at after ordered other ∙ ap (λ b. cond b after (get fields_cmp table.keyed other)) (other_order (fields_cmp key other) (λ e. apart (sym ((fields_cmp-Equal key other).0 e))))
 
     rows_ordered : (after : Option (Fields A)) → IsOrdered fields_cmp table.keyed → IsOrdered fields_cmp (with_row table key after).keyed
     rows_ordered None ordered = ordered_take fields_cmp fields_cmp_total key table.keyed ordered
@@ -57,15 +60,10 @@ module _ {A : Type 0} where
 
   -- ---- all of them
 
-  -- what applying differences leaves
-  abbrev pub Left : Policy → ℕ → List ℕ → List Bool → TableState A → List (Difference A) → List (Requested A) → AppliedState A → Type 0
-  Left policy number name flags table ds asks state =
-      (left : AppliedState A) × (changes_applied policy number name flags asks state ≡ Ok left) × RowsAfter name table ds left.database
-      × OtherTables name state.database left.database × AllApplied ds state left
-
   module _ (policy : Policy) (name : List ℕ) (flags : List Bool) (f : Difference A → Requested A) (asks : (d : Difference A) → IsDifference flags d → AsksFor flags (f d) d.key d.before d.after) where
-    pub apply_all : (ds : List (Difference A)) (number : ℕ) (table : TableState A) (state : AppliedState A) → table_of state.database name ≡ Some table → table.schema ≡ flags →
-        IsOrdered fields_cmp table.keyed → HoldBefore flags table ds → Left policy number name flags table ds (map f ds) state
+    apply_all : (ds : List (Difference A)) (number : ℕ) (table : TableState A) (state : AppliedState A) → table_of state.database name ≡ Some table → table.schema ≡ flags →
+        IsOrdered fields_cmp table.keyed → HoldBefore flags table ds → (left : AppliedState A) × (changes_applied policy number name flags (map f ds) state ≡ Ok left)
+        × RowsAfter name table ds left.database × OtherTables name state.database left.database × AllApplied ds state left
     apply_all [] number table state there columns ordered hold =
         let none : state.report.applied ≡ state.report.applied + 0 = omega arith in (
           state,
@@ -87,7 +85,7 @@ module _ {A : Type 0} where
         let next = counted (with_row_in name table d.key d.before d.after state) in
         let after = with_row table d.key d.after in
         let one = captured_one policy number name flags (f d) state table d.key d.before d.after there columns hold.1 (asks d hold.0) in
-        let there_after : table_of next.database name ≡ Some after = get_put bytes_cmp name after (tied_itself nat_list_cmp_total name) state.database in
+        let there_after : table_of next.database name ≡ Some after = put-found state.database name after in
         let rest = apply_all ds (number + 1) after next there_after (same_columns table d.key d.after ∙ columns) (rows_ordered table d.key d.after ordered)
         (hold_still flags table after d.key ds (rows_other table d.key d.after ordered) hold.2 hold.3) in
         let rows = rest.2 in
@@ -97,7 +95,7 @@ module _ {A : Type 0} where
           record {
             found = rows.found;
             there = rows.there;
-            rows = (rows.other_rows d.key hold.2 ∙ rows_here table d.key d.after ordered, rows.rows);
+            rows = (rows.other_rows d.key hold.2 ∙ rows_at table d.key d.after ordered d.key ∙ ap (λ b. cond b d.after (get fields_cmp table.keyed d.key)) ((fields_eq_decides d.key d.key).1 refl), rows.rows);
             other_rows = λ key apart. rows.other_rows key apart.1 ∙ rows_other table d.key d.after ordered key apart.0;
             loose = rows.loose ∙ ap (λ (t : TableState A). t.loose) (same_rest table d.key d.after);
             columns = rows.columns ∙ same_columns table d.key d.after;
@@ -108,8 +106,67 @@ module _ {A : Type 0} where
           rest.4 ∙ ap (λ n. record state.report { applied = n }) more,
         )
 
-  pub changes_give : (policy : Policy) (number : ℕ) (name : List ℕ) (table : TableState A) (ds : List (Difference A)) (state : AppliedState A) → table_of state.database name ≡ Some table →
-      IsOrdered fields_cmp table.keyed → HoldBefore table.schema table ds → Left policy number name table.schema table ds (map (λ (d : Difference A). requested_by_change table.schema d.change) ds) state
-  changes_give policy number name table ds state there ordered hold =
-      apply_all policy name table.schema (λ (d : Difference A). requested_by_change table.schema d.change)
-      (λ d h. asks_by_change table.schema h.change.0 d.key d.before d.after d.change h.before h.after h.change.1) ds number table state there refl ordered hold
+  -- ---- of a changeset, of its patchset, and of the inverse
+
+  pub change_asks : (flags : List Bool) (d : Difference A) → IsDifference flags d → AsksFor flags (requested_by_change flags d.change) d.key d.before d.after
+  change_asks flags d h = asks_by_change flags h.change.0 d.key d.before d.after d.change h.before h.after h.change.1
+
+  -- a patchset has no old values that could differ
+  no_conflict : (flags : List Bool) (old : RecordFields A) (patch : Patch A) (before : Option (Fields A)) → conflict_of flags old patch before ≡ None → conflict_of flags [] patch before ≡ None
+  no_conflict flags old (patched.Insert indirect new) before e = e
+  no_conflict flags old patch None e = cc
+  no_conflict flags old patch (Some row) e = ap (λ b. cond b None (Some Data)) (no_old flags row)
+
+  pub patch_asks : (flags : List Bool) (d : Difference A) → IsDifference flags d → AsksFor flags (requested_by_patch flags (patch_of flags d.change)) d.key d.before d.after
+  patch_asks flags d h =
+      let asked = change_asks flags d h in
+      record { names = asked.names; met = no_conflict flags (old_record d.change) (patch_of flags d.change) d.before asked.met; leaves = asked.leaves }
+
+  module _ (policy : Policy) (f : List Bool → RowChange A → Requested A) (asks : (flags : List Bool) (d : Difference A) → IsDifference flags d → AsksFor flags (f flags d.change) d.key d.before d.after) where
+    pub rows_given : (number : ℕ) (name : List ℕ) (table : TableState A) (ds : List (Difference A)) (state : AppliedState A) → RowsBefore name table ds state.database
+        → GivesRowsNow policy number name table ds (map (λ (d : Difference A). f table.schema d.change) ds) state
+    rows_given number name table ds state before =
+        apply_all policy name table.schema (λ d. f table.schema d.change) (asks table.schema) ds number table state before.there refl before.ordered before.rows
+
+  module _ (flags : List Bool) where
+    apart_turned : (key : Fields A) (ds : List (Difference A)) → AreApart key ds → AreApart key (map (turned flags) ds)
+    apart_turned key [] apart = tt
+    apart_turned key (d ∷ ds) apart = (apart.0, apart_turned key ds apart.1)
+
+    apart_again : (key : Fields A) (ds : List (Difference A)) → AreApart key (map (turned flags) ds) → AreApart key ds
+    apart_again key [] apart = tt
+    apart_again key (d ∷ ds) apart = (apart.0, apart_again key ds apart.1)
+
+    hold_turned : (table found : TableState A) (ds : List (Difference A)) → HoldBefore flags table ds → HoldAfter found ds → HoldBefore flags found (map (turned flags) ds)
+    hold_turned table found [] hold rows = tt
+    hold_turned table found (d ∷ ds) hold rows = (turned_difference flags d hold.0, rows.0, apart_turned d.key ds hold.2, hold_turned table found ds hold.3 rows.1)
+
+  pub inverse_gives : (policy : Policy) (number : ℕ) (name : List ℕ) (table : TableState A) (ds : List (Difference A)) (state : AppliedState A) → RowsBefore name table ds state.database
+      → (left : AppliedState A) × (again : AppliedState A) × (changes_applied policy number name table.schema (requested_by_changes table.schema ds) state ≡ Ok left)
+      × (changes_applied policy number name table.schema (requested_by_inverses table.schema ds) left ≡ Ok again)
+      × RowsAfter name table (map (turned table.schema) ds) again.database × OtherTables name state.database again.database × AllApplied ds left again
+  inverse_gives policy number name table ds state before =
+      let flags = table.schema in
+      let asked = λ (d : Difference A). requested_by_change flags d.change in
+      let first = rows_given policy requested_by_change change_asks number name table ds state before in
+      let left = first.0 in
+      let rows = first.2 in
+      let back = apply_all policy name flags asked (change_asks flags) (map (turned flags) ds) number rows.found left rows.there rows.columns rows.ordered (hold_turned flags table rows.found ds before.rows rows.rows) in
+      let last = back.2 in (
+        left,
+        back.0,
+        first.1,
+        ap (λ asks. changes_applied policy number name flags asks left) (sym (map-map asked (turned flags) ds)) ∙ back.1,
+        record {
+          found = last.found;
+          there = last.there;
+          rows = last.rows;
+          other_rows = λ key apart. last.other_rows key apart ∙ rows.other_rows key (apart_again flags key ds apart);
+          loose = last.loose ∙ rows.loose;
+          columns = last.columns ∙ rows.columns;
+          next_id = last.next_id ∙ rows.next_id;
+          ordered = last.ordered;
+        },
+        λ other apart. back.3 other apart ∙ first.3 other apart,
+        back.4 ∙ ap (λ n. record left.report { applied = left.report.applied + n }) (length-map ds (turned flags)),
+      )

@@ -1,9 +1,6 @@
 pub mod CountLemmas
 pub mod FittingLemmas
-pub mod GivenLemmas
-pub mod OnceLemmas
 pub mod RunLemmas
-pub mod TransactionLemmas
 pub mod CaptureLemmas
 pub mod DifferenceLemmas
 pub mod BlobLemmas

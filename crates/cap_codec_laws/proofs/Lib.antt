@@ -1,4 +1,5 @@
 pub mod WrittenLemmas
 pub mod FaultBlobs
+pub mod FaultParts
 pub mod FaultFields
 pub mod FaultHeaders

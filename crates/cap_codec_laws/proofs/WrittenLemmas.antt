@@ -60,8 +60,8 @@ module _ {X : Type 0} (key_flags : KeyFlags) (kind : ℕ) (bytes : X → List �
   groups_written (group ∷ groups) is = put_group group.table group.schema group.changes _ _ (group_written group is.0) (groups_written groups is.1)
 
 all_kept : {X : Type 0} (has : X → Bool) (xs : List X) → AllByRecursion (λ x. IsTrue (has x)) xs → filter has xs ≡ xs
-all_kept {X = X} has [] each = refl
-all_kept {X = X} has (x ∷ xs) each = rw each.0 (ap (λ (others : List X). x ∷ others) (all_kept has xs each.1))
+all_kept has [] each = refl
+all_kept has (x ∷ xs) each = rw (each.0, all_kept has xs each.1) refl
 
 module _ {A : Type 0} where
   -- without groups it is a changeset
@@ -81,17 +81,11 @@ module _ {A : Type 0} where
 
   -- ---- no two blobs without empty groups have the same bytes
 
-  some_patches : (groups : List (TablePatches A)) → IsTrue (has_some groups) → of_patches groups ≡ Patches groups
-  some_patches [] some = absurd cc
-  some_patches (first ∷ others) some = refl
-
   nothing_left_out : (blob : Contents A) → HasNoEmptyGroup blob → with_some blob ≡ blob
-  nothing_left_out (Changes groups) each = ap Changes (all_kept (λ group. has_some group.changes) groups (recursion_from_All (λ group. IsTrue (has_some group.changes)) groups each))
-  nothing_left_out (Patches groups) each =
-      ap of_patches (all_kept (λ group. has_some group.changes) groups (recursion_from_All (λ group. IsTrue (has_some group.changes)) groups each.1)) ∙ some_patches groups each.0
+  nothing_left_out (Changes groups) each = rw (all_kept (λ group. has_some group.changes) groups (recursion_from_All _ groups each)) refl
+  nothing_left_out (Patches []) each = absurd cc
+  nothing_left_out (Patches (first ∷ others)) each = rw (all_kept (λ group. has_some group.changes) (first ∷ others) (recursion_from_All _ (first ∷ others) each.1)) refl
 
   pub one_blob : (a b : Contents A) → IsWritable a → IsWritable b → HasNoEmptyGroup a → HasNoEmptyGroup b → blob_bytes a ≡ blob_bytes b → a ≡ b
   one_blob a b of_a of_b whole_a whole_b same =
-      let first : blob_at (blob_bytes a) ≡ Ok a = written_again Ones a of_a ∙ ap (λ (x : Contents A). Ok x) (nothing_left_out a whole_a) in
-      let second : blob_at (blob_bytes b) ≡ Ok b = written_again Ones b of_b ∙ ap (λ (x : Contents A). Ok x) (nothing_left_out b whole_b) in
-      ok_is a b (sym first ∙ ap blob_at same ∙ second)
+      sym (nothing_left_out a whole_a) ∙ ok_is _ _ (sym (written_again Ones a of_a) ∙ ap blob_at same ∙ written_again Ones b of_b) ∙ nothing_left_out b whole_b

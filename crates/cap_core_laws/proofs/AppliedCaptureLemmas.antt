@@ -1,10 +1,9 @@
 -- A capture that is applied to a database with the first images gives main's rows.
-use Rattle.std.proofs.Common.{◌≡◌, ℕ, ◌+◌, Bool, true, false, cond, Option, Some, None, List, [], ◌∷◌, map, length, refl, sym, ap, ap₂, subst, ◌∙◌, arith, nat_eq, Less}
-use Rattle.std.specs.Prelude.{filter, not, option_and_then}
+use Rattle.std.proofs.Common.{◌≡◌, ℕ, ◌+◌, Bool, true, false, cond, Option, Some, None, List, [], ◌∷◌, map, length, refl, sym, ap, ap₂, subst, ◌∙◌, arith}
+use Rattle.std.specs.Prelude.{filter, is_some, not, option_and_then}
 use Rattle.std.specs.Option.{option_map}
 use Rattle.std.specs.List.{AllByRecursion, cons_option, filter_map}
 use Rattle.std.specs.List.Sorted.{IsStrictlySortedBy}
-use Rattle.std.specs.Map.{keys_of}
 use Rattle.std.specs.Ordering.{eq_by_cmp, is_eq}
 use Rattle.std.specs.Cmp.Lexicographic.{bytes_decides}
 use Rattle.std.proofs.lemmas.Bool.{cond_both}
@@ -17,16 +16,16 @@ use Rattle.cap_row.specs.Key.{fields_cmp, fields_cmp-Equal}
 use Rattle.cap_changes.specs.Change.{change_of}
 use Rattle.cap_changes.specs.Group.{TableChanges}
 use Rattle.cap_changes.specs.declared.row_change.RowChange.{RowChange}
+use Rattle.cap_tree.proofs.EntryLemmas.{get-below}
 use Rattle.cap_tree.specs.Tree.{IsOrdered, get}
-use Rattle.cap_table.specs.Sound.{IsRising, is_keyed_row}
+use Rattle.cap_table.proofs.BackLemmas.{found-own}
+use Rattle.cap_table.specs.Sound.{IsRising}
 use Rattle.cap_table.specs.Table.{TableState}
 use Rattle.cap_database.specs.Read.{row_at}
 use Rattle.cap_database.specs.Tables.{AreRising, Tables, schema_of, table_of}
-use Rattle.cap_changes.specs.Patch.{patch_list_of}
 use Rattle.cap_codec.specs.Writable.{has_some}
-use Rattle.cap_database.proofs.KeptLemmas.{each-found}
+pub use Rattle.cap_apply.proofs.OrderLemmas.{found-rises as found-rising}
 use Rattle.cap_codec.specs.declared.read.Contents.{Contents}
-use Rattle.cap_codec.specs.declared.read.Contents.TheVariants.{Changes, Patches}
 use Rattle.cap_apply.specs.Captured.{AllAfter, AllBefore, AllDiffer, AreOthers, GivesAllRowsNow, TableRows, changes_of as group_of_rows, total}
 use Rattle.cap_apply.specs.declared.policy.Policy.{Policy}
 use Rattle.cap_apply.specs.Fitting.{FitsItsColumns}
@@ -38,7 +37,6 @@ use Rattle.cap_core.specs.declared.reply.Reply.TheVariants.{Capture as Captured}
 use Rattle.cap_core.specs.Capture.{CaptureState, change_now, changes_of, group_of, session_changes, table_changes}
 use Rattle.cap_core.specs.Answer.{capture_after}
 use Rattle.cap_core.specs.AppliedCapture.{AppliesWhole, GivesRows, HoldsImages, but_keyed, changes_in}
-use Rattle.cap_core.specs.Flags.{is_dropped, sessions_made}
 use Rattle.cap_core.specs.History.{main, version}
 use Rattle.cap_core.specs.Past.{Past}
 use Rattle.cap_core.specs.Session.{session_of}
@@ -46,26 +44,15 @@ use Rattle.cap_core.specs.Touch.{attach_list, attachings, first_of_each, touches
 use Rattle.cap_core.proofs.HistoryLemmas.{is_among, same_bytes, table_names}
 use Rattle.cap_core.proofs.KeyedLemmas.{ordered}
 use Rattle.cap_core.proofs.LawLemmas.{no_changes, truth}
-use Rattle.cap_core.proofs.NumberLemmas.{lookup-passing}
 use Rattle.cap_core.proofs.SessionLemmas.{kept}
-use Rattle.cap_core.proofs.SoundLemmas.{found-passes, is_keyed_row-key_of, is_keyed_row-wide}
+use Rattle.cap_core_laws.proofs.EmptyLemmas.{found-live, lookup-listed}
 use Rattle.cap_core.proofs.TouchedLemmas.{fields_same, is_sorted-records_of, tied}
 
--- ---- what is found among tables
-
 module _ {A : Type 0} where
-  pub found-rising : (tables : Tables A) (name : List ℕ) (table : TableState A) → AllByRecursion (λ named. IsRising named.1) tables → table_of tables name ≡ Some table → IsRising table
-  found-rising tables name table all found = each-found IsRising tables name table all found
-
   -- a row that is found is a row of its table
   under : (table : TableState A) → IsRising table → (key : Fields A) (row : Option (Fields A)) → get fields_cmp table.keyed key ≡ row → IsUnder table.schema key row
   under table rising key None found = tt
-  under table rising key (Some row) found =
-      let stands = found-passes fields_cmp (λ entry. is_keyed_row table.schema entry.0 entry.1) fields_same table.keyed key row rising.sound.keyed found in
-      (is_keyed_row-wide table.schema key row stands, is_keyed_row-key_of table.schema key row stands)
-
-  under-same : (flags schema : List Bool) (key : Fields A) (row : Option (Fields A)) → flags ≡ schema → IsUnder flags key row → IsUnder schema key row
-  under-same flags schema key row same is = subst (λ s. IsUnder s key row) same is
+  under table rising key (Some row) found = found-own table key row rising found
 
   -- where there is no change, the row is the image
   unchanged : (flags : List Bool) (indirect : Bool) (image now : Option (Fields A)) → change_of flags indirect image now ≡ None → image ≡ now
@@ -87,36 +74,32 @@ module _ {A : Type 0} (database now : TableState A) where
   changes-are [] = refl
   changes-are (touched ∷ records) = grind (arith, changes-are records)
 
-  -- a key that was not touched is apart from all differences
-  apart-one : (key : Fields A) (touched : Fields A × Record A) (change : Option (RowChange A)) (ds : List (Difference A)) → eq_by_cmp fields_cmp key touched.0 ≡ false → AreApart key ds
+  -- ---- where keys rise
+
+  after-head : (touched : Fields A × Record A) (records : Records A) → IsOrdered fields_cmp (touched ∷ records) → IsOrdered fields_cmp records
+  unfolding IsStrictlySortedBy
+  after-head touched records s = s.1
+
+  not-later : (touched : Fields A × Record A) (records : Records A) → IsOrdered fields_cmp (touched ∷ records) → get fields_cmp records touched.0 ≡ None
+  unfolding IsStrictlySortedBy
+  not-later touched records s = get-below fields_cmp touched.0 records s.0
+
+  apart-one : (key : Fields A) (touched : Fields A × Record A) (change : Option (RowChange A)) (ds : List (Difference A)) → (eq_by_cmp fields_cmp key touched.0 ≡ true → change ≡ None) → AreApart key ds
       → AreApart key (cons_option (difference_at touched change) ds)
-  apart-one key touched None ds apart others = others
-  apart-one key touched (Some change) ds apart others =
-      (λ same. let e : true ≡ false = sym (ap is_eq ((fields_cmp-Equal key touched.0).1 same)) ∙ apart in cc, others)
+  apart-one key touched None ds none others = others
+  apart-one key touched (Some change) ds none others = ((λ same. let e : Some change ≡ None = none (ap is_eq ((fields_cmp-Equal key touched.0).1 same)) in cc), others)
 
-  pub apart-untouched : (records : Records A) (key : Fields A) → get fields_cmp records key ≡ None → AreApart key (differences records)
-  apart-untouched [] key none = tt
-  apart-untouched (touched ∷ records) key none =
-      elim (eq_by_cmp fields_cmp key touched.0) as (λ b. eq_by_cmp fields_cmp key touched.0 ≡ b → cond b (Some touched.1) (get fields_cmp records key) ≡ None → AreApart key (cons_option (difference_at touched (change_now now touched)) (differences records))) [
-        | true ↦ λ _ is. cc
-        | false ↦ λ apart is. apart-one key touched (change_now now touched) (differences records) apart (apart-untouched records key is)
-      ] refl none
+  -- a key that was not touched, or whose row does not differ, is apart from all differences
+  pub apart-where : (records : Records A) (key : Fields A) → IsOrdered fields_cmp records → option_and_then (λ kept. change_now now (key, kept)) (get fields_cmp records key) ≡ None → AreApart key (differences records)
+  apart-where [] key s none = tt
+  apart-where (touched ∷ records) key s none =
+      let here = tied fields_cmp key touched.0 fields_same in
+      let later : option_and_then (λ kept. change_now now (key, kept)) (get fields_cmp records key) ≡ None = grind (arith, here, not-later touched records s) in
+      apart-one key touched (change_now now touched) (differences records) (λ same. grind (arith, here)) (apart-where records key (after-head touched records s) later)
 
-  -- ---- where keys rise, and the two tables stand
+  -- ---- where the two tables stand
 
   module _ (same : database.schema ≡ now.schema) (first : IsRising database) (last : IsRising now) where
-    after-head : (touched : Fields A × Record A) (records : Records A) → IsOrdered fields_cmp (touched ∷ records) → IsOrdered fields_cmp records
-    unfolding IsStrictlySortedBy
-    after-head touched records s = s.1
-
-    above : (x : Fields A) (records : Records A) → AllByRecursion (λ y. fields_cmp x y ≡ Less) (keys_of records) → get fields_cmp records x ≡ None
-    above x [] all = refl
-    above x (touched ∷ records) all = grind (arith, all.0, above x records all.1)
-
-    not-later : (touched : Fields A × Record A) (records : Records A) → IsOrdered fields_cmp (touched ∷ records) → get fields_cmp records touched.0 ≡ None
-    unfolding IsStrictlySortedBy
-    not-later touched records s = above touched.0 records s.0
-
     -- the first image of each touched key is in the table
     abbrev Images : Records A → Type 0
     Images records = (key : Fields A) (kept : Record A) → get fields_cmp records key ≡ Some kept → get fields_cmp database.keyed key ≡ kept.image
@@ -134,11 +117,11 @@ module _ {A : Type 0} (database now : TableState A) where
         let image = image-first touched records images in (
           record {
             before = under database first touched.0 touched.1.image image;
-            after = under-same now.schema database.schema touched.0 (get fields_cmp now.keyed touched.0) (sym same) (under now last touched.0 (get fields_cmp now.keyed touched.0) refl);
+            after = subst (λ s. IsUnder s touched.0 (get fields_cmp now.keyed touched.0)) (sym same) (under now last touched.0 (get fields_cmp now.keyed touched.0) refl);
             change = (touched.1.indirect, ap (λ schema. change_of schema touched.1.indirect touched.1.image (get fields_cmp now.keyed touched.0)) same ∙ is);
           },
           image,
-          apart-untouched records touched.0 (not-later touched records s),
+          apart-where records touched.0 (after-head touched records s) (ap (option_and_then (λ kept. change_now now (touched.0, kept))) (not-later touched records s)),
           rest,
         )
 
@@ -150,46 +133,27 @@ module _ {A : Type 0} (database now : TableState A) where
     -- ---- what is left, by the differences
 
     module _ (found : TableState A) where
-      after-one : (touched : Fields A × Record A) (change : Option (RowChange A)) (ds : List (Difference A)) → HoldAfter found (cons_option (difference_at touched change) ds) → HoldAfter found ds
-      after-one touched None ds after = after
-      after-one touched (Some change) ds after = after.1
-
-      after-here : (touched : Fields A × Record A) (change : RowChange A) (change_is : Option (RowChange A)) → change_is ≡ Some change → (ds : List (Difference A))
-          → HoldAfter found (cons_option (difference_at touched change_is) ds) → get fields_cmp found.keyed touched.0 ≡ get fields_cmp now.keyed touched.0
-      after-here touched change None is ds after = cc
-      after-here touched change (Some other) is ds after = after.0
+      after-parts : (touched : Fields A × Record A) (change : Option (RowChange A)) (ds : List (Difference A)) → HoldAfter found (cons_option (difference_at touched change) ds)
+          → (is_some change ≡ true → get fields_cmp found.keyed touched.0 ≡ get fields_cmp now.keyed touched.0) × HoldAfter found ds
+      after-parts touched None ds after = (λ some. cc, after)
+      after-parts touched (Some change) ds after = (λ some. after.0, after.1)
 
       -- a key whose row differs
-      after-changed : (records : Records A) (key : Fields A) (kept : Record A) (change : RowChange A) → get fields_cmp records key ≡ Some kept → change_now now (key, kept) ≡ Some change
+      after-changed : (records : Records A) (key : Fields A) (kept : Record A) → get fields_cmp records key ≡ Some kept → is_some (change_now now (key, kept)) ≡ true
           → HoldAfter found (differences records) → get fields_cmp found.keyed key ≡ get fields_cmp now.keyed key
-      after-changed [] key kept change at is after = cc
-      after-changed (touched ∷ records) key kept change at is after =
-          let later = λ (e : get fields_cmp records key ≡ Some kept). after-changed records key kept change e is (after-one touched (change_now now touched) (differences records) after) in
-          let here = λ (e : change_now now touched ≡ Some change). after-here touched change (change_now now touched) e (differences records) after in
-          grind (arith, tied fields_cmp key touched.0 fields_same)
-
-      -- a key that was touched, and whose row does not differ
-      apart-unchanged : (records : Records A) (key : Fields A) (kept : Record A) → IsOrdered fields_cmp records → get fields_cmp records key ≡ Some kept → change_now now (key, kept) ≡ None → AreApart key (differences records)
-      apart-unchanged [] key kept s at none = tt
-      apart-unchanged (touched ∷ records) key kept s at none =
-          elim (eq_by_cmp fields_cmp key touched.0) as (λ b. eq_by_cmp fields_cmp key touched.0 ≡ b → AreApart key (cons_option (difference_at touched (change_now now touched)) (differences records))) [
-            | true ↦ λ same_key.
-                let keys : key ≡ touched.0 = tied fields_cmp key touched.0 fields_same same_key in
-                let nothing : change_now now touched ≡ None = grind arith in
-                subst (λ c. AreApart key (cons_option (difference_at touched c) (differences records))) (sym nothing)
-                (subst (λ k. AreApart k (differences records)) (sym keys) (apart-untouched records touched.0 (not-later touched records s)))
-            | false ↦ λ apart.
-                let later : get fields_cmp records key ≡ Some kept = grind arith in
-                apart-one key touched (change_now now touched) (differences records) apart (apart-unchanged records key kept (after-head touched records s) later none)
-          ] refl
+      after-changed [] key kept at some after = cc
+      after-changed (touched ∷ records) key kept at some after =
+          let parts = after-parts touched (change_now now touched) (differences records) after in
+          let later = λ (e : get fields_cmp records key ≡ Some kept). after-changed records key kept e some parts.1 in
+          grind (arith, tied fields_cmp key touched.0 fields_same, parts.0)
 
       pub rows-touched : (records : Records A) → IsOrdered fields_cmp records → Images records → HoldAfter found (differences records)
           → ((key : Fields A) → AreApart key (differences records) → get fields_cmp found.keyed key ≡ get fields_cmp database.keyed key)
           → (key : Fields A) (kept : Record A) → get fields_cmp records key ≡ Some kept → get fields_cmp found.keyed key ≡ get fields_cmp now.keyed key
       rows-touched records s images after others key kept at =
           let same = unchanged now.schema kept.indirect kept.image (get fields_cmp now.keyed key) in
-          let apart = λ (none : change_now now (key, kept) ≡ None). others key (apart-unchanged records key kept s at none) in
-          let changed = λ (change : RowChange A) (is : change_now now (key, kept) ≡ Some change). after-changed records key kept change at is after in
+          let apart = λ (none : change_now now (key, kept) ≡ None). others key (apart-where records key s (ap (option_and_then (λ kept. change_now now (key, kept))) at ∙ none)) in
+          let changed = λ (some : is_some (change_now now (key, kept)) ≡ true). after-changed records key kept at some after in
           grind (arith, images key kept)
 
 -- ---- all tables
@@ -225,9 +189,7 @@ module _ {A : Type 0} where
   same_but_keyed found table loose columns next = λ i. record { schema = columns i; keyed = []; loose = loose i; next_id = next i }
 
   pub some-changes : (name : List ℕ) (schema : List Bool) (change : RowChange A) (changes : List (RowChange A)) → group_of name schema (change ∷ changes) ≡ Some (record { table = name; schema = schema; changes = change ∷ changes })
-  some-changes name schema change changes =
-      let some : nat_eq (length (change ∷ changes)) 0 ≡ false = grind (arith, nat_tests) in
-      ap (λ b. cond b None (Some (record { table = name; schema = schema; changes = change ∷ changes }))) some
+  some-changes name schema change changes = grind (arith, nat_tests)
 
   -- the names of attached tables
   abbrev pub names_of : AttachedTables A → List (List ℕ)
@@ -242,8 +204,7 @@ module _ {A : Type 0} where
   no-items (d ∷ ds) none = cc
 
   some-items : (ds : List (Difference A)) (change : RowChange A) (changes : List (RowChange A)) → map (λ (d : Difference A). d.change) ds ≡ change ∷ changes → has_some ds ≡ true
-  some-items [] change changes is = cc
-  some-items (d ∷ ds) change changes is = refl
+  some-items ds change changes is = grind arith
 
   pub total-is : (plan : List (TableRows A)) → total plan ≡ changes_in (map group_of_rows plan)
   total-is [] = refl
@@ -296,7 +257,7 @@ module _ {A : Type 0} (database main : Tables A) (rise : AreRising database) (ma
             ∙ ap (option_and_then (λ t. get fields_cmp t.keyed key)) (sym now);
         rest = λ key none.
             ap (option_and_then (λ t. get fields_cmp t.keyed key)) at
-            ∙ others key (apart-untouched first last records key none)
+            ∙ others key (apart-where first last records key holds.sorted (ap (option_and_then (λ kept. change_now last (key, kept))) none))
             ∙ ap (option_and_then (λ t. get fields_cmp t.keyed key)) (sym there);
         others = ap (option_map but_keyed) at ∙ ap Some bare ∙ ap (option_map but_keyed) (sym there);
       }
@@ -309,11 +270,8 @@ module _ {A : Type 0} (database main : Tables A) (rise : AreRising database) (ma
   found-here : (attached : List ℕ × Records A) (tables : AttachedTables A) → attached_records (attached ∷ tables) attached.0 ≡ Some attached.1
   found-here attached tables = ap (λ b. cond b (Some attached.1) (attached_records tables attached.0)) (same_bytes attached.0)
 
-  absent-here : (attached : List ℕ × Records A) (tables : AttachedTables A) (other : List ℕ) → attached_records (attached ∷ tables) other ≡ None → (bytes_eq other attached.0 ≡ false) × (attached_records tables other ≡ None)
-  absent-here attached tables other none = (grind arith, grind arith)
-
-  apart_names : (other name : List ℕ) → bytes_eq other name ≡ false → other ≡ name → ⊥
-  apart_names other name apart same = let e : true ≡ false = sym (same_bytes name) ∙ ap (λ n. bytes_eq n name) (sym same) ∙ apart in cc
+  absent-here : (attached : List ℕ × Records A) (tables : AttachedTables A) (other : List ℕ) → attached_records (attached ∷ tables) other ≡ None → (other ≡ attached.0 → ⊥) × (attached_records tables other ≡ None)
+  absent-here attached tables other none = ((λ same. let e : true ≡ false = grind (arith, (bytes_decides other attached.0).1 same) in cc), grind arith)
 
   -- what is so of the first attached table, and of each one after it, is so of each
   each-attached : (attached : List ℕ × Records A) (tables : AttachedTables A) (P : List ℕ → Records A → Type 0) → P attached.0 attached.1 → ((name : List ℕ) (records : Records A) → attached_records tables name ≡ Some records → P name records)
@@ -366,7 +324,7 @@ module _ {A : Type 0} (database main : Tables A) (rise : AreRising database) (ma
           rest.before,
         );
         differ = (some-items ds change changes (changes-are first last attached.1 ∙ some), rest.differ);
-        names = λ other absent. let parts = absent-here attached tables other absent in (apart_names other attached.0 parts.0, rest.names other parts.1);
+        names = λ other absent. let parts = absent-here attached tables other absent in (parts.0, rest.names other parts.1);
         after = λ left after others. let rows = after.0 in
             each-attached attached tables (λ name records. TableGives name records left)
             (gives-found attached.0 attached.1 first last rows.found left holds there now same rows.there rows.rows rows.other_rows (same_but_keyed rows.found first rows.loose rows.columns rows.next_id))
@@ -437,39 +395,29 @@ module _ {A : Type 0} where
       subst AreDistinct (sym (names-named (kept past number) (attach_list number past))) (first_of_each-distinct (table_names (attachings number past)))
 
   pub records-named : (records : List ℕ → Records A) (names : List (List ℕ)) (name : List ℕ) (found : Records A) → attached_records (map (λ n. (n, records n)) names) name ≡ Some found → found ≡ records name
-  records-named records [] name found is = cc
-  records-named records (n ∷ names) name found is = grind (arith, (bytes_decides name n).0, records-named records names name found)
+  records-named records names name found is = grind (arith, lookup-listed bytes_eq (λ a b. (bytes_decides a b).0) records name names)
 
   pub session-sorted : (past : Past A) (number : ℕ) (name : List ℕ) (records : Records A) → attached_records (session_of past number).tables name ≡ Some records → IsOrdered fields_cmp records
   session-sorted past number name records at =
       subst (IsOrdered fields_cmp) (sym (records-named (kept past number) (attach_list number past) name records at))
       (ordered fields_cmp (kept past number name) (truth _ (is_sorted-records_of (touches_of name (touches number past)))))
 
-  abbrev capture_of : Past A → SessionState A → CaptureState A
-  capture_of past session = record { version = version past; changes = session_changes (main past) session }
+  -- a capture has the session's changes and the version of the tables
+  taken : (past : Past A) (number : ℕ) (capture : CaptureState A) → capture_after past number ≡ Captured capture → capture ≡ record { version = version past; changes = session_changes (main past) (session_of past number) }
+  taken past number capture is = grind (arith, found-live past number)
 
-  -- a capture is that of the session
-  taken : (past : Past A) (number : ℕ) (capture : CaptureState A) → capture_after past number ≡ Captured capture → capture ≡ capture_of past (session_of past number)
-  taken past number capture is = grind (arith, lookup-passing (λ k. not (is_dropped past k)) (session_of past) 1 (sessions_made past) number)
-
-  -- it has the session's changes
   pub captured : (past : Past A) (number : ℕ) (capture : CaptureState A) → capture_after past number ≡ Captured capture
       → capture.changes ≡ session_changes (main past) (session_of past number)
   captured past number capture is = ap (λ (c : CaptureState A). c.changes) (taken past number capture is)
 
-  -- and the version of the tables
   pub captured-at : (past : Past A) (number : ℕ) (capture : CaptureState A) → capture_after past number ≡ Captured capture → capture.version ≡ version past
   captured-at past number capture is = ap (λ (c : CaptureState A). c.version) (taken past number capture is)
-
-  -- what is applied as differences of tables
-  abbrev Gives : Policy → List (TableRows A) → Contents A → Tables A → Type 0
-  Gives policy plan blob database = GivesAllRowsNow policy plan blob database
 
   module _ (past : Past A) (number : ℕ) (database : Tables A) (rise : AreRising database) (main_rise : AreRising (main past)) (holds : HoldsImages database (main past) (session_of past number).tables) where
     abbrev planned_capture : Plan database (main past) rise main_rise (session_of past number).tables
     planned_capture = session-plan database (main past) rise main_rise (session_of past number).tables (session-distinct past number) (session-sorted past number) holds
 
-    whole : (policy : Policy) (blob : Contents A) (list : List (TableChanges A)) → list ≡ session_changes (main past) (session_of past number) → Gives policy planned_capture.plan blob database
+    whole : (policy : Policy) (blob : Contents A) (list : List (TableChanges A)) → list ≡ session_changes (main past) (session_of past number) → GivesAllRowsNow policy planned_capture.plan blob database
         → AppliesWhole policy blob (changes_in list) database (main past) (session_of past number).tables
     whole policy blob list is gives = (
       gives.0,
@@ -485,7 +433,7 @@ module _ {A : Type 0} where
         → AppliesWhole policy (blob_of list) (changes_in list) database (main past) (session_of past number).tables
     changes_apply blob_of law policy list told =
         whole policy (blob_of list) list told
-        (subst (λ l. Gives policy planned_capture.plan (blob_of l) database) (planned_capture.is ∙ sym told) (law policy planned_capture.plan database planned_capture.before))
+        (subst (λ l. GivesAllRowsNow policy planned_capture.plan (blob_of l) database) (planned_capture.is ∙ sym told) (law policy planned_capture.plan database planned_capture.before))
 
     -- and they fit the tables
     pub capture_fits : (blob_of : List (TableChanges A) → Contents A)
@@ -494,12 +442,8 @@ module _ {A : Type 0} where
     capture_fits blob_of law =
         subst (λ l. FitsItsColumns (blob_of l)) planned_capture.is (law planned_capture.plan database planned_capture.before planned_capture.differ)
 
-    pub changeset_applies : ((policy : Policy) (ts : List (TableRows A)) (tables : Tables A) → AllBefore ts tables → GivesAllRowsNow policy ts (Changes (map group_of_rows ts)) tables)
+    pub capture_applies : (blob_of : List (TableChanges A) → Contents A)
+        → ((policy : Policy) (ts : List (TableRows A)) (tables : Tables A) → AllBefore ts tables → GivesAllRowsNow policy ts (blob_of (map group_of_rows ts)) tables)
         → (policy : Policy) (capture : CaptureState A) → capture_after past number ≡ Captured capture
-        → AppliesWhole policy (Changes capture.changes) (changes_in capture.changes) database (main past) (session_of past number).tables
-    changeset_applies law policy capture is = changes_apply Changes law policy capture.changes (captured past number capture is)
-
-    pub patchset_applies : ((policy : Policy) (ts : List (TableRows A)) (tables : Tables A) → AllBefore ts tables → GivesAllRowsNow policy ts (Patches (patch_list_of (map group_of_rows ts))) tables)
-        → (policy : Policy) (capture : CaptureState A) → capture_after past number ≡ Captured capture
-        → AppliesWhole policy (Patches (patch_list_of capture.changes)) (changes_in capture.changes) database (main past) (session_of past number).tables
-    patchset_applies law policy capture is = changes_apply (λ l. Patches (patch_list_of l)) law policy capture.changes (captured past number capture is)
+        → AppliesWhole policy (blob_of capture.changes) (changes_in capture.changes) database (main past) (session_of past number).tables
+    capture_applies blob_of law policy capture is = changes_apply blob_of law policy capture.changes (captured past number capture is)

@@ -1,18 +1,16 @@
 -- The bytes of a capture are read as its changes, and what is read is applied as they are.
-use Rattle.std.proofs.Common.{◌≡◌, ℕ, Bool, true, false, Result, Ok, List, [], ◌∷◌, map, refl, sym, ap, subst, ◌∙◌, arith}
-use Rattle.std.specs.Prelude.{All, IfSome, filter}
-use Rattle.std.specs.List.{AllByRecursion, list_all}
+use Rattle.std.proofs.Common.{◌≡◌, ℕ, Bool, true, false, Result, Ok, List, [], ◌∷◌, map, refl, ap, ◌∙◌, arith}
+use Rattle.std.specs.Prelude.{All, filter}
+use Rattle.std.specs.List.{list_all}
 use Rattle.std.proofs.lemmas.Bool.Decides.{nat_tests}
-use Rattle.std.proofs.lemmas.List.Elements.{All-from_recursion, All-head, All-map, All-tail, All-weaker, recursion_from_All}
-use Rattle.cap_value.specs.Value.{IsValue}
-use Rattle.cap_changes.specs.FieldRecord.{RecordFields}
+use Rattle.std.proofs.lemmas.List.Elements.{All-head, All-map, All-tail, All-weaker}
 use Rattle.cap_changes.specs.Fits.{change_fits, patch_fits}
 use Rattle.cap_changes.specs.Group.{TableChanges}
 use Rattle.cap_changes.specs.PatchGroup.{TablePatches}
-use Rattle.cap_changes.specs.Patch.{key_record, patch_list_of, patch_of, patches_of, update_record}
+use Rattle.cap_changes.specs.Patch.{patch_list_of, patch_of, patches_of}
 use Rattle.cap_changes.specs.declared.row_change.RowChange.{RowChange}
-use Rattle.cap_changes.specs.declared.row_change.RowChange.TheVariants.{Delete, Insert, Update}
 use Rattle.cap_changes.proofs.PatchLemmas.{patch_of-fits}
+use Rattle.cap_changes.proofs.ValueLemmas.{patch_values}
 use Rattle.cap_codec.specs.BlobReading.{blob_at}
 use Rattle.cap_codec.specs.Changeset.{list_bytes_with}
 use Rattle.cap_codec.specs.Patchset.{patch_list_bytes_with}
@@ -20,7 +18,7 @@ use Rattle.cap_field.specs.declared.fault.BlobFault.{BlobFault}
 use Rattle.cap_codec.specs.declared.key_flags.KeyFlags.{KeyFlags}
 use Rattle.cap_codec.specs.declared.read.Contents.{Contents}
 use Rattle.cap_codec.specs.declared.read.Contents.TheVariants.{Changes, Patches}
-use Rattle.cap_changes.specs.HasValues.{AreValues, HasValues, PatchHasValues}
+use Rattle.cap_changes.specs.HasValues.{HasValues, PatchHasValues}
 use Rattle.cap_codec.specs.Writable.{HasNoEmptyGroup, IsGroup, IsPatchGroup, IsWritable, blob_bytes_with, has_some, of_patches, with_some}
 use Rattle.cap_session.specs.Session.{AttachedTables}
 use Rattle.cap_apply.specs.Apply.{apply}
@@ -56,8 +54,7 @@ module _ {A : Type 0} where
       (ap (list_all (λ (group : TableChanges A). has_some group.changes)) (captured past session capture is) ∙ each-some (main past) (session_of past session).tables)
 
   some-patches : (flags : List Bool) (changes : List (RowChange A)) → has_some changes ≡ true → has_some (map (patch_of flags) changes) ≡ true
-  some-patches flags [] some = some
-  some-patches flags (change ∷ changes) some = refl
+  some-patches flags changes some = grind arith
 
   each-some-patches : (list : List (TableChanges A)) → HasNoEmptyGroup (Changes list) → All (λ group. has_some group.changes ≡ true) (patch_list_of list)
   each-some-patches list all = each-mapped (λ group. has_some group.changes ≡ true) (λ group. has_some group.changes ≡ true) patches_of (λ group. some-patches group.schema group.changes) list all
@@ -71,38 +68,11 @@ module _ {A : Type 0} where
 
   -- ---- the patches of changes that can be written
 
-  abbrev Each : RecordFields A → Type 0
-  Each fields = AllByRecursion (λ field. IfSome field IsValue) fields
-
-  each-key : (flags : List Bool) (old : RecordFields A) → Each old → Each (key_record flags old)
-  each-key [] old all = tt
-  each-key (flag ∷ flags) [] all = tt
-  each-key (true ∷ flags) (field ∷ old) all = (all.0, each-key flags old all.1)
-  each-key (false ∷ flags) (field ∷ old) all = (tt, each-key flags old all.1)
-
-  each-update : (flags : List Bool) (old new : RecordFields A) → Each old → Each new → Each (update_record flags old new)
-  each-update [] old new all more = tt
-  each-update (flag ∷ flags) [] new all more = tt
-  each-update (flag ∷ flags) (before ∷ old) [] all more = tt
-  each-update (true ∷ flags) (before ∷ old) (after ∷ new) all more = (all.0, each-update flags old new all.1 more.1)
-  each-update (false ∷ flags) (before ∷ old) (after ∷ new) all more = (more.0, each-update flags old new all.1 more.1)
-
-  abbrev from : (fields : RecordFields A) → AreValues fields → Each fields
-  from fields all = recursion_from_All (λ field. IfSome field IsValue) fields all
-
-  abbrev back : (fields : RecordFields A) → Each fields → AreValues fields
-  back fields all = All-from_recursion (λ field. IfSome field IsValue) fields all
-
-  patch-values : (flags : List Bool) (change : RowChange A) → HasValues change → PatchHasValues (patch_of flags change)
-  patch-values flags (Insert indirect new) has = has
-  patch-values flags (Update indirect old new) has = back (update_record flags old new) (each-update flags old new (from old has.0) (from new has.1))
-  patch-values flags (Delete indirect old) has = back (key_record flags old) (each-key flags old (from old has))
-
   group-patches : (group : TableChanges A) → IsGroup group → IsPatchGroup (patches_of group)
   group-patches group is = record {
     table = is.table;
     fit = each-mapped (λ change. change_fits group.schema change ≡ true) (λ patch. patch_fits group.schema patch ≡ true) (patch_of group.schema) (patch_of-fits group.schema) group.changes is.fit;
-    values = each-mapped HasValues PatchHasValues (patch_of group.schema) (patch-values group.schema) group.changes is.values;
+    values = each-mapped HasValues PatchHasValues (patch_of group.schema) (patch_values group.schema) group.changes is.values;
   }
 
   pub patches-writable : (list : List (TableChanges A)) → IsWritable (Changes list) → IsWritable (Patches (patch_list_of list))
@@ -110,30 +80,22 @@ module _ {A : Type 0} where
 
   -- ---- what is read
 
-  pub one-blob : (read : Result (Contents A) BlobFault) (told blob : Contents A) → read ≡ Ok told → read ≡ Ok blob → told ≡ blob
-  one-blob read told blob is also = cc
-
-  abbrev read_as : Contents A → Result (Contents A) BlobFault
-  read_as blob = Ok blob
-
   module _ (alike : (key_flags : KeyFlags) (blob : Contents A) → IsWritable blob → blob_at (blob_bytes_with key_flags blob) ≡ Ok (with_some blob)) where
     pub changes-read : (key_flags : KeyFlags) (list : List (TableChanges A)) → HasNoEmptyGroup (Changes list) → IsWritable (Changes list) → blob_at (list_bytes_with key_flags list) ≡ Ok (Changes list)
-    changes-read key_flags list some writable = alike key_flags (Changes list) writable ∙ ap read_as (with-some-changes list some)
+    changes-read key_flags list some writable = alike key_flags (Changes list) writable ∙ ap (λ blob. Ok blob) (with-some-changes list some)
 
     pub patches-read : (key_flags : KeyFlags) (list : List (TableChanges A)) → HasNoEmptyGroup (Changes list) → IsWritable (Changes list)
         → blob_at (patch_list_bytes_with key_flags (patch_list_of list)) ≡ Ok (of_patches (patch_list_of list))
-    patches-read key_flags list some writable = alike key_flags (Patches (patch_list_of list)) (patches-writable list writable) ∙ ap read_as (with-some-patches list some)
+    patches-read key_flags list some writable = alike key_flags (Patches (patch_list_of list)) (patches-writable list writable) ∙ ap (λ blob. Ok blob) (with-some-patches list some)
 
   -- an empty patchset is applied as an empty changeset is
-  of_patches-applies : (database : Tables A) (policy : Policy) (patches : List (TablePatches A)) → apply database (of_patches patches) policy ≡ apply database (Patches patches) policy
+  pub of_patches-applies : (database : Tables A) (policy : Policy) (patches : List (TablePatches A)) → apply database (of_patches patches) policy ≡ apply database (Patches patches) policy
   of_patches-applies database policy [] = refl
   of_patches-applies database policy (group ∷ patches) = refl
 
-  pub read-applies : (policy : Policy) (blob told : Contents A) (count : ℕ) (database main : Tables A) (tables : AttachedTables A) → told ≡ blob
-      → AppliesWhole policy told count database main tables → AppliesWhole policy blob count database main tables
-  read-applies policy blob told count database main tables same whole = subst (λ b. AppliesWhole policy b count database main tables) same whole
-
-  pub read-patches-apply : (policy : Policy) (blob : Contents A) (patches : List (TablePatches A)) (count : ℕ) (database main : Tables A) (tables : AttachedTables A) → of_patches patches ≡ blob
-      → AppliesWhole policy (Patches patches) count database main tables → AppliesWhole policy blob count database main tables
-  read-patches-apply policy blob patches count database main tables same whole =
-      (whole.0, ap (λ b. apply database b policy) (sym same) ∙ of_patches-applies database policy patches ∙ whole.1, whole.2, whole.3)
+  -- the blob that is read is applied as the one that was written, where the one told is
+  pub read-applies : (policy : Policy) (read : Result (Contents A) BlobFault) (written told blob : Contents A) (count : ℕ) (database main : Tables A) (tables : AttachedTables A) → read ≡ Ok told → read ≡ Ok blob
+      → apply database told policy ≡ apply database written policy → AppliesWhole policy written count database main tables → AppliesWhole policy blob count database main tables
+  read-applies policy read written told blob count database main tables is also same whole =
+      let read_so : blob ≡ told = cc in
+      (whole.0, ap (λ b. apply database b policy) read_so ∙ same ∙ whole.1, whole.2, whole.3)

@@ -18,8 +18,7 @@ module _ {A : Type 0} where
     left = record { database = rest.left.database; changes = changes tables op ++ rest.left.changes };
     parts = ap (λ (l : List (Op A)). op ∷ l) rest.parts;
     place = ap (λ (r : RefusedAt). r.at) (sym same) ∙ omega (arith, rest.place);
-    accepted = ap (λ (r : Result (Tables A) Refusal). and_then (changes tables op) r (λ n. run n rest.front)) is
-        ∙ ap (λ (r : Result (OutcomeState A) RefusedAt). with_changes (changes tables op) (one_later r)) rest.accepted;
+    accepted = grind (arith, is, rest.accepted);
     refuses = rest.refuses ∙ ap (λ (r : RefusedAt). Err r.why) same;
   }
 
@@ -27,24 +26,12 @@ module _ {A : Type 0} where
   first_of : (tables : Tables A) (op : Op A) (ops : List (Op A)) (refused : RefusedAt) → ((next : Tables A) (e : RefusedAt) → run next ops ≡ Err e → IsFirstRefused next ops e) → (r : Result (Tables A) Refusal) → step tables op ≡ r
       → and_then (changes tables op) r (λ next. run next ops) ≡ Err refused → IsFirstRefused tables (op ∷ ops) refused
   first_of tables op ops refused rest (Err why) s is =
-      let same : (let r : RefusedAt = record { at = 0; why = why } in r) ≡ refused = cc in
-      record {
-        front = [];
-        op = op;
-        back = ops;
-        left = record { database = tables; changes = [] };
-        parts = refl;
-        place = ap (λ (r : RefusedAt). r.at) (sym same);
-        accepted = refl;
-        refuses = s ∙ ap (λ (r : RefusedAt). Err r.why) same;
-      }
+      record { front = []; op = op; back = ops; left = record { database = tables; changes = [] }; parts = refl; place = grind (arith, is); accepted = refl; refuses = grind (arith, s, is) }
   first_of tables op ops refused rest (Ok next) s is = later (run next ops) refl is
     where
       later : (r : Result (OutcomeState A) RefusedAt) → run next ops ≡ r → with_changes (changes tables op) (one_later r) ≡ Err refused → IsFirstRefused tables (op ∷ ops) refused
       later (Ok left) ran e = cc
-      later (Err e) ran is =
-          let same : (let r : RefusedAt = record { at = e.at + 1; why = e.why } in r) ≡ refused = cc in
-          more_front tables next op ops e refused s same (rest next e ran)
+      later (Err e) ran is = more_front tables next op ops e refused s (cc) (rest next e ran)
 
   pub first_refused : (tables : Tables A) (ops : List (Op A)) (refused : RefusedAt) → run tables ops ≡ Err refused → IsFirstRefused tables ops refused
   first_refused tables [] refused is = cc

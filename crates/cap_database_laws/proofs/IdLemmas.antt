@@ -1,14 +1,12 @@
 -- Ids are given once, over lists of operations.
-use Rattle.std.proofs.Common.{◌≡◌, ℕ, true, false, cond, Option, Some, None, Result, Ok, Err, List, [], ◌∷◌, refl, sym, ap, subst, ◌∙◌}
+use Rattle.std.proofs.Common.{◌≡◌, ℕ, Option, Some, None, List, [], ◌∷◌, refl, arith}
 use Rattle.std.specs.Prelude.{IfOk}
-use Rattle.std.specs.Ordering.{eq_by_cmp}
 use Rattle.cap_value.specs.Bytes.{bytes_cmp}
-use Rattle.cap_value.specs.declared.refusal.Refusal.{Refusal}
 use Rattle.cap_tree.specs.Tree.{put_entry}
 use Rattle.cap_database_laws.specs.TableIds.{GivesIdsOnce}
 use Rattle.cap_table.specs.Table.{TableState}
 use Rattle.cap_database_laws.specs.Ids.{GiveIdsOnce}
-use Rattle.cap_database.specs.Operation.{act, changes, in_place, run, step, stepped}
+use Rattle.cap_database.specs.Operation.{act, changes, run, step, stepped}
 use Rattle.cap_database.specs.Tables.{Tables, table_of}
 use Rattle.cap_database.specs.declared.op.Action.{Action}
 use Rattle.cap_database.specs.declared.op.Op.{Op}
@@ -20,20 +18,17 @@ module _ {A : Type 0}
     (same : (table : TableState A) → GivesIdsOnce table table) where
   put-once : (tables : Tables A) (name : List ℕ) (table left : TableState A) → table_of tables name ≡ Some table → GivesIdsOnce table left → GiveIdsOnce tables (put_entry bytes_cmp tables name left)
   put-once tables name table left there once q other is =
-      elim (eq_by_cmp bytes_cmp q name) as (λ b. eq_by_cmp bytes_cmp q name ≡ b → (after : TableState A) × (table_of (put_entry bytes_cmp tables name left) q ≡ Some after) × GivesIdsOnce other after) [
-        | true ↦ λ e.
-            let alike : other ≡ table = let both : Some other ≡ Some table = sym is ∙ ap (table_of tables) (same_name q name e) ∙ there in cc in
-            (left, get-put tables name left q ∙ ap (λ b. cond b (Some left) (table_of tables q)) e, subst (λ (t : TableState A). GivesIdsOnce t left) (sym alike) once)
-        | false ↦ λ e. (other, get-put tables name left q ∙ ap (λ b. cond b (Some left) (table_of tables q)) e ∙ is, same other)
-      ] refl
+      let put = get-put tables name left q in
+      let named = same_name q name in
+      let kept = same other in
+      grind (arith, put, named, kept, there, once, is)
 
   stepped-once : (tables : Tables A) (op : Op A) (found : Option (TableState A)) → table_of tables op.table ≡ found → IfOk (stepped tables found op) (GiveIdsOnce tables)
   stepped-once tables op None is = tt
-  stepped-once tables op (Some table) is = inner (act table op.action) (acts table op.action)
-    where
-      inner : (r : Result (TableState A) Refusal) → IfOk r (GivesIdsOnce table) → IfOk (in_place tables op.table r) (GiveIdsOnce tables)
-      inner (Ok left) once = put-once tables op.table table left is once
-      inner (Err why) once = tt
+  stepped-once tables op (Some table) is =
+      let acted = acts table op.action in
+      let put = λ (left : TableState A). put-once tables op.table table left is in
+      grind (arith, acted, put)
 
   later : (tables next left : Tables A) → GiveIdsOnce tables next → GiveIdsOnce next left → GiveIdsOnce tables left
   later tables next left first second name table there =

@@ -1,21 +1,21 @@
 -- A row that is inserted into a table of a database, and then deleted.
-use Rattle.std.proofs.Common.{◌≡◌, ℕ, true, cond, Some, Result, Ok, Err, List, refl, sym, ap, subst, ◌∙◌, arith, T}
-use Rattle.std.specs.Cmp.{Equal-is, tied_itself}
+use Rattle.std.proofs.Common.{◌≡◌, ℕ, true, Some, Ok, List, refl, sym, ap, subst, ◌∙◌, arith, T}
+use Rattle.std.specs.Cmp.{tied_itself}
 use Rattle.std.specs.FinMap.Entries.{is_sorted, same_entries}
 use Rattle.std.proofs.lemmas.Cmp.{nat_list_cmp_total}
 use Rattle.cap_value.specs.Bytes.{bytes_cmp}
-use Rattle.cap_value.specs.declared.refusal.Refusal.{Refusal}
 use Rattle.cap_row.specs.Fields.{Fields}
 use Rattle.cap_row.specs.Key.{key_of}
 use Rattle.cap_tree.specs.Tree.{get, put_entry}
 use Rattle.cap_table.specs.Operation.{delete_row, insert_row}
 use Rattle.cap_table.specs.Table.{TableState}
 use Rattle.cap_table.specs.declared.row_ref.RowRef.TheVariants.{Key}
-use Rattle.cap_database.specs.Operation.{in_place, step, stepped}
+use Rattle.cap_database.specs.Operation.{step}
 use Rattle.cap_database.specs.Tables.{AreRising, Tables, table_of}
 use Rattle.cap_database.specs.declared.cause.Cause.{Cause}
 use Rattle.cap_database.specs.declared.op.Action.TheVariants.{Insert, Delete}
 use Rattle.cap_database.proofs.BackLemmas.{again}
+use Rattle.cap_database_laws.proofs.CommuteLemmas.{stepped-in, steps}
 use Rattle.cap_database.proofs.KeptLemmas.{get-find, get-put, names_same, same_name, sorted-put}
 
 module _ {X : Type 0} where
@@ -38,19 +38,13 @@ module _ {X : Type 0} where
 
   -- what was put stands under its name
   pub put-found : (es : List (List ℕ × X)) (name : List ℕ) (x : X) → get bytes_cmp (put_entry bytes_cmp es name x) name ≡ Some x
-  put-found es name x = get-put es name x name ∙ ap (λ t. cond t (Some x) (get bytes_cmp es name)) ((Equal-is (bytes_cmp name name)).1 (tied_itself nat_list_cmp_total name))
+  put-found es name x = let put = get-put es name x name in let tie = tied_itself nat_list_cmp_total name in grind (arith, put, tie)
 
 module _ {A : Type 0} (undoes : (before after : TableState A) (row key : Fields A) → key_of before.schema row ≡ Some key → insert_row before row ≡ Ok after → delete_row after (Key key) ≡ Ok before) where
   pub insert_then_delete : (tables after : Tables A) (name : List ℕ) (table : TableState A) (row key : Fields A) (one two : Cause) → AreRising tables → table_of tables name ≡ Some table → key_of table.schema row ≡ Some key
       → step tables (record { table = name; action = Insert row; cause = one }) ≡ Ok after → step after (record { table = name; action = Delete (Key key); cause = two }) ≡ Ok tables
   insert_then_delete tables after name table row key one two rise there own ran =
-      inserted (insert_row table row) refl (ap (λ found. stepped tables found (record { table = name; action = Insert row; cause = one })) (sym there) ∙ ran)
-    where
-      inserted : (r : Result (TableState A) Refusal) → insert_row table row ≡ r → in_place tables name r ≡ Ok after → step after (record { table = name; action = Delete (Key key); cause = two }) ≡ Ok tables
-      inserted (Err why) acts is = cc
-      inserted (Ok left) acts is =
-          let same : put_entry bytes_cmp tables name left ≡ after = cc in
-          let found : table_of after name ≡ Some left = ap (λ (ts : Tables A). table_of ts name) (sym same) ∙ put-found tables name left in
-          ap (λ o. stepped after o (record { table = name; action = Delete (Key key); cause = two })) found
-          ∙ ap (in_place after name) (undoes table left row key own acts)
-          ∙ ap Ok (ap (λ (ts : Tables A). put_entry bytes_cmp ts name table) (sym same) ∙ put-again tables name left table rise.names ∙ put-there tables name table rise.names there)
+      let (left, acts, is) = stepped-in tables (record { table = name; action = Insert row; cause = one }) after name table refl there ran in
+      let found : table_of after name ≡ Some left = ap (λ (ts : Tables A). table_of ts name) (sym is) ∙ put-found tables name left in
+      steps after (record { table = name; action = Delete (Key key); cause = two }) left table found (undoes table left row key own acts)
+      ∙ ap Ok (ap (λ (ts : Tables A). put_entry bytes_cmp ts name table) (sym is) ∙ put-again tables name left table rise.names ∙ put-there tables name table rise.names there)

@@ -1,15 +1,16 @@
 -- A list with one change for each row, added to an empty changegroup, is what it was without its empty groups.
-use Rattle.std.proofs.Common.{◌≡◌, ℕ, ◌+◌, Bool, true, false, cond, ◌&&◌, List, [], ◌∷◌, ◌++◌, Option, Some, None, Ok, Result, refl, ap, sym, subst, ◌∙◌}
+use Rattle.std.proofs.Common.{◌≡◌, ℕ, ◌+◌, Bool, false, cond, List, [], ◌∷◌, ◌++◌, Option, None, Ok, inl, inr, refl, ap, sym, ◌∙◌}
 use Rattle.std.specs.Prelude.{map, filter}
 use Rattle.std.specs.List.{AllByRecursion, IsDistinct}
 use Rattle.std.specs.List.Sorted.{IsStrictlySortedBy}
+use Rattle.std.proofs.Math.Bool.{and-false}
+use Rattle.std.proofs.lemmas.Bool.{cases_Bool}
 use Rattle.std.proofs.lemmas.List.{append-nil, append_assoc}
 use Rattle.std.proofs.lemmas.List.Elements.{recursion_from_All}
 use Rattle.cap_value.specs.Bytes.{bytes_eq}
 use Rattle.cap_row.specs.Fields.{Fields}
 use Rattle.cap_row.specs.Key.{fields_cmp}
 use Rattle.cap_changes.specs.Entries.{TableEntries}
-use Rattle.cap_changes.specs.declared.row_change.RowChange.{RowChange}
 use Rattle.cap_changes.specs.declared.patch.Patch.{Patch}
 use Rattle.cap_codec.specs.Writable.{has_some, of_patches, with_some}
 use Rattle.cap_codec.specs.declared.read.Contents.{Contents}
@@ -17,10 +18,8 @@ use Rattle.cap_codec.specs.declared.read.Contents.TheVariants.{Changes, Patches}
 use Rattle.cap_group.specs.ChangeKey.{change_key, patch_key}
 use Rattle.cap_group.specs.Combined.{combined, patches_combined}
 use Rattle.cap_group.specs.KeyedChanges.{KeyedChanges, entries_of, no_changes, table_at, with_changes, with_table}
-use Rattle.cap_group.specs.ChangeGroup.{GroupContent, added_unless, all_added, and_then, concat_of, contents_of, empty_group, groups_of, has_changes, with_group, with_groups}
+use Rattle.cap_group.specs.ChangeGroup.{concat_of, groups_of, has_changes, with_groups}
 use Rattle.cap_group_laws.specs.OneEach.{BlobHasOneForEachRow, HasOneForEachRow}
-use Rattle.cap_group.specs.declared.refusal.GroupRefusal.{GroupRefusal}
-use Rattle.cap_group.specs.declared.refusal.GroupRefusal.TheVariants.{OtherKind}
 use Rattle.cap_group.proofs.GroupLemmas.{group_new, kept_table}
 use Rattle.cap_group.proofs.RisingLemmas.{behind_nil, rising, under_keys}
 
@@ -75,26 +74,21 @@ module _ {A X : Type 0} (key : List Bool → X → Fields A) (combine : List Boo
   unfolding IsDistinct
   taken place [] tables others apart = ap (λ (ts : List (KeyedChanges A X)). Ok ts) (sym (append-nil tables))
   taken place (g ∷ gs) tables others apart =
-      let next : List (KeyedChanges A X) → Result (List (KeyedChanges A X)) GroupRefusal = λ more. with_groups key combine (place + 1) more gs in
-      elim (has_some g.changes) as (λ b. cond b (and_then (with_group key combine place tables g) next) (with_groups key combine (place + 1) tables gs) ≡ Ok (tables ++ map alone (cond b (g ∷ some gs) (some gs)))) [
-        | true ↦
-            ap (λ (r : Result (List (KeyedChanges A X)) GroupRefusal). and_then r next)
-            (group_new key combine place tables g (alone g) (lacks_at tables g.table others.0) refl (λ t named. lacks_put tables t (subst (Lacks tables) (sym named) others.0)))
-            ∙ taken (place + 1) gs (tables ++ alone g ∷ []) (others_more tables (alone g) gs others.1 (subst (λ name. AllByRecursion (λ other. bytes_eq name other ≡ false) (map (λ (group : TableEntries X). group.table) gs)) (sym (kept_table key combine (no_changes g.table g.schema) g.changes)) apart.0)) apart.1
-            ∙ ap (λ (ts : List (KeyedChanges A X)). Ok ts) (append_assoc tables (alone g ∷ []) (map alone (some gs)))
-        | false ↦ taken (place + 1) gs tables others.1 apart.1
+      elim (cases_Bool (has_some g.changes)) [
+        | inl some_here ↦
+            rw (some_here, group_new key combine place tables g (alone g) (lacks_at tables g.table others.0) refl (λ t named. lacks_put tables t (rw named others.0)))
+            (taken (place + 1) gs (tables ++ alone g ∷ []) (others_more tables (alone g) gs others.1 (rw (kept_table key combine (no_changes g.table g.schema) g.changes) apart.0)) apart.1
+            ∙ ap (λ (ts : List (KeyedChanges A X)). Ok ts) (append_assoc tables (alone g ∷ []) (map alone (some gs))))
+        | inr none ↦ rw none (taken (place + 1) gs tables others.1 apart.1)
       ]
 
   back : (groups : List (TableEntries X)) → AllByRecursion (λ group. IsStrictlySortedBy fields_cmp (map (key group.schema) group.changes)) groups → groups_of (map alone (some groups)) ≡ some groups
   back [] rise = refl
   back (g ∷ gs) rise =
-      elim (has_some g.changes) as (λ b. has_some g.changes ≡ b → groups_of (map alone (cond b (g ∷ some gs) (some gs))) ≡ cond b (g ∷ some gs) (some gs)) [
-        | true ↦ λ is.
-            ap (λ (e : TableEntries X). some (e ∷ map entries_of (map alone (some gs)))) (alone_is g rise.0)
-            ∙ ap (λ b. cond b (g ∷ groups_of (map alone (some gs))) (groups_of (map alone (some gs)))) is
-            ∙ ap (λ l. g ∷ l) (back gs rise.1)
-        | false ↦ λ is. back gs rise.1
-      ] refl
+      elim (cases_Bool (has_some g.changes)) [
+        | inl is ↦ rw is (ap (λ (e : TableEntries X). some (e ∷ map entries_of (map alone (some gs)))) (alone_is g rise.0) ∙ rw (is, back gs rise.1) refl)
+        | inr none ↦ rw none (back gs rise.1)
+      ]
 
   module _ (groups : List (TableEntries X)) (one : HasOneForEachRow key groups) where
     pub taken_alone : with_groups key combine 0 [] groups ≡ Ok (map alone (some groups))
@@ -103,25 +97,13 @@ module _ {A X : Type 0} (key : List Bool → X → Fields A) (combine : List Boo
     pub back_alone : groups_of (map alone (some groups)) ≡ some groups
     back_alone = back groups (recursion_from_All _ groups one.rows)
 
-and_none : (b : Bool) → (b && false) ≡ false
-and_none true = refl
-and_none false = refl
-
 module _ {A : Type 0} where
   of_some : (groups : List (TableEntries (Patch A))) → cond (has_some groups) (Patches groups) (Changes []) ≡ of_patches groups
   of_some [] = refl
   of_some (g ∷ gs) = refl
 
-  abbrev output : Result (GroupContent A) GroupRefusal → Result (Contents A) GroupRefusal
-  output made = and_then (and_then made (λ more. all_added more [])) (λ group. Ok (contents_of group))
-
   pub one_blob : (blob : Contents A) → BlobHasOneForEachRow blob → concat_of (blob ∷ []) ≡ Ok (with_some blob)
-  one_blob (Changes groups) one =
-      ap (λ b. output (added_unless (cond b (Some OtherKind) None) empty_group (Changes groups))) (and_none (has_changes groups))
-      ∙ ap (λ (r : Result (List (KeyedChanges A (RowChange A))) GroupRefusal). output (and_then r (λ tables. Ok (record empty_group { changes = tables })))) (taken_alone change_key combined groups one)
-      ∙ ap (λ (l : List (TableEntries (RowChange A))). Ok (Changes l)) (back_alone change_key combined groups one)
+  one_blob (Changes groups) one = rw (and-false (has_changes groups), taken_alone change_key combined groups one, back_alone change_key combined groups one) refl
   one_blob (Patches groups) one =
-      ap (λ b. output (added_unless (cond b (Some OtherKind) None) empty_group (Patches groups))) (and_none (has_changes groups))
-      ∙ ap (λ (r : Result (List (KeyedChanges A (Patch A))) GroupRefusal). output (and_then r (λ tables. Ok (record empty_group { patches = tables })))) (taken_alone patch_key (λ flags. patches_combined) groups one)
-      ∙ ap (λ (l : List (TableEntries (Patch A))). Ok (cond (has_some l) (Patches l) (Changes []))) (back_alone patch_key (λ flags. patches_combined) groups one)
-      ∙ ap (λ (b : Contents A). Ok b) (of_some (filter (λ group. has_some group.changes) groups))
+      rw (and-false (has_changes groups), taken_alone patch_key (λ flags. patches_combined) groups one, back_alone patch_key (λ flags. patches_combined) groups one)
+      (ap (λ (b : Contents A). Ok b) (of_some (filter (λ group. has_some group.changes) groups)))

@@ -1,5 +1,7 @@
-use Rattle.cap_apply_laws.proofs.GivenLemmas.{patches_give}
+use Rattle.cap_changes.specs.Patch.{patch_of}
+use Rattle.cap_apply.specs.Requested.{requested_by_patch}
+use Rattle.cap_apply_laws.proofs.DifferenceLemmas.{patch_asks, rows_given}
 use Rattle.cap_apply_laws.proofs.laws.patches_give_the_rows_now.Goals as goal
 
 pub returns : goal.returns
-returns g c = λ policy number name table ds state before. patches_give policy number name table ds state before.there before.ordered before.rows
+returns g c = λ policy. rows_given policy (λ flags change. requested_by_patch flags (patch_of flags change)) patch_asks
