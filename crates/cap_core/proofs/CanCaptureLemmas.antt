@@ -22,5 +22,4 @@ module _ {A : Type 0} where
   no_row (flag ∷ flags) = refl
 
   pub no_fields : (key : Fields A) → nat_eq (length key) 0 ≡ fields_eq [] key
-  no_fields [] = refl
-  no_fields (field ∷ key) = grind (arith, nat_tests)
+  no_fields key = grind (arith, nat_tests)

@@ -39,38 +39,19 @@ use Rattle.cap_core.proofs.FitLemmas.{each-ok}
 
 -- what holds of the effects that a new table, operations and an application have on these tables, and of none
 module _ {A : Type 0} (now : SnapshotState A) (P : Effect A → Type 0) (none : P (no_effect now.database)) where
-  each-created : (r : Result (Tables A) Refusal) → IfOk r (λ tables. P (no_effect tables)) → P (effect_of now.database (created r))
-  each-created (Ok tables) is = is
-  each-created (Err why) is = none
-
-  abbrev HoldsOfRun : Result (OutcomeState A) RefusedAt → Type 0
-  HoldsOfRun r = IfOk r (λ left. P (record { database = left.database; changes = left.changes; report = None }))
-
-  each-made : (r : Result (OutcomeState A) RefusedAt) → HoldsOfRun r → P (effect_of now.database (made r))
-  each-made (Ok left) is = is
-  each-made (Err refused) is = none
-
-  each-commit : (why : Option Refusal) (ops : List (Op A)) → HoldsOfRun (run now.database ops) → P (effect_of now.database (commit_unless why now.database ops))
-  each-commit (Some why) ops is = none
-  each-commit None ops is = each-made (run now.database ops) is
-
-  abbrev HoldsOfApplication : Result (AppliedState A) Refusal → Type 0
-  HoldsOfApplication r = IfOk r (λ left. P (record { database = left.database; changes = left.changes; report = Some left.report }))
-
-  each-applied : (r : Result (AppliedState A) Refusal) → HoldsOfApplication r → P (effect_of now.database (applied r))
-  each-applied (Ok left) is = is
-  each-applied (Err why) is = none
-
   -- holds of the effect of an event
-  pub event-each : (event : Event A) → ((name : List ℕ) (schema : List Bool) → IfOk (create now.database name schema) (λ tables. P (no_effect tables))) → ((ops : List (Op A)) → HoldsOfRun (run now.database ops))
-      → ((blob : Contents A) (policy : Policy) (quiet : List ℕ) → event.command ≡ command.Apply blob policy quiet → HoldsOfApplication (apply now.database blob policy)) → P (event_effect now event)
+  pub event-each : (event : Event A) → ((name : List ℕ) (schema : List Bool) → IfOk (create now.database name schema) (λ tables. P (no_effect tables)))
+      → ((ops : List (Op A)) → IfOk (run now.database ops) (λ left. P (record { database = left.database; changes = left.changes; report = None })))
+      → ((blob : Contents A) (policy : Policy) (quiet : List ℕ) → event.command ≡ command.Apply blob policy quiet
+      → IfOk (apply now.database blob policy) (λ left. P (record { database = left.database; changes = left.changes; report = Some left.report }))) → P (event_effect now event)
   event-each event creates runs applies =
       elim (is_accepted event.reply) as (λ b. P (cond b (effect_of now.database (outcome now event.command)) (no_effect now.database))) [ true ↦ inner event.command applies | false ↦ none ]
     where
-      inner : (c : Command A) → ((blob : Contents A) (policy : Policy) (quiet : List ℕ) → c ≡ command.Apply blob policy quiet → HoldsOfApplication (apply now.database blob policy)) → P (effect_of now.database (outcome now c))
-      inner (command.CreateTable name schema) applies = each-created (create now.database name schema) (creates name schema)
-      inner (command.Commit batch) applies = each-commit (stale batch.base batch.reads now) batch.ops (runs batch.ops)
-      inner (command.Apply blob policy quiet) applies = each-applied (apply now.database blob policy) (applies blob policy quiet refl)
+      inner : (c : Command A) → ((blob : Contents A) (policy : Policy) (quiet : List ℕ) → c ≡ command.Apply blob policy quiet
+          → IfOk (apply now.database blob policy) (λ left. P (record { database = left.database; changes = left.changes; report = Some left.report }))) → P (effect_of now.database (outcome now c))
+      inner (command.CreateTable name schema) applies = grind (arith, creates name schema, none)
+      inner (command.Commit batch) applies = grind (arith, runs batch.ops, none)
+      inner (command.Apply blob policy quiet) applies = grind (arith, applies blob policy quiet refl, none)
       inner _ applies = none
 
 module _ {A : Type 0} where
@@ -130,13 +111,10 @@ module _ {A : Type 0} where
 
   -- ---- the changes of an event
 
-  nothing-carries : (tables : Tables A) → CarryFirstRows tables []
-  nothing-carries tables name key change is = cc
-
   pub event-carries : (now : SnapshotState A) (event : Event A) → CarryFirstRows now.database (event_effect now event).changes
   event-carries now event =
-      event-each now (λ effect. CarryFirstRows now.database effect.changes) (nothing-carries now.database) event
-      (λ name schema. each-ok (create now.database name schema) (λ tables. nothing-carries now.database)) (run-carries now.database) (λ blob policy quiet _. apply-carries now.database blob policy)
+      event-each now (λ effect. CarryFirstRows now.database effect.changes) (λ name key change is. cc) event
+      (λ name schema. each-ok (create now.database name schema) (λ tables name key change is. cc)) (run-carries now.database) (λ blob policy quiet _. apply-carries now.database blob policy)
 
   -- what was left has changes that carry the rows before
   pub ran-carries : (tables : Tables A) (ops : List (Op A)) (left : OutcomeState A) → run tables ops ≡ Ok left → CarryFirstRows tables left.changes

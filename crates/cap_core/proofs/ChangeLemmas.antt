@@ -34,5 +34,4 @@ module _ {A : Type 0} where
 
   -- a change is never refused
   pub change-accepted : (change : SessionChange A) (version : ℕ) (main : Tables A) (session : SessionState A) → is_accepted (change_reply change version main session) ≡ true
-  change-accepted AttachAll version main session = refl
-  change-accepted _ version main session = refl
+  change-accepted change version main session = grind arith

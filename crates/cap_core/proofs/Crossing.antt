@@ -50,38 +50,26 @@ module _ (A : RattleType) (h : handle.Ghosts A.Denot) (a : allocator.Ghosts A.De
   capture_sync : IsSync (Capture.the_row A h a c)
   capture_sync = search (database_sync, session_sync, sendable) depth 40 fits 100000
 
-  changes_send : EachSend (variants (SessionChange.the_type A a))
-  changes_send = search (filter_send, sendable) depth 40 fits 100000
+  change_send : IsSend (SessionChange.the_field A a).row
+  change_send = enum_send (shape (SessionChange.the_type A a)) (search (filter_send, sendable) depth 40 fits 100000)
 
-  change_field_send : IsSend (SessionChange.the_field A a).row
-  change_field_send = enum_send (shape (SessionChange.the_type A a)) changes_send
+  change_sync : IsSync (SessionChange.the_field A a).row
+  change_sync = enum_sync (shape (SessionChange.the_type A a)) (search (filter_sync, sendable) depth 40 fits 100000)
 
-  changes_sync : EachSync (variants (SessionChange.the_type A a))
-  changes_sync = search (filter_sync, sendable) depth 40 fits 100000
+  told_send : IsSend (SessionCommand.the_field A a).row
+  told_send = enum_send (shape (SessionCommand.the_type A a)) (search (name.the_send, change_send, sendable) depth 40 fits 100000)
 
-  change_field_sync : IsSync (SessionChange.the_field A a).row
-  change_field_sync = enum_sync (shape (SessionChange.the_type A a)) changes_sync
-
-  told_send : EachSend (variants (SessionCommand.the_type A a))
-  told_send = search (name.the_send, change_field_send, sendable) depth 40 fits 100000
-
-  told_field_send : IsSend (SessionCommand.the_field A a).row
-  told_field_send = enum_send (shape (SessionCommand.the_type A a)) told_send
-
-  told_sync : EachSync (variants (SessionCommand.the_type A a))
-  told_sync = search (name.the_sync, change_field_sync, sendable) depth 40 fits 100000
-
-  told_field_sync : IsSync (SessionCommand.the_field A a).row
-  told_field_sync = enum_sync (shape (SessionCommand.the_type A a)) told_sync
+  told_sync : IsSync (SessionCommand.the_field A a).row
+  told_sync = enum_sync (shape (SessionCommand.the_type A a)) (search (name.the_sync, change_sync, sendable) depth 40 fits 100000)
 
   variants_send : EachSend (variants (Command.the_type A h a c))
-  variants_send = search (told_field_send, sends) depth 60 fits 100000
+  variants_send = search (told_send, sends) depth 60 fits 100000
 
   pub command_send : IsSend (Command.the_row A h a c)
   command_send = let O = Command.the_type A h a c in recorded_send (Enum (shape O)) O.D O.to O.to_one (enum_send (shape O) variants_send)
 
   variants_sync : EachSync (variants (Command.the_type A h a c))
-  variants_sync = search (told_field_sync, syncs) depth 60 fits 100000
+  variants_sync = search (told_sync, syncs) depth 60 fits 100000
 
   pub command_sync : IsSync (Command.the_row A h a c)
   command_sync = let O = Command.the_type A h a c in recorded_sync (Enum (shape O)) O.D O.to O.to_one (enum_sync (shape O) variants_sync)
@@ -129,14 +117,10 @@ module _ (A : RattleType) (h : handle.Ghosts A.Denot) (a : allocator.Ghosts A.De
   dump_sync : IsSync (Dump.the_row A h a c)
   dump_sync = search (snapshot_sync, sendable) depth 40 fits 100000
 
-  reply_variants_send : EachSend (variants (Reply.the_type A h a c))
-  reply_variants_send = search (report.the_send, snapshot_send, capture_send, names_send, sessions_listed_send, tables_listed_send, dump_send, refusal.the_field_send, sendable) depth 60 fits 100000
-
   pub reply_send : IsSend (Reply.the_row A h a c)
-  reply_send = let O = Reply.the_type A h a c in recorded_send (Enum (shape O)) O.D O.to O.to_one (enum_send (shape O) reply_variants_send)
-
-  reply_variants_sync : EachSync (variants (Reply.the_type A h a c))
-  reply_variants_sync = search (report.the_sync, snapshot_sync, capture_sync, names_sync, sessions_listed_sync, tables_listed_sync, dump_sync, refusal.the_field_sync, sendable) depth 60 fits 100000
+  reply_send = let O = Reply.the_type A h a c in recorded_send (Enum (shape O)) O.D O.to O.to_one (enum_send (shape O)
+      (search (report.the_send, snapshot_send, capture_send, names_send, sessions_listed_send, tables_listed_send, dump_send, refusal.the_field_send, sendable) depth 60 fits 100000))
 
   pub reply_sync : IsSync (Reply.the_row A h a c)
-  reply_sync = let O = Reply.the_type A h a c in recorded_sync (Enum (shape O)) O.D O.to O.to_one (enum_sync (shape O) reply_variants_sync)
+  reply_sync = let O = Reply.the_type A h a c in recorded_sync (Enum (shape O)) O.D O.to O.to_one (enum_sync (shape O)
+      (search (report.the_sync, snapshot_sync, capture_sync, names_sync, sessions_listed_sync, tables_listed_sync, dump_sync, refusal.the_field_sync, sendable) depth 60 fits 100000))

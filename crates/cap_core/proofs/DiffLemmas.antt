@@ -1,5 +1,5 @@
 -- What a diff finds are rows of the saved table, under their keys.
-use Rattle.std.proofs.Common.{◌≡◌, ℕ, Bool, true, false, cond, Option, Some, None, List, [], ◌∷◌, Result, Ok, Err, refl, subst, arith}
+use Rattle.std.proofs.Common.{◌≡◌, ℕ, Bool, true, false, cond, Option, Some, None, List, [], ◌∷◌, Result, Ok, Err, refl, sym, subst, arith}
 use Rattle.std.specs.Prelude.{fold, IfSome}
 use Rattle.std.specs.List.{list_all}
 use Rattle.cap_value.specs.declared.refusal.Refusal.{Refusal}
@@ -22,8 +22,7 @@ use Rattle.cap_core.proofs.SoundLemmas.{found-passes, list_all-filter_map, list_
 use Rattle.cap_core.proofs.TouchedLemmas.{fields_same}
 
 flags-same : (a b : List Bool) → flags_eq a b ≡ true → a ≡ b
-flags-same [] [] t = refl
-flags-same [] (y ∷ ys) t = cc
+flags-same [] b t = grind arith
 flags-same (x ∷ xs) [] t = cc
 flags-same (x ∷ xs) (y ∷ ys) t = grind (arith, flags-same xs ys)
 
@@ -49,11 +48,7 @@ module _ {A : Type 0} (schema : List Bool) where
   alone-stand rows all = list_all-map (λ (row : Fields A × Fields A). is_keyed_row schema row.0 row.1) stands (λ row. (row.0, (Some row.1, None))) (λ row is. is) rows all
 
   difference-stands : (key : Fields A) (old new : Option (Fields A)) → is_own_image (Some schema) key old ≡ true → IfSome (difference_at key (image_at old new)) (λ difference. is_own_image (Some schema) difference.key difference.image ≡ true)
-  difference-stands key None None is = tt
-  difference-stands key None (Some new) is = refl
-  difference-stands key (Some old) None is = is
-  difference-stands key (Some old) (Some new) is =
-      elim (fields_eq old new) as (λ b. IfSome (difference_at key (cond b None (Some (Some old)))) (λ difference. is_own_image (Some schema) difference.key difference.image ≡ true)) [ true ↦ tt | false ↦ is ]
+  difference-stands key old new is = grind arith
 
   differences-stand : (from to : List (Fields A × Fields A)) → list_all (λ row. is_keyed_row schema row.0 row.1) from ≡ true → are_own_differences (Some schema) (differences from to) ≡ true
   unfolding stands beside
@@ -62,17 +57,21 @@ module _ {A : Type 0} (schema : List Bool) where
       (λ row is. difference-stands row.0 row.1.0 row.1.1 is) (beside fields_cmp from to) (merged-stand to (alone from) (alone-stand from all))
 
 module _ {A : Type 0} where
+  -- two tables that were compared
+  pub record WasCompared (database : Tables A) (name : List ℕ) (table : TableState A) (found : List (Difference A)) : Type 0 where
+    pub first : TableState A
+    pub there : table_of database name ≡ Some first
+    pub same : first.schema ≡ table.schema
+    pub is : found ≡ differences first.keyed table.keyed
+
+  pub was_compared : (database : Tables A) (name : List ℕ) (table : TableState A) (found : List (Difference A)) (from : Option (TableState A)) → table_of database name ≡ from → compare from table ≡ Ok found → WasCompared database name table found
+  was_compared database name table found None at is = cc
+  was_compared database name table found (Some first) at is = record { first = first; there = at; same = grind (arith, flags-same first.schema table.schema); is = grind arith }
+
   -- where a table was compared with that of a database whose rows stand
   pub compared-stand : (database : Tables A) (name : List ℕ) (table : TableState A) (found : List (Difference A)) → EachRises database → compare (table_of database name) table ≡ Ok found → are_own_differences (Some table.schema) found ≡ true
-  compared-stand database name table found rises is = there (table_of database name) refl is
-    where
-      same : (from : TableState A) → IsRising from → (b : Bool) → flags_eq from.schema table.schema ≡ b → (let answer : Result (List (Difference A)) Refusal = cond b (Ok (differences from.keyed table.keyed)) (Err Incompatible) in answer) ≡ Ok found → are_own_differences (Some table.schema) found ≡ true
-      same from rising true t e =
-          let listed : differences from.keyed table.keyed ≡ found = cc in
-          subst (λ l. are_own_differences (Some table.schema) l ≡ true) listed
-          (subst (λ schema. are_own_differences (Some schema) (differences from.keyed table.keyed) ≡ true) (flags-same from.schema table.schema t) (differences-stand from.schema from.keyed table.keyed rising.sound.keyed))
-      same from rising false t e = cc
-
-      there : (from : Option (TableState A)) → table_of database name ≡ from → compare from table ≡ Ok found → are_own_differences (Some table.schema) found ≡ true
-      there None at e = cc
-      there (Some from) at e = same from (each-found IsRising database name from rises at) (flags_eq from.schema table.schema) refl e
+  compared-stand database name table found rises is =
+      let two = was_compared database name table found (table_of database name) refl is in
+      subst (λ ds. are_own_differences (Some table.schema) ds ≡ true) (sym two.is)
+      (subst (λ schema. are_own_differences (Some schema) (differences two.first.keyed table.keyed) ≡ true) two.same
+      (differences-stand two.first.schema two.first.keyed table.keyed (each-found IsRising database name two.first rises two.there).sound.keyed))

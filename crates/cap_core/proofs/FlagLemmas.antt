@@ -29,7 +29,7 @@ use Rattle.cap_core.specs.Session.{records_of, session_of}
 use Rattle.cap_core.specs.Touch.{Attaching, Touch, attach_list, attaching_at, attachings, diff_by, diff_touches, first_of_each, found_in, names_attached, names_compared, restarts, touch_found, touches, touches_of}
 use Rattle.cap_core.specs.Transition.{compared, session_left}
 use Rattle.cap_core.proofs.ChangeLemmas.{HasFlags, is_changed}
-use Rattle.cap_core.proofs.HistoryLemmas.{attach-named, first_of_each-append, map-map, push_name, table_names, table_names-append, touches_of-append}
+use Rattle.cap_core.proofs.HistoryLemmas.{attach-named, first_of_each-append, map-both, push_name, table_names, table_names-append, touches_of-append}
 use Rattle.cap_core.proofs.SessionLemmas.{cond-same, kept, kept-none, same_session, session-elsewhere}
 use Rattle.cap_core.proofs.ToldLemmas.{is_told, to_itself}
 use Rattle.cap_core.proofs.TouchedLemmas.{records_of-append, records_of-none, told as told_touch}
@@ -37,17 +37,6 @@ use Rattle.cap_core.proofs.TouchedLemmas.{records_of-append, records_of-none, to
 module _ {A : Type 0} where
   abbrev done : Command A → Event A
   done c = event_by 0 c Done
-
-  touched-either : (b : Bool) (records : Records A) (more : List (RowTouch A)) → with_touches records (cond b more []) ≡ cond b (with_touches records more) records
-  touched-either true records more = refl
-  touched-either false records more = refl
-
-  abbrev entry : List ℕ → Records A → List ℕ × Records A
-  entry name records = (name, records)
-
-  paired-either : (b : Bool) (name : List ℕ) (left right : Records A) → cond b (entry name left) (entry name right) ≡ entry name (cond b left right)
-  paired-either true name left right = refl
-  paired-either false name left right = refl
 
   -- ---- the tables of a session after a command to it
 
@@ -85,7 +74,7 @@ module _ {A : Type 0} where
     -- no touch
     no-tables : (names : List (List ℕ)) → forget (tables_by (touches number past) names) ≡ tables_by [] names
     no-tables names =
-        map-map (λ table. (table.0, [])) (λ name. (name, kept past number name)) names ∙ ap (λ records. map (λ name. (name, records)) names) (sym records_of-none)
+        map-both (λ table. (table.0, [])) (λ name. (name, kept past number name)) (λ name. (name, records_of [])) (λ name. ap (λ records. (name, records)) (sym records_of-none)) names
 
     found-told : (name table : List ℕ) (b : Bool) → bytes_eq table name ≡ b → (differences : List (Difference A))
         → map told_touch (touches_of table (map (touch_found number past name) differences)) ≡ cond b (touches_found (is_indirect number past) differences) []
@@ -98,16 +87,14 @@ module _ {A : Type 0} where
     diff-tables name differences =
         let more = map (touch_found number past name) differences in
         let found = touches_found (is_indirect number past) differences in
-        let here : (table : List ℕ) → records_of (touches_of table (touches number past ++ more)) ≡ cond (bytes_eq name table) (with_touches (kept past number table) found) (kept past number table) =
+        let left : (table : List ℕ) → cond (bytes_eq name table) (table, with_touches (kept past number table) found) (table, kept past number table) ≡ (table, records_of (touches_of table (touches number past ++ more))) =
         λ table.
-        ap records_of (touches_of-append table (touches number past) more)
-        ∙ records_of-append (touches_of table (touches number past)) (touches_of table more)
-        ∙ ap (with_touches (kept past number table)) (found-told name table (bytes_eq table name) refl differences ∙ ap (λ b. cond b found []) (nat_list_eq_equiv.symm table name))
-        ∙ touched-either (bytes_eq name table) (kept past number table) found in
+        let kept_on = records_of-append (touches_of table (touches number past)) (touches_of table more) in
+        let told_on = found-told name table (bytes_eq table name) refl differences in
+        grind (arith, touches_of-append table (touches number past) more, kept_on, told_on, nat_list_eq_equiv.symm table name) in
         ap (touch_table name found) (attach-named (kept past number) name names_before (kept-none past number name))
-        ∙ map-map (λ attached. cond (bytes_eq name attached.0) (attached.0, with_touches attached.1 found) attached) (λ table. (table, kept past number table)) (push_name names_before name)
-        ∙ (λ i. map (λ table. paired-either (bytes_eq name table) table (with_touches (kept past number table) found) (kept past number table) i) (push_name names_before name))
-        ∙ (λ i. map (λ table. entry table (sym (here table) i)) (push_name names_before name))
+        ∙ map-both (λ attached. cond (bytes_eq name attached.0) (attached.0, with_touches attached.1 found) attached) (λ table. (table, kept past number table))
+        (λ table. (table, records_of (touches_of table (touches number past ++ more)))) left (push_name names_before name)
 
     -- the tables that a command leaves: one that is not named leaves them as they are
     tables-left : (told : SessionCommand A)

@@ -3,7 +3,7 @@ use Rattle.std.proofs.lemmas.List.{append-nil, map-append}
 use Rattle.std.proofs.lemmas.List.Elements.{filter-append}
 use Rattle.std.proofs.lemmas.List.Folds.{list_all-append, list_any-append}
 use Rattle.std.proofs.lemmas.Bool.Decides.{nat_tests}
-use Rattle.std.proofs.Common.{◌≡◌, ◌≤◌, ℕ, ◌+◌, Bool, true, false, cond, Option, Some, None, List, [], ◌∷◌, ◌++◌, ◌&&◌, ◌||◌, not, map, length, refl, sym, ap, append_assoc, ◌∙◌, arith}
+use Rattle.std.proofs.Common.{◌≡◌, ◌≤◌, ℕ, ◌+◌, Bool, true, false, cond, Option, Some, None, List, [], ◌∷◌, ◌++◌, ◌&&◌, ◌||◌, not, map, length, refl, sym, ap, ap₂, append_assoc, ◌∙◌, arith}
 use Rattle.std.specs.Prelude.{filter, fold, nat_eq, nat_le, nat_lt}
 use Rattle.std.specs.List.{cons_option, enumerate_from, filter_map, list_all, list_any}
 use Rattle.std.specs.Option.{option_map}
@@ -59,9 +59,10 @@ map-listed f g (name ∷ names) same = grind (arith, same, same_bytes, map-liste
 
 -- ---- lists
 
-pub map-map : {X Y Z : Type 0} (f : Y → Z) (g : X → Y) (xs : List X) → map f (map g xs) ≡ map (λ x. f (g x)) xs
-map-map f g [] = refl
-map-map f g (x ∷ xs) = ap (λ zs. f (g x) ∷ zs) (map-map f g xs)
+-- a function of what another makes is a third, where it is so at each item
+pub map-both : {X Y Z : Type 0} (f : Y → Z) (g : X → Y) (h : X → Z) → ((x : X) → f (g x) ≡ h x) → (xs : List X) → map f (map g xs) ≡ map h xs
+map-both f g h same [] = refl
+map-both f g h same (x ∷ xs) = ap₂ (λ z zs. z ∷ zs) (same x) (map-both f g h same xs)
 
 pub is_listed-map : {X : Type 0} (f : List ℕ → X) (name : List ℕ) (names : List (List ℕ)) → list_any (λ (attached : List ℕ × X). bytes_eq name attached.0) (map (λ n. (n, f n)) names) ≡ is_among name names
 is_listed-map f name [] = refl
@@ -248,12 +249,9 @@ module _ {A : Type 0} where
       ≡ cons_option (cond (bytes_eq name change.table) (option_map (λ key. record { key = key; image = row_at (main past) name key; indirect = is_indirect session past || is_cascade change.cause }) k) None) others) [
         | None ↦ grind (arith, tail)
         | Some key ↦
-            let touch = touch_at session past place change key in
-            let made : List ℕ → _ = λ n. told (key, record touch { image = row_at (main past) n key }) in
-            elim (bytes_eq name change.table) as (λ b. bytes_eq name change.table ≡ b → map told (touches_of name (cond (is_recorded all touch) (touch ∷ rest) rest)) ≡ cons_option (cond b (Some (made name)) None) others) [
-              | true ↦ λ t. let own = (bytes_decides name change.table).0 t in let shown = seen more place change key later_moments t in grind (arith, tail)
-              | false ↦ λ t. grind (arith, tail)
-            ] refl
+            let own = (bytes_decides name change.table).0 in
+            let shown = seen more place change key later_moments in
+            grind (arith, tail)
       ]
 
   -- a table that was attached before is attached in time

@@ -1,5 +1,5 @@
 -- What a write adds to the sessions, and the rows that its changes carry.
-use Rattle.std.proofs.Common.{◌≡◌, Option, Some, None, inl, inr, List, [], ◌∷◌, sym, ap, ◌∙◌}
+use Rattle.std.proofs.Common.{◌≡◌, Option, Some, None, inl, inr, List, [], ◌∷◌, sym, ap, ◌∙◌, arith}
 use Rattle.std.specs.Option.{option_map}
 use Rattle.cap_database.specs.Write.{AreShown}
 use Rattle.cap_database.specs.declared.change.Change.{Change}
@@ -14,5 +14,4 @@ shown-recorded shown changes sessions (inr (change, first, both)) =
 
 -- what an option that is there is mapped to
 pub taken : {D S : Type 0} (f : D → S) (found : Option D) (own : D) (made : S) → found ≡ Some own → option_map f found ≡ Some made → f own ≡ made
-taken f None own made is at = cc
-taken f (Some other) own made is at = cc
+taken f found own made is at = grind arith

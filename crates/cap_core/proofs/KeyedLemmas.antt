@@ -1,14 +1,14 @@
 -- After any history the tables' names rise, and in each table keys and ids rise and rows stand where they belong.
-use Rattle.std.proofs.Common.{◌≡◌, ◌<◌, ◌≤◌, ℕ, Bool, true, Some, None, List, [], ◌∷◌, length, refl, ap, subst, arith, Ordering, Less, Equal, Greater}
+use Rattle.std.proofs.Common.{◌≡◌, ◌<◌, ◌≤◌, ℕ, Bool, true, Some, None, List, [], ◌∷◌, length, refl, subst, arith, Ordering, Less}
 use Rattle.std.specs.Prelude.{IfOk, reverse}
 use Rattle.std.specs.List.{All, AllByRecursion, list_all}
 use Rattle.std.specs.List.Sorted.{IsStrictlySortedBy}
 use Rattle.std.specs.Map.{keys_of}
-use Rattle.std.specs.Ordering.{is_lt, nat_cmp}
+use Rattle.std.specs.Ordering.{nat_cmp}
 use Rattle.std.specs.FinMap.Entries.{below_all, is_sorted}
-use Rattle.std.proofs.lemmas.Bool.{and_from}
 use Rattle.std.proofs.lemmas.Bool.Decides.{nat_tests}
 use Rattle.std.proofs.lemmas.List.Elements.{All-from_recursion, All-weaker}
+use Rattle.std.proofs.lemmas.List.Recursion.{and_at}
 use Rattle.cap_value.specs.Bytes.{bytes_cmp}
 use Rattle.cap_row.specs.Fields.{Fields}
 use Rattle.cap_row.specs.Key.{fields_cmp, key_of}
@@ -28,52 +28,41 @@ use Rattle.cap_core.specs.History.{main, snapshot}
 use Rattle.cap_core.specs.Past.{Past}
 use Rattle.cap_core.specs.Table.{BlobFits, BlobsFit, BlobsFitPast, IsKeyed, IsLoose}
 use Rattle.cap_core.proofs.CarriedLemmas.{event-each}
-use Rattle.cap_core.proofs.SmallLemmas.{first, second}
 use Rattle.cap_core.proofs.SoundLemmas.{is_keyed_row-key_of, is_keyed_row-wide}
 
-is_Less : (r : Ordering) → is_lt r ≡ true → r ≡ Less
-is_Less Less is = refl
-is_Less Equal is = cc
-is_Less Greater is = cc
-
 pub each_passes : {X : Type 0} (test : X → Bool) (P : X → Type 0) → ((x : X) → test x ≡ true → P x) → (xs : List X) → list_all test xs ≡ true → All P xs
-each_passes test P says xs all = All-from_recursion P xs (each xs all)
-  where
-    each : (xs : List _) → list_all test xs ≡ true → AllByRecursion P xs
-    each [] all = tt
-    each (x ∷ xs) all = (says x (first (test x) (list_all test xs) all), each xs (second (test x) (list_all test xs) all))
+each_passes test P says xs all k d lt = says _ (and_at (list_all test) test refl (λ _ _. refl) xs k d lt all)
 
 module _ {K X : Type 0} (R : K → K → Ordering) where
   each_above : (x : K) (es : List (K × X)) → below_all R x es ≡ true → AllByRecursion (λ y. R x y ≡ Less) (keys_of es)
   each_above x [] below = tt
-  each_above x (e ∷ es) below = (is_Less (R x e.0) (first (is_lt (R x e.0)) (below_all R x es) below), each_above x es (second (is_lt (R x e.0)) (below_all R x es) below))
+  each_above x (e ∷ es) below = (grind arith, each_above x es (grind arith))
 
   pub ordered : (es : List (K × X)) → is_sorted R es ≡ true → IsOrdered R es
   unfolding IsStrictlySortedBy
   ordered [] s = tt
-  ordered (e ∷ es) s = (each_above e.0 es (first (below_all R e.0 es) (is_sorted R es) s), ordered es (second (below_all R e.0 es) (is_sorted R es) s))
+  ordered (e ∷ es) s = (each_above e.0 es (grind arith), ordered es (grind arith))
 
-module _ {K X : Type 0} (R : K → K → Ordering) where
   below-each : (x : K) (es : List (K × X)) → AllByRecursion (λ y. R x y ≡ Less) (keys_of es) → below_all R x es ≡ true
   below-each x [] above = refl
-  below-each x (e ∷ es) above = and_from (is_lt (R x e.0)) (below_all R x es) (ap is_lt above.0) (below-each x es above.1)
+  below-each x (e ∷ es) above = grind (arith, above.0, below-each x es above.1)
 
   pub sorted : (es : List (K × X)) → IsOrdered R es → is_sorted R es ≡ true
   unfolding IsStrictlySortedBy
   sorted [] s = refl
-  sorted (e ∷ es) s = and_from (below_all R e.0 es) (is_sorted R es) (below-each e.0 es s.0) (sorted es s.1)
+  sorted (e ∷ es) s = grind (arith, below-each e.0 es s.0, sorted es s.1)
 
 module _ {A : Type 0} where
   -- ---- a table
 
-  keyed_is : (table : TableState A) → IsRising table → IsKeyed table
+  pub keyed_is : (table : TableState A) → IsRising table → IsKeyed table
   keyed_is table rising = record {
     rise = ordered fields_cmp table.keyed rising.keys;
     wide = each_passes (λ row. is_keyed_row table.schema row.0 row.1) (λ row. length row.1 ≡ length table.schema) (λ row is. is_keyed_row-wide table.schema row.0 row.1 is) table.keyed rising.sound.keyed;
     own = each_passes (λ row. is_keyed_row table.schema row.0 row.1) (λ row. key_of table.schema row.1 ≡ Some row.0) (λ row is. is_keyed_row-key_of table.schema row.0 row.1 is) table.keyed rising.sound.keyed;
   }
 
-  loose_is : (table : TableState A) → IsRising table → IsLoose table
+  pub loose_is : (table : TableState A) → IsRising table → IsLoose table
   loose_is table rising =
       let test : ℕ × Fields A → Bool = λ row. is_loose_row table.schema table.next_id row.0 row.1 in
       let each = λ (P : ℕ × Fields A → Type 0) (says : (row : ℕ × Fields A) → test row ≡ true → P row). each_passes test P says table.loose rising.sound.loose in
@@ -84,6 +73,11 @@ module _ {A : Type 0} where
         first = each (λ row. 1 ≤ row.0) (λ row is. grind (arith, nat_tests));
         given = each (λ row. row.0 < table.next_id) (λ row is. grind (arith, nat_tests));
       }
+
+  -- what is so of each table that rises
+  pub each_rising : (P : TableState A → Type 0) → ((table : TableState A) → IsRising table → P table) → (tables : Tables A) → AreRising tables → All (λ named. P named.1) tables
+  each_rising P says tables rise =
+      All-weaker (λ named. IsRising named.1) (λ named. P named.1) (λ named. says named.1) tables (All-from_recursion (λ named. IsRising named.1) tables rise.each)
 
   -- ---- what a command and a history leave, by what operations and new tables do
 
@@ -97,22 +91,6 @@ module _ {A : Type 0} where
         let before = main-rises past fits.1 in
         event-each (snapshot past) (λ effect. AreRising effect.database) before event (λ name schema. creates (main past) name schema before) (λ ops. runs (main past) ops before)
         (λ blob policy quiet is. applies (main past) blob policy before (subst BlobFits is fits.0))
-
-    pub tables_rise : (h : List (Event A)) → BlobsFit h → IsOrdered bytes_cmp (state h).main
-    unfolding state BlobsFit
-    tables_rise h fits = ordered bytes_cmp (main (reverse h)) (main-rises (reverse h) fits).names
-
-    pub tables_keyed : (h : List (Event A)) → BlobsFit h → All (λ named. IsKeyed named.1) (state h).main
-    unfolding state BlobsFit
-    tables_keyed h fits =
-        All-weaker (λ named. IsRising named.1) (λ named. IsKeyed named.1) (λ named. keyed_is named.1) (main (reverse h))
-        (All-from_recursion (λ named. IsRising named.1) (main (reverse h)) (main-rises (reverse h) fits).each)
-
-    pub tables_loose : (h : List (Event A)) → BlobsFit h → All (λ named. IsLoose named.1) (state h).main
-    unfolding state BlobsFit
-    tables_loose h fits =
-        All-weaker (λ named. IsRising named.1) (λ named. IsLoose named.1) (λ named. loose_is named.1) (main (reverse h))
-        (All-from_recursion (λ named. IsRising named.1) (main (reverse h)) (main-rises (reverse h) fits).each)
 
     pub tables_rising : (h : List (Event A)) → BlobsFit h → AreRising (state h).main
     unfolding state BlobsFit

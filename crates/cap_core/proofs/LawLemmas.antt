@@ -30,8 +30,7 @@ use Rattle.cap_core.proofs.TouchedLemmas.{find-records_of, get-find, records_of-
 
 module _ {A : Type 0} where
   pub no_changes : (name : List ℕ) (table : Option (TableState A)) → table_changes (name, []) table ≡ None
-  no_changes name None = refl
-  no_changes name (Some table) = refl
+  no_changes name table = grind arith
 
   untouched_tables : (database : Tables A) (records : List ℕ → Records A) → ((name : List ℕ) → records name ≡ []) → (names : List (List ℕ)) → changes_of database (map (λ name. (name, records name)) names) ≡ []
   untouched_tables database records none [] = refl
@@ -84,21 +83,11 @@ module _ {A : Type 0} where
   reply-one_more s _ session = refl
 
   answer-one_more : (s : State A) (c : Command A) → answer (one_more s) c ≡ answer s c
-  answer-one_more s (command.CreateTable name schema) = grind arith
-  answer-one_more s (command.Commit batch) = grind arith
-  answer-one_more s (command.Apply blob policy quiet) = grind arith
   answer-one_more s (command.Session number told) = λ i. session_answer (session_numbered s.sessions number) (λ session. reply-one_more s told session i)
-  answer-one_more s _ = refl
+  answer-one_more s c = grind arith
 
   next-one_more : (s : State A) (c : Command A) → next (one_more s) c ≡ one_more (next s c)
-  next-one_more s (command.CreateTable name schema) = grind arith
-  next-one_more s (command.Commit batch) = grind arith
-  next-one_more s (command.Apply blob policy quiet) = grind arith
-  next-one_more s (command.SaveAs name) = grind arith
-  next-one_more s (command.DropDatabase name) = grind arith
-  next-one_more s command.NewSession = grind arith
-  next-one_more s (command.Session number told) = grind arith
-  next-one_more s _ = refl
+  next-one_more s c = grind arith
 
   one_more-same : (s : State A) (commands : List (Command A)) → replies_from (one_more s) commands ≡ replies_from s commands
   one_more-same s [] = refl

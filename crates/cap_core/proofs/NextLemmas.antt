@@ -29,7 +29,7 @@ use Rattle.cap_core.specs.Outcome.{Effect, no_effect, outcome}
 use Rattle.cap_core.specs.Past.{Past, is_accepted}
 use Rattle.cap_core.specs.Session.{session_of, sessions}
 use Rattle.cap_core.specs.Transition.{after_drop, after_new_session, after_save, after_write, next, one_more, session_left, with_left, with_sessions, written}
-use Rattle.cap_core.proofs.HistoryLemmas.{map-map}
+use Rattle.cap_core.proofs.HistoryLemmas.{map-both}
 use Rattle.cap_core.proofs.SessionLemmas.{effect-refused, effect-told, record_commit-new, session-apart, session-elsewhere, session-refused, shown-recorded}
 use Rattle.cap_core.proofs.NumberLemmas.{lookup-beyond, lookup-passing, made_before, numbered, passing, passing-push, with-passing, without-passing}
 use Rattle.cap_core.proofs.SessionStandLemmas.{with-same}
@@ -38,8 +38,7 @@ use Rattle.cap_core.proofs.FlagLemmas.{session-here}
 use Rattle.cap_core.proofs.ToldLemmas.{is_told, to_itself, to_others}
 
 accepted_version : (A : Type 0) (number : ℕ) (report : Option ReportState) → is_accepted {A = A} (version_reply number report) ≡ true
-accepted_version A number None = refl
-accepted_version A number (Some report) = refl
+accepted_version A number report = grind arith
 
 module _ {A : Type 0} where
   same_state : (s t : State A) → s.events ≡ t.events → s.main ≡ t.main → s.version ≡ t.version → s.saved ≡ t.saved → s.sessions_made ≡ t.sessions_made → s.sessions ≡ t.sessions → s ≡ t
@@ -116,8 +115,8 @@ module _ {A : Type 0} where
       (sym (λ i. cond (accepted i && write.writes i) (version past + 1) (version past)))
       (sym (λ i. cond (accepted i) (write.saves (main past) (saved past) i) (saved past)))
       (sym made)
-      (map-map (λ session. (session.0, cond (is_quiet session.0 event.command) session.1 (record_commit effect.changes session.1))) (λ number. (number, session_of past number)) (live_sessions past)
-      ∙ (λ i. map (λ number. (number, recorded number i)) (live_sessions past))
+      (map-both (λ session. (session.0, cond (is_quiet session.0 event.command) session.1 (record_commit effect.changes session.1))) (λ number. (number, session_of past number))
+      (λ number. (number, session_of (event ∷ past) number)) (λ number. ap (λ session. (number, session)) (recorded number)) (live_sessions past)
       ∙ ap (numbered (session_of (event ∷ past))) (sym live))
 
   next-write : (past : Past A) (by : ℕ) (c : Command A) → IsWrite c

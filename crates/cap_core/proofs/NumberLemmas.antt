@@ -1,5 +1,6 @@
 -- Sessions under their numbers, among the numbers that were given.
 use Rattle.std.proofs.lemmas.List.Elements.{filter-append}
+pub use Rattle.std.proofs.lemmas.Bool.{eqb-false as unequal_numbers, eqb-true as equal_numbers}
 use Rattle.std.proofs.lemmas.Bool.Decides.{nat_tests}
 use Rattle.std.proofs.Common.{◌≡◌, ℕ, suc, zero, ◌+◌, ◌<◌, ◌≤◌, Bool, true, false, cond, Some, None, List, [], ◌∷◌, ◌++◌, map, refl, sym, ap, ◌∙◌, arith, nat_eq, add-zero}
 use Rattle.std.specs.Prelude.{filter}
@@ -16,15 +17,6 @@ range-push a (suc n) = let same : (a + 1) + n ≡ a + suc n = omega arith in ap 
 
 pub same_number : (n : ℕ) → nat_eq n n ≡ true
 same_number n = grind (arith, nat_tests)
-
-pub apart_numbers : (m n : ℕ) → (n ≡ m → ⊥) → nat_eq m n ≡ false
-apart_numbers m n apart = grind (arith, nat_tests)
-
-pub equal_numbers : (m n : ℕ) → nat_eq m n ≡ true → m ≡ n
-equal_numbers m n is = grind (arith, nat_tests)
-
-pub unequal_numbers : (m n : ℕ) → nat_eq m n ≡ false → m ≡ n → ⊥
-unequal_numbers m n is e = let clash : true ≡ false = sym (same_number n) ∙ ap (λ k. nat_eq k n) (sym e) ∙ is in cc
 
 -- the numbers from a on that pass
 abbrev pub passing : (ℕ → Bool) → ℕ → ℕ → List ℕ
@@ -74,5 +66,4 @@ module _ {A : Type 0} (p : ℕ → Bool) where
       grind (arith, equal_numbers number a)
 
 pub made_before : (b : Bool) (n number : ℕ) → cond b (n + 1) n < number → n < number
-made_before true n number lt = omega arith
-made_before false n number lt = lt
+made_before b n number lt = grind arith

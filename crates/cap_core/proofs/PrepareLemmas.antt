@@ -22,8 +22,7 @@ module _ {A : Type 0} where
       (subst IsLegal (sym push) (IsLegal-push (history_of commands replies) (event_by 0 c r) legal met.0), ap state push ∙ sym met.1)
 
   pub length-history_of : (commands : List (Command A)) (replies : List (Reply A)) → length commands ≡ length replies → length (history_of commands replies) ≡ length replies
-  length-history_of [] [] same = refl
-  length-history_of [] (y ∷ replies) same = absurd (omega arith)
+  length-history_of [] replies same = grind arith
   length-history_of (x ∷ commands) [] same = absurd (omega arith)
   length-history_of (x ∷ commands) (y ∷ replies) same = ap suc (length-history_of commands replies (omega arith))
 

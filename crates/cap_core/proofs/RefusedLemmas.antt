@@ -32,11 +32,7 @@ module _ {A : Type 0} where
   refused-is _ known is = cc
 
   step-refused : (tables : Tables A) (op : Op A) (why : Refusal) → refused_step tables op ≡ Some why → step tables op ≡ Err why
-  step-refused tables op why is = inner (table_of tables op.table) is
-    where
-      inner : (found : Option (TableState A)) → refused_in found op.action ≡ Some why → stepped tables found op ≡ Err why
-      inner None is = cc
-      inner (Some table) is = ap (in_place tables op.table) (refused_act_is table op.action why is)
+  step-refused tables op why is = grind (arith, λ (table : TableState A). refused_act_is table op.action why)
 
   op-refused : (s : State A) (ops : List (Op A)) (why : Why) → refused_op s.main ops ≡ Some why → write_reply s (made (run s.main ops)) ≡ Refused why.0 why.1
   op-refused s [] why is = cc
@@ -50,16 +46,10 @@ module _ {A : Type 0} where
   -- ---- the state after it
 
   refused-next : (s : State A) (c : Command A) (why : Why) → refusal_in (answer s c) ≡ Some why → next s c ≡ one_more s
-  refused-next s (command.CreateTable name schema) why is = grind arith
-  refused-next s (command.Commit batch) why is = grind arith
-  refused-next s (command.Apply blob policy quiet) why is = grind arith
-  refused-next s (command.SaveAs name) why is = grind arith
-  refused-next s (command.DropDatabase name) why is = grind arith
-  refused-next s command.NewSession why is = grind arith
   refused-next s (command.Session number told) why is =
       let left = λ (session : SessionState A) (refused : refusal_in (session_reply s told session) ≡ Some why). refused-left s told session (ap is_accepted (refused-is (session_reply s told session) why refused)) in
       grind (arith, left, with-same number s.sessions)
-  refused-next s _ why is = refl
+  refused-next s c why is = grind arith
 
   pub first-next : (s : State A) (c : Command A) (why : Why) → refused_first s c ≡ Some why → next s c ≡ one_more s
   first-next s c why is = refused-next s c why (ap refusal_in (first-answer s c why is))
@@ -76,8 +66,7 @@ module _ {A : Type 0} where
   -- ---- what is known of a command to a session
 
   pub diff-known : (r : Result (Option (List (Difference A))) Refusal) → whole (result_err r) ≡ refusal_in {A = A} (diffed r)
-  diff-known (Ok found) = refl
-  diff-known (Err why) = refl
+  diff-known r = grind arith
 
   -- the session is live
   pub live-known : (found : Option (SessionState A)) (reply : SessionState A → Reply A) (known : Option Why) → no_session found ≡ None

@@ -1,5 +1,6 @@
 -- What one more event makes of a session.
-use Rattle.std.proofs.lemmas.List.{append-nil}
+pub use Rattle.std.proofs.Math.Bool.{and-false as and_false}
+use Rattle.std.proofs.lemmas.List.{append-nil, map-id}
 use Rattle.std.proofs.lemmas.List.Folds.{list_any-append}
 use Rattle.std.proofs.Common.{◌≡◌, ℕ, Bool, true, false, cond, Option, Some, None, List, [], ◌∷◌, ◌++◌, ◌&&◌, ◌||◌, map, length, refl, sym, ap, ◌∙◌, arith}
 use Rattle.std.specs.Prelude.{filter, fold}
@@ -23,20 +24,12 @@ use Rattle.cap_core.specs.Outcome.{no_effect, outcome}
 use Rattle.cap_core.specs.Past.{Past, is_accepted}
 use Rattle.cap_core.specs.Session.{records_of, session_of}
 use Rattle.cap_core.specs.Touch.{Attaching, attach_list, attaching_at, attaching_by, attachings, changes_touch, diff_by, diff_touches, event_changes, first_of_each, is_recorded, names_attached, names_compared, restarts, touch_of, touches, touches_of}
-use Rattle.cap_core.proofs.HistoryLemmas.{accepted-by-changes, attach_by-named, first_of_each-append, is_among, is_among-first_of_each, map-listed, map-map, names-by-changes, none-by-changes, push_by, seen_before, seen_now, table_names, table_names-append, touches-none, touches-told, touches_of-append}
+use Rattle.cap_core.proofs.HistoryLemmas.{accepted-by-changes, attach_by-named, first_of_each-append, is_among, is_among-first_of_each, map-both, map-listed, names-by-changes, none-by-changes, push_by, seen_before, seen_now, table_names, table_names-append, touches-none, touches-told, touches_of-append}
 use Rattle.cap_core.proofs.TouchedLemmas.{records_of-append, records_of-none, told}
 
 pub cond-same : {X : Type 0} (b : Bool) (x : X) → cond b x x ≡ x
 cond-same true x = refl
 cond-same false x = refl
-
-pub and_false : (b : Bool) → (b && false) ≡ false
-and_false true = refl
-and_false false = refl
-
-map-same : {X : Type 0} (xs : List X) → map (λ x. x) xs ≡ xs
-map-same [] = refl
-map-same (x ∷ xs) = ap (λ ys. x ∷ ys) (map-same xs)
 
 module _ {A : Type 0} where
   -- what is kept of a table
@@ -111,11 +104,7 @@ module _ {A : Type 0} where
           let found = filter_map (touch_of session past) (enumerate_from 0 changes_made) in
           let moments = attachings session (event ∷ past) in
           let among : (is_among name (table_names moments_before) || is_among name (table_names by_changes)) ≡ true =
-          sym (list_any-append (bytes_eq name) (table_names moments_before) (table_names by_changes))
-          ∙ ap (is_among name) (sym (table_names-append moments_before by_changes))
-          ∙ ap (λ ms. is_among name (table_names ms)) (sym attachings-silent)
-          ∙ sym (is_among-first_of_each name (table_names moments))
-          ∙ listed in
+          grind (arith, list_any-append (bytes_eq name) (table_names moments_before) (table_names by_changes), table_names-append moments_before by_changes, attachings-silent, is_among-first_of_each name (table_names moments)) in
           ap (λ b. map told (touches_of name (cond b (filter (is_recorded moments) found) []))) on
           ∙ ap (λ ms. map told (touches_of name (filter (is_recorded ms) found))) (attachings-silent ∙ ap (λ ms. ms ++ by_changes) (sym (append-nil moments_before)))
           ∙ elim (is_among name (table_names moments_before)) as (λ b. is_among name (table_names moments_before) ≡ b → map told (touches_of name (filter (is_recorded ((moments_before ++ []) ++ by_changes)) found)) ≡ told_of_table name) [
@@ -146,7 +135,7 @@ module _ {A : Type 0} where
           let pushed = fold (push_by (rule_of session past)) names_before (map (λ change. change.table) changes_made) in
           map-listed (λ name. (name, kept (event ∷ past) session name)) more (attach_list session (event ∷ past)) (λ name listed. ap (λ records. (name, records)) (recorded-on name listed))
           ∙ ap (map more) list-on
-          ∙ sym (map-map (λ attached. (attached.0, with_touches attached.1 (carried_by (is_indirect session past) attached.0 changes_made))) (λ name. (name, kept past session name)) pushed)
+          ∙ sym (map-both (λ attached. (attached.0, with_touches attached.1 (carried_by (is_indirect session past) attached.0 changes_made))) (λ name. (name, kept past session name)) more (λ name. refl) pushed)
           ∙ sym (ap (touch_tables (is_indirect session past) changes_made) (attach_by-named (rule_of session past) (kept past session) (map (λ change. change.table) changes_made) names_before (kept-none past session)))
 
     tables-off : is_enabled session past ≡ false → (session_of (event ∷ past) session).tables ≡ (session_of past session).tables
@@ -172,7 +161,7 @@ module _ {A : Type 0} where
 
   pub record_commit-nothing : (s : SessionState A) → record_commit [] s ≡ s
   record_commit-nothing s =
-      ap (λ tables. cond s.enabled (record s { tables = tables }) s) (map-same s.tables) ∙ cond-same s.enabled s
+      ap (λ tables. cond s.enabled (record s { tables = tables }) s) (map-id s.tables) ∙ cond-same s.enabled s
 
   -- a new session attaches nothing, so that no change touches it
   pub record_commit-new : (changes : List (Change A)) → record_commit changes new_session ≡ new_session

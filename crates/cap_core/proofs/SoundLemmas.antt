@@ -37,6 +37,7 @@ use Rattle.cap_session.specs.Sessions.{NumberedSessions, is_one_of, record_commi
 use Rattle.cap_core.specs.Capture.{change_now}
 use Rattle.cap_core.specs.CanCapture.{are_own_records, are_own_tables, is_own_image, is_own_session}
 use Rattle.cap_core.specs.Code.Sound.{KeepsColumns, are_own_differences, are_own_sessions}
+pub use Rattle.cap_table.proofs.TableLemmas.{found-passes}
 use Rattle.cap_core.proofs.TouchedLemmas.{fields_same, tied}
 use Rattle.cap_core.proofs.SmallLemmas.{first, second}
 
@@ -46,11 +47,6 @@ module _ {K X : Type 0} (R : K → K → Ordering) (test : K × X → Bool) wher
   list_all-put_entry [] k v all new = grind arith
   list_all-put_entry (e ∷ es) k v all new = grind (arith, list_all-put_entry es k v)
 
-  -- what is found passes
-  pub found-passes : IsAntisymmetric R → (es : List (K × X)) (k : K) (v : X) → list_all test es ≡ true → get R es k ≡ Some v → test (k, v) ≡ true
-  found-passes same [] k v all found = cc
-  found-passes same (e ∷ es) k v all found = grind (arith, tied R k e.0 same, found-passes same es k v)
-
 module _ {X Y : Type 0} where
   pub list_all-map : (test : X → Bool) (check : Y → Bool) (f : X → Y) → ((x : X) → test x ≡ true → check (f x) ≡ true) → (xs : List X) → list_all test xs ≡ true → list_all check (map f xs) ≡ true
   list_all-map test check f keeps [] all = refl
@@ -59,38 +55,22 @@ module _ {X Y : Type 0} where
   -- of what passes one test, a function makes what passes another, if anything
   pub list_all-filter_map : (test : X → Bool) (check : Y → Bool) (f : X → Option Y) → ((x : X) → test x ≡ true → IfSome (f x) (λ y. check y ≡ true)) → (xs : List X) → list_all test xs ≡ true → list_all check (filter_map f xs) ≡ true
   list_all-filter_map test check f each [] all = refl
-  list_all-filter_map test check f each (x ∷ xs) all = inner (f x) (each x (first (test x) _ all)) (list_all-filter_map test check f each xs (second (test x) _ all))
-    where
-      inner : (made : Option Y) → IfSome made (λ y. check y ≡ true) → list_all check (filter_map f xs) ≡ true → list_all check (cons_option made (filter_map f xs)) ≡ true
-      inner None is rest = rest
-      inner (Some y) is rest = and_from (check y) _ is rest
+  list_all-filter_map test check f each (x ∷ xs) all = grind (arith, each x, list_all-filter_map test check f each xs)
 
-module _ {X : Type 0} (test : X → Bool) where
-  list_all-weaker : (check : X → Bool) → ((x : X) → test x ≡ true → check x ≡ true) → (xs : List X) → list_all test xs ≡ true → list_all check xs ≡ true
-  list_all-weaker check keeps [] all = refl
-  list_all-weaker check keeps (x ∷ xs) all = grind (arith, keeps x, list_all-weaker check keeps xs)
-
-  list_all-push : (xs : List X) (v : X) → list_all test xs ≡ true → test v ≡ true → list_all test (xs ++ v ∷ []) ≡ true
-  list_all-push xs v all new = grind (arith, list_all-append test xs (v ∷ []))
+list_all-weaker : {X : Type 0} (test check : X → Bool) → ((x : X) → test x ≡ true → check x ≡ true) → (xs : List X) → list_all test xs ≡ true → list_all check xs ≡ true
+list_all-weaker test check keeps [] all = refl
+list_all-weaker test check keeps (x ∷ xs) all = grind (arith, keeps x, list_all-weaker test check keeps xs)
 
 module _ {A : Type 0} where
-  -- a row that is found is stored under its own key
-  pub is_keyed_row-found : (table : TableState A) (key row : Fields A) → IsTable table → get fields_cmp table.keyed key ≡ Some row → is_keyed_row table.schema key row ≡ true
-  is_keyed_row-found table key row sound is = found-passes fields_cmp (λ row. is_keyed_row table.schema row.0 row.1) fields_same table.keyed key row sound.keyed is
-
   pub row-stands : (table : TableState A) (key : Fields A) → IsTable table → is_own_image (Some table.schema) key (get fields_cmp table.keyed key) ≡ true
-  row-stands table key sound = inner (get fields_cmp table.keyed key) refl
-    where
-      inner : (row : Option (Fields A)) → get fields_cmp table.keyed key ≡ row → is_own_image (Some table.schema) key row ≡ true
-      inner None is = refl
-      inner (Some row) is = is_keyed_row-found table key row sound is
+  row-stands table key sound =
+      grind (arith, λ (row : Fields A). found-passes fields_cmp (λ entry. is_keyed_row table.schema entry.0 entry.1) fields_same table.keyed key row sound.keyed)
 
   -- ---- tables that keep their columns
 
   is_own_image-kept : (before after : Option (List Bool)) → ((schema : List Bool) → before ≡ Some schema → after ≡ Some schema) → (key : Fields A) (image : Option (Fields A)) → is_own_image before key image ≡ true → is_own_image after key image ≡ true
-  is_own_image-kept before after kept key None is = grind arith
-  is_own_image-kept None after kept key (Some row) is = cc
-  is_own_image-kept (Some schema) after kept key (Some row) is = subst (λ found. is_own_image found key (Some row) ≡ true) (sym (kept schema refl)) is
+  is_own_image-kept None after kept key image is = grind arith
+  is_own_image-kept (Some schema) after kept key image is = grind (arith, kept schema refl)
 
   -- what is sound stays sound where each table keeps its columns
   is_own_session-kept : (before after : Tables A) → KeepsColumns before after → (session : SessionState A) → is_own_session before session ≡ true → is_own_session after session ≡ true
@@ -116,11 +96,8 @@ module _ {A : Type 0} where
 
   -- the row before an event is a row of its table
   image_before : (before : Tables A) → EachRises before → (name : List ℕ) (key : Fields A) → is_own_image (schema_of before name) key (row_at before name key) ≡ true
-  image_before before rises name key = inner (table_of before name) refl
-    where
-      inner : (there : Option (TableState A)) → table_of before name ≡ there → is_own_image (option_map (λ table. table.schema) there) key (option_and_then (λ table. get fields_cmp table.keyed key) there) ≡ true
-      inner None is = refl
-      inner (Some table) is = let rising = each-found IsRising before name table rises is in row-stands table key rising.sound
+  image_before before rises name key =
+      grind (arith, λ (table : TableState A) (is : table_of before name ≡ Some table). row-stands table key (each-found IsRising before name table rises is).sound)
 
   told_by-stand : (before : Tables A) → EachRises before → (indirect : Bool) (name : List ℕ) (changes : List (Change A)) → list_all (touch_stands (schema_of before name)) (told_by before indirect name changes) ≡ true
   told_by-stand before rises indirect name [] = refl
@@ -137,15 +114,12 @@ module _ {A : Type 0} where
       ∙ with_touches-stand (schema_of before attached.0) (told_by before indirect attached.0 changes) attached.1 (told_by-stand before rises indirect attached.0 changes) all)
 
   pub attach-stands : (database : Tables A) (name : List ℕ) (tables : AttachedTables A) → are_own_tables database tables ≡ true → are_own_tables database (attach name tables) ≡ true
-  attach-stands database name tables all = grind (arith, list_all-push (λ attached. are_own_records (schema_of database attached.0) attached.1) tables (name, []))
-
-  attach_by-stands : (database : Tables A) (rule : AutomaticRule A) (name : List ℕ) (tables : AttachedTables A) → are_own_tables database tables ≡ true → are_own_tables database (attach_by rule tables name) ≡ true
-  attach_by-stands database rule name tables all = grind (arith, attach-stands database name tables)
+  attach-stands database name tables all = grind (arith, list_all-append (λ (attached : List ℕ × Records A). are_own_records (schema_of database attached.0) attached.1) tables ((name, []) ∷ []))
 
   attach_by_rule-stands : (database : Tables A) (rule : AutomaticRule A) (changes : List (Change A)) (tables : AttachedTables A) → are_own_tables database tables ≡ true → are_own_tables database (attach_by_rule rule changes tables) ≡ true
   attach_by_rule-stands database rule [] tables all = all
   attach_by_rule-stands database rule (change ∷ changes) tables all =
-      attach_by_rule-stands database rule changes (attach_by rule tables change.table) (attach_by-stands database rule change.table tables all)
+      attach_by_rule-stands database rule changes (attach_by rule tables change.table) (grind (arith, attach-stands database change.table tables))
 
   record_commit-stands : (before : Tables A) → EachRises before → (changes : List (Change A)) → CarryFirstRows before changes → (session : SessionState A) → is_own_session before session ≡ true → is_own_session before (record_commit changes session) ≡ true
   record_commit-stands before rises changes carry session all =
@@ -200,8 +174,7 @@ module _ {A : Type 0} where
   key_fields-has_key : (schema : List Bool) (row : Fields A) → nat_le 1 (length (key_fields schema row)) ≡ true → has_key schema ≡ true
   key_fields-has_key [] row is = cc
   key_fields-has_key (flag ∷ schema) [] is = cc
-  key_fields-has_key (true ∷ schema) (field ∷ row) is = refl
-  key_fields-has_key (false ∷ schema) (field ∷ row) is = key_fields-has_key schema row is
+  key_fields-has_key (flag ∷ schema) (field ∷ row) is = grind (arith, key_fields-has_key schema row)
 
   pub is_keyed_row-wide : (schema : List Bool) (key row : Fields A) → is_keyed_row schema key row ≡ true → length row ≡ length schema
   is_keyed_row-wide schema key row is = let e = first (nat_eq (length row) (length schema)) (is_key_of (key_of schema row) key) is in grind (arith, nat_tests)
@@ -216,17 +189,8 @@ module _ {A : Type 0} where
   pub is_keyed_row-IsKeyedRow : (schema : List Bool) (key row : Fields A) → is_keyed_row schema key row ≡ true → IsKeyedRow schema row
   is_keyed_row-IsKeyedRow schema key row is = record { wide = is_keyed_row-wide schema key row is; keyed = ap is_some (is_keyed_row-key_of schema key row is) }
 
-  key_from-some : (fields key : Fields A) → key_from fields ≡ Some key → nat_le 1 (length fields) ≡ true
-  key_from-some fields key is = grind arith
-
   pub is_keyed_row-has_key : (schema : List Bool) (key row : Fields A) → is_keyed_row schema key row ≡ true → has_key schema ≡ true
-  is_keyed_row-has_key schema key row is = key_fields-has_key schema row (key_from-some (key_fields schema row) key (is_keyed_row-key_of schema key row is))
-
-  -- a row as wide as the table is stored under its own key
-  pub is_keyed_row-own : (schema : List Bool) (key row : Fields A) → length row ≡ length schema → key_of schema row ≡ Some key → is_keyed_row schema key row ≡ true
-  is_keyed_row-own schema key row wide own =
-      and_from (nat_eq (length row) (length schema)) _ (grind (arith, nat_tests))
-      (subst (λ found. is_key_of found key ≡ true) (sym own) (ap is_eq ((fields_cmp-Equal key key).1 refl)))
+  is_keyed_row-has_key schema key row is = let own = is_keyed_row-key_of schema key row is in key_fields-has_key schema row (grind arith)
 
   pub image-IsKeyedRow : (schema : List Bool) (key : Fields A) (image : Option (Fields A)) (row : Fields A) → is_own_image (Some schema) key image ≡ true → image ≡ Some row → is_keyed_row schema key row ≡ true
   image-IsKeyedRow schema key image row is some = subst (λ found. is_own_image (Some schema) key found ≡ true) some is
@@ -246,10 +210,6 @@ module _ {A : Type 0} where
   run-columns law tables ops left is =
       let same = kept_by (λ (o : OutcomeState A). (name : List ℕ) → schema_of o.database name ≡ schema_of tables name) (run tables ops) left is (law tables ops) in
       record { each = λ name columns there. same name ∙ there }
-
--- one more item
-pub take-item : {X : Type 0} (xs : List X) (i : ℕ) (x : X) → i < length xs → x ≡ get_or xs i x → take (i + 1) xs ≡ take i xs ++ x ∷ []
-take-item xs i x lt is = ap (λ k. take k xs) (add-one i) ∙ take-suc xs i x lt ∙ ap (λ y. take i xs ++ y ∷ []) (sym is)
 
 module _ {A : Type 0} where
   pub images-same_key : (schema : List Bool) (key : Fields A) (image now : Option (Fields A)) → is_own_image (Some schema) key image ≡ true → is_own_image (Some schema) key now ≡ true

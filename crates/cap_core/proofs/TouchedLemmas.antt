@@ -6,13 +6,13 @@ use Rattle.std.proofs.lemmas.List.Folds.{list_all-append}
 use Rattle.std.proofs.lemmas.List.Elements.{filter-append}
 use Rattle.std.specs.Option.{option_map}
 use Rattle.std.specs.Ordering.{eq_by_cmp, is_lt}
-use Rattle.std.specs.Cmp.{Equal-is}
 use Rattle.std.specs.FinMap as map_of
 use Rattle.std.specs.FinMap.{IsAntisymmetric}
 use Rattle.std.specs.FinMap.Entries.{find, put, below_all, is_sorted, is_sorted-put, find-put, same_entries}
 use Rattle.cap_row.specs.Fields.{Fields}
-use Rattle.cap_row.specs.Key.{fields_cmp, fields_cmp_total, fields_cmp-Equal}
+use Rattle.cap_row.specs.Key.{fields_cmp, fields_cmp_total}
 pub use Rattle.cap_table.proofs.KeptLemmas.{put_entry-put}
+pub use Rattle.cap_table.proofs.TableLemmas.{fields_same, tied}
 use Rattle.cap_tree.specs.Tree.{get, put_entry}
 use Rattle.cap_session.specs.declared.record.Record.{Record}
 use Rattle.cap_session.specs.Records.{Touch as RowTouch, record_after, touch as with_touch, with_touches}
@@ -29,9 +29,6 @@ module _ {K X : Type 0} (R : K → K → Ordering) where
   find-push q k v [] = refl
   find-push q k v (e ∷ es) = grind (arith, find-push q k v es)
 
-pub tied : {K : Type 0} (R : K → K → Ordering) (x y : K) → IsAntisymmetric R → eq_by_cmp R x y ≡ true → x ≡ y
-tied R x y same t = same x y ((Equal-is (R x y)).0 t)
-
 module _ {K X Y : Type 0} (R : K → K → Ordering) (g : K → X → Y) where
   pub find-map : IsAntisymmetric R → (q : K) (es : List (K × X)) → find R q (map (λ e. (e.0, g e.0 e.1)) es) ≡ option_map (g q) (find R q es)
   find-map same q [] = refl
@@ -46,9 +43,6 @@ module _ {K X Y : Type 0} (R : K → K → Ordering) (g : K → X → Y) where
   is_sorted-map (e ∷ es) = λ i. below_all-map e.0 es i && is_sorted-map es i
 
 module _ {A : Type 0} where
-  pub fields_same : IsAntisymmetric (fields_cmp {A = A})
-  fields_same a b = (fields_cmp-Equal a b).0
-
   -- what is kept of a key after these touches
   unfoldable pub touched_at : List (Fields A × Touch A) → Fields A → Option (Record A)
   touched_at touches key = option_map (λ touch. record { image = touch.image; indirect = all_indirect touches key }) (find fields_cmp key touches)
@@ -114,9 +108,6 @@ module _ {A : Type 0} where
   records_of-append touches [] = ap records_of (append-nil touches)
   records_of-append touches (touch ∷ more) = ap records_of (sym (append_assoc touches (touch ∷ []) more)) ∙ records_of-append (touches ++ touch ∷ []) more ∙ ap (λ records. with_touches records (map told more)) (records_of-push touches touch)
 
-  nothing : (q : Fields A) → touched_at [] q ≡ None
-  unfolding touched_at
-  nothing q = refl
-
   pub records_of-none : records_of {A = A} [] ≡ []
-  records_of-none = same_entries fields_cmp fields_cmp_total fields_same (records_of []) [] (is_sorted-records_of []) tt (λ q. find-records_of [] q ∙ nothing q)
+  unfolding touched_at
+  records_of-none = same_entries fields_cmp fields_cmp_total fields_same (records_of []) [] (is_sorted-records_of []) tt (find-records_of [])

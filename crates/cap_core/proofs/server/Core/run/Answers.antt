@@ -5,7 +5,7 @@ use Rattle.cap_core.specs.Transition.{next}
 use Rattle.cap_core.proofs.FitLemmas.{history-fits}
 use Rattle.cap_core.proofs.NextLemmas.{IsLegal-none, state-push}
 use Rattle.cap_core.proofs.PrepareLemmas.{run-push, events-run}
-use Rattle.cap_core.proofs.SoundLemmas.{take-item}
+use Rattle.cap_database.proofs.StepLemmas.{take_item}
 use Rattle.cap_core.proofs.server.Core.run.Goals as goal
 
 pub loop-command-init : goal.loop-command-init
@@ -25,7 +25,7 @@ loop-command-preserved g c =
     let h = history_of commands replies in
     let pushes = state-push h 0 c.command-item.result c.loop-command.core c.in_ok-reply.reply c.loop-command.invariant.1 c.loop-command.invariant.2 c.in_ok-reply.ensures.1 in
     let pushed = run-push commands replies c.command-item.result c.in_ok-reply.reply (next c.loop-command.core c.command-item.result) (taken ∙ sym c.loop-command.invariant.0) c.loop-command.invariant.1 pushes in
-    rw (c.in_ok-push.ensures.items, take-item c.args.commands.now c.loop-command.command-index c.command-item.result c.loop-command-test.true c.command-item.is)
+    rw (c.in_ok-push.ensures.items, take_item c.args.commands.now c.loop-command.command-index c.command-item.result c.loop-command-test.true c.command-item.is)
     (omega (arith, length-append replies (c.in_ok-reply.reply ∷ []), c.loop-command.invariant.0), pushed.0, pushed.1 ∙ sym c.in_ok-reply.ensures.0)
 
 pub returns-clause-legal : goal.returns-clause-legal
