@@ -46,7 +46,21 @@ pub fn take_bytes(total: usize, count: usize, bytes: &[u8]) -> Result<(&[u8], &[
 
 /// A varint, and the bytes behind it.
 #[tactic(auto, unfolding(crate::specs::Reading::varint_at))]
+#[inline(always)]
 pub fn take_varint(total: usize, bytes: &[u8]) -> Result<(usize, &[u8]), BlobFault>
+    ensures reads { Reads (λ x. (x.0, x.1.now)) result (varint_at total bytes.now) }
+    ensures behind { IfOk result (λ x. length x.1.now ≤ length bytes.now) }
+{
+    match bytes {
+        [byte, rest @ ..] if *byte < 128 => Ok((*byte as usize, rest)),
+        _ => take_groups(total, bytes),
+    }
+}
+
+// The groups of seven bits of a varint. Most varints have one, so this is no part of the callers.
+#[tactic(auto, unfolding(crate::specs::Reading::varint_at))]
+#[inline(never)]
+fn take_groups(total: usize, bytes: &[u8]) -> Result<(usize, &[u8]), BlobFault>
     ensures reads { Reads (λ x. (x.0, x.1.now)) result (varint_at total bytes.now) }
     ensures behind { IfOk result (λ x. length x.1.now ≤ length bytes.now) }
 {
@@ -82,6 +96,7 @@ pub fn text_in(bytes: &[u8]) -> Option<&str>
 
 /// A length and that many bytes. `at` is the offset of the field's type byte.
 #[tactic(auto, unfolding(crate::specs::FieldReading::sized_at))]
+#[inline(always)]
 pub fn take_sized(total: usize, at: usize, bytes: &[u8]) -> Result<(&[u8], &[u8]), BlobFault>
     ensures reads { Reads (λ x. (x.0.now, x.1.now)) result (sized_at total at bytes.now) }
     ensures behind { IfOk result (λ x. length x.1.now ≤ length bytes.now) }
@@ -98,6 +113,7 @@ pub fn take_sized(total: usize, at: usize, bytes: &[u8]) -> Result<(&[u8], &[u8]
 }
 
 /// The number of an integer, and the bytes behind it.
+#[inline(always)]
 pub fn take_number(total: usize, bytes: &[u8]) -> Result<(i64, &[u8]), BlobFault>
     ensures reads { Reads (λ x. (x.0, x.1.now)) result (number_at total bytes.now) }
     ensures behind { IfOk result (λ x. length x.1.now ≤ length bytes.now) }
@@ -113,6 +129,7 @@ pub fn take_number(total: usize, bytes: &[u8]) -> Result<(i64, &[u8]), BlobFault
 
 /// A length and that many bytes, which are UTF-8. `at` is the offset of the field's type byte.
 #[tactic(auto, unfolding(crate::specs::FieldReading::text_at))]
+#[inline(always)]
 pub fn take_text(total: usize, at: usize, bytes: &[u8]) -> Result<(&str, &[u8]), BlobFault>
     ensures reads { Reads (λ x. (x.0.now, x.1.now)) result (text_at total at bytes.now) }
     ensures behind { IfOk result (λ x. length x.1.now ≤ length bytes.now) }

@@ -10,21 +10,8 @@ use crate::field::{BLOB, INTEGER, TEXT};
 use crate::reading::take_varint;
 use cap_value::AllocHandle;
 
-#[tactic(auto, unfolding(crate::specs::Reading::varint_at))]
 #[inline(always)]
 fn stored_varint(bytes: &[u8]) -> (usize, &[u8])
-    requires { IsOk (varint_at 0 bytes.now) }
-    ensures { varint_at 0 bytes.now ≡ Ok (result.0, result.1.now) }
-{
-    match bytes {
-        [byte, rest @ ..] if *byte < 128 => (*byte as usize, rest),
-        _ => long_varint(bytes),
-    }
-}
-
-// Most lengths are one byte, so these alone are made part of the callers.
-#[inline(never)]
-fn long_varint(bytes: &[u8]) -> (usize, &[u8])
     requires { IsOk (varint_at 0 bytes.now) }
     ensures { varint_at 0 bytes.now ≡ Ok (result.0, result.1.now) }
 {

@@ -1,6 +1,6 @@
 use Rattle.std.proofs.Common.{◌^◌, ◌≤◌, arith, rules}
 use Rattle.std.proofs.Math.Nat.{pow-le-pow_right}
-use Rattle.cap_field.proofs.reading.take_varint.Goals as goal
+use Rattle.cap_field.proofs.reading.take_groups.Goals as goal
 
 pub overflow_mul-result : goal.overflow_mul-result
 overflow_mul-result c =

@@ -1,6 +1,6 @@
 use Rattle.std.proofs.Common.{◌≡◌, ◌^◌, ◌<◌, ◌≤◌, drop}
 use Rattle.cap_field.specs.Reading.{place, varint_from, varint_at}
-use Rattle.cap_field.proofs.reading.take_varint.Given as goal
+use Rattle.cap_field.proofs.reading.take_groups.Given as goal
 
 abbrev pub invariant-loop-read : goal.invariant-loop-read
 invariant-loop-read l =
