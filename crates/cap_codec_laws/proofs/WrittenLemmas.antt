@@ -1,31 +1,27 @@
 -- What was written for a blob spells it, and bytes spell one blob.
-use Rattle.std.proofs.Common.{◌≡◌, ℕ, Bool, List, [], ◌∷◌, ◌++◌, length, filter, flat_map, Ok, IsTrue, if◌then◌else◌, refl, sym, ap, ◌∙◌, append_assoc}
+use Rattle.std.proofs.Common.{◌≡◌, ℕ, Bool, List, [], ◌∷◌, ◌++◌, length, filter, flat_map, Ok, IsTrue, refl, ap, ◌∙◌, append_assoc, arith}
 use Rattle.std.specs.List.{AllByRecursion}
 use Rattle.std.proofs.lemmas.List.Elements.{recursion_from_All}
 use Rattle.cap_changes.specs.Fits.{change_fits, patch_fits}
+use Rattle.cap_changes.specs.Group.{TableChanges}
 use Rattle.cap_changes.specs.PatchGroup.{TablePatches}
 use Rattle.cap_codec.specs.declared.key_flags.KeyFlags.{KeyFlags}
 use Rattle.cap_codec.specs.declared.key_flags.KeyFlags.TheVariants.{Ones}
 use Rattle.cap_codec.specs.declared.read.Contents.{Contents}
 use Rattle.cap_codec.specs.declared.read.Contents.TheVariants.{Changes, Patches}
 use Rattle.cap_changes.specs.ChangeBytes.{change_bytes, patch_bytes}
-use Rattle.cap_codec.specs.Changeset.{flags_bytes, header_bytes, changes_under, entries_bytes}
-use Rattle.cap_codec.specs.Patchset.{patch_list_bytes_with}
+use Rattle.cap_codec.specs.Changeset.{flags_bytes, header_bytes, entries_bytes, list_bytes}
+use Rattle.cap_codec.specs.Patchset.{patch_list_bytes}
 use Rattle.cap_field.specs.Varint.{varint_bytes}
 use Rattle.cap_changes.specs.Entries.{TableEntries}
 use Rattle.cap_codec.specs.BlobReading.{blob_at}
 use Rattle.cap_changes.specs.Spelling.{SpellsEach, SpellsChange, SpellsPatch}
-use Rattle.cap_codec.specs.Spelling.{SpellsGroup, SpellsPatches, Spells}
-use Rattle.cap_codec.specs.Writable.{IsGroupOf, IsGroup, IsPatchGroup, IsWritable, has_some, blob_bytes, blob_bytes_with, of_patches, with_some, HasNoEmptyGroup}
+use Rattle.cap_codec.specs.Spelling.{SpellsGroup, Spells}
+use Rattle.cap_codec.specs.Writable.{IsGroupOf, IsGroup, IsPatchGroup, IsWritable, has_some, blob_bytes, blob_bytes_with, with_some, HasNoEmptyGroup}
 use Rattle.cap_changes.specs.HasValues.{HasValues, PatchHasValues}
-use Rattle.cap_field.proofs.Binds.{ok_is}
 use Rattle.cap_codec.proofs.KeyFlagLemmas.{flags_set}
 use Rattle.cap_changes.proofs.StoredChange.{change_written, patch_written}
 use Rattle.cap_codec.proofs.BlobAgain.{blob_again}
-
-module _ {A : Type 0} where
-  pub one_spelled : (bytes : List ℕ) (a b : Contents A) → Spells a bytes → Spells b bytes → a ≡ b
-  one_spelled bytes a b of_a of_b = ok_is a b (sym (blob_again a bytes of_a) ∙ blob_again b bytes of_b)
 
 module _ {X : Type 0} (key_flags : KeyFlags) (kind : ℕ) (bytes : X → List ℕ) (one : List Bool → X → List ℕ → Type 0) (fits : List Bool → X → Bool) (values : X → Type 0)
     (written : (flags : List Bool) (x : X) → IsTrue (fits flags x) → values x → one flags x (bytes x)) where
@@ -47,33 +43,21 @@ module _ {X : Type 0} (key_flags : KeyFlags) (kind : ℕ) (bytes : X → List �
     each = each_written group.schema group.changes (recursion_from_All (λ x. IsTrue (fits group.schema x)) group.changes is.fit) (recursion_from_All values group.changes is.values);
   }
 
-  -- a group that has no changes has no bytes, and is left out
-  put_group : (table : List ℕ) (schema : List Bool) (xs : List X) (others : List (TableEntries X)) (rest : List ℕ) → Spelled (record { table = table; schema = schema; changes = xs }) (header_bytes key_flags kind table schema ++ flat_map bytes xs)
-      → SpellsEach Spelled others rest
-      → SpellsEach Spelled (if has_some xs then record { table = table; schema = schema; changes = xs } ∷ others else others) (changes_under bytes (header_bytes key_flags kind table schema) xs ++ rest)
-  put_group table schema [] others rest spelled are = are
-  put_group table schema (x ∷ xs) others rest spelled are = (header_bytes key_flags kind table schema ++ flat_map bytes (x ∷ xs), rest, refl, spelled, are)
-
   groups_written : (groups : List (TableEntries X)) → AllByRecursion (IsGroupOf fits values) groups
       → SpellsEach Spelled (filter (λ group. has_some group.changes) groups) (flat_map (entries_bytes key_flags kind bytes) groups)
   groups_written [] is = refl
-  groups_written (group ∷ groups) is = put_group group.table group.schema group.changes _ _ (group_written group is.0) (groups_written groups is.1)
+  groups_written (group ∷ groups) is = let first = group_written group is.0 in let others = groups_written groups is.1 in grind (arith, first, others)
 
 all_kept : {X : Type 0} (has : X → Bool) (xs : List X) → AllByRecursion (λ x. IsTrue (has x)) xs → filter has xs ≡ xs
 all_kept has [] each = refl
 all_kept has (x ∷ xs) each = rw (each.0, all_kept has xs each.1) refl
 
 module _ {A : Type 0} where
-  -- without groups it is a changeset
-  of_spelled : (groups : List (TablePatches A)) (bytes : List ℕ) → SpellsEach SpellsPatches groups bytes → Spells (of_patches groups) bytes
-  of_spelled [] bytes none = none
-  of_spelled (first ∷ others) bytes spelled = (spelled, λ e. cc)
-
   -- The bytes of a blob spell it, without the groups that have no change.
   pub written_spelled : (key_flags : KeyFlags) (blob : Contents A) → IsWritable blob → Spells (with_some blob) (blob_bytes_with key_flags blob)
   written_spelled key_flags (Changes groups) writable = groups_written key_flags 0x54 change_bytes SpellsChange change_fits HasValues change_written groups (recursion_from_All IsGroup groups writable)
-  written_spelled key_flags (Patches groups) writable = of_spelled (filter (λ group. has_some group.changes) groups) (patch_list_bytes_with key_flags groups)
-      (groups_written key_flags 0x50 patch_bytes SpellsPatch patch_fits PatchHasValues patch_written groups (recursion_from_All IsPatchGroup groups writable))
+  written_spelled key_flags (Patches groups) writable =
+      let are = groups_written key_flags 0x50 patch_bytes SpellsPatch patch_fits PatchHasValues patch_written groups (recursion_from_All IsPatchGroup groups writable) in grind (arith, are)
 
   -- What was written for a blob reads as it, without the groups that have no change.
   pub written_again : (key_flags : KeyFlags) (blob : Contents A) → IsWritable blob → blob_at (blob_bytes_with key_flags blob) ≡ Ok (with_some blob)
@@ -81,11 +65,15 @@ module _ {A : Type 0} where
 
   -- ---- no two blobs without empty groups have the same bytes
 
-  nothing_left_out : (blob : Contents A) → HasNoEmptyGroup blob → with_some blob ≡ blob
-  nothing_left_out (Changes groups) each = rw (all_kept (λ group. has_some group.changes) groups (recursion_from_All _ groups each)) refl
-  nothing_left_out (Patches []) each = absurd cc
-  nothing_left_out (Patches (first ∷ others)) each = rw (all_kept (λ group. has_some group.changes) (first ∷ others) (recursion_from_All _ (first ∷ others) each.1)) refl
+  pub whole_again : (blob : Contents A) → IsWritable blob → HasNoEmptyGroup blob → blob_at (blob_bytes blob) ≡ Ok blob
+  whole_again (Changes groups) writable whole = written_again Ones (Changes groups) writable ∙ ap (λ (kept : List (TableChanges A)). Ok (Changes kept)) (all_kept (λ group. has_some group.changes) groups (recursion_from_All _ groups whole))
+  whole_again (Patches groups) writable whole =
+      let kept = all_kept (λ group. has_some group.changes) groups (recursion_from_All _ groups whole.1) in let again = written_again Ones (Patches groups) writable in grind (arith, kept, again, whole.0)
 
-  pub one_blob : (a b : Contents A) → IsWritable a → IsWritable b → HasNoEmptyGroup a → HasNoEmptyGroup b → blob_bytes a ≡ blob_bytes b → a ≡ b
-  one_blob a b of_a of_b whole_a whole_b same =
-      sym (nothing_left_out a whole_a) ∙ ok_is _ _ (sym (written_again Ones a of_a) ∙ ap blob_at same ∙ written_again Ones b of_b) ∙ nothing_left_out b whole_b
+  -- ---- the lists of the types
+
+  pub changes_again : (groups : List (TableChanges A)) → IsWritable (Changes groups) → blob_at (list_bytes groups) ≡ Ok (with_some (Changes groups))
+  changes_again groups are = written_again Ones (Changes groups) are
+
+  pub patches_again : (groups : List (TablePatches A)) → IsWritable (Patches groups) → blob_at (patch_list_bytes groups) ≡ Ok (with_some (Patches groups))
+  patches_again groups are = written_again Ones (Patches groups) are

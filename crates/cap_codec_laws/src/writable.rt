@@ -28,6 +28,7 @@ fn are_groups<C: Entry, A: AllocHandle>(list: &GroupList<C, A>)
 
 /// A law: a list of changes can be written, and is read again as it was, without its empty groups. At run
 /// time it only visits each group.
+#[tactic(auto, using(crate::proofs::WrittenLemmas::changes_again))]
 pub fn changes_are_writable<A: AllocHandle>(list: &ChangeList<A>)
     ensures writable { IsWritable (kinds.Changes list.now) }
     ensures again { blob_at (list_bytes list.now) ≡ Ok (with_some (kinds.Changes list.now)) }
@@ -36,6 +37,7 @@ pub fn changes_are_writable<A: AllocHandle>(list: &ChangeList<A>)
 }
 
 /// The same for a patchset. One without changes is read as the empty changeset.
+#[tactic(auto, using(crate::proofs::WrittenLemmas::patches_again))]
 pub fn patches_are_writable<A: AllocHandle>(list: &PatchList<A>)
     ensures writable { IsWritable (kinds.Patches list.now) }
     ensures again { blob_at (patch_list_bytes list.now) ≡ Ok (with_some (kinds.Patches list.now)) }

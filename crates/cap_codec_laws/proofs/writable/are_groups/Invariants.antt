@@ -1,7 +1,7 @@
-use Rattle.std.proofs.Common.{take}
-use Rattle.std.specs.Prelude.{All}
+use Rattle.std.proofs.Common.{ℕ, ◌<◌}
+use Rattle.std.specs.Prelude.{slice_index_or}
 use Rattle.cap_codec.specs.Writable.{IsGroupOf}
 use Rattle.cap_codec_laws.proofs.writable.are_groups.Given as goal
 
 abbrev pub invariant-loop-group : goal.invariant-loop-group
-invariant-loop-group g l = All (IsGroupOf g.C.Entry.fits_in g.C.Entry.has_values) (take l.group-index l.group-items)
+invariant-loop-group g l = (k : ℕ) (d : _) → k < l.group-index → IsGroupOf g.C.Entry.fits_in g.C.Entry.has_values (slice_index_or l.group-items k d)
