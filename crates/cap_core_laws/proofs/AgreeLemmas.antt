@@ -1,7 +1,6 @@
 -- What the captures of a session depend on after a past, and that what comes after changes it by that alone.
 use Rattle.std.proofs.Common.{◌≡◌, ℕ, ◌+◌, Bool, true, false, cond, Some, None, List, [], ◌∷◌, ◌++◌, ◌&&◌, ◌||◌, not, refl, sym, ap, ◌∙◌, arith, nat_eq}
-use Rattle.std.proofs.lemmas.Bool.Decides.{nat_tests}
-use Rattle.std.specs.Prelude.{filter}
+use Rattle.std.proofs.lemmas.Map.Views.{any-filter_same}
 use Rattle.std.specs.List.{list_any, range_with_len}
 use Rattle.cap_database.specs.Snapshot.{SnapshotState}
 use Rattle.cap_database.specs.Tables.{Tables}
@@ -17,16 +16,11 @@ use Rattle.cap_core.specs.History.{Databases, effect_of, is_write, main, saved, 
 use Rattle.cap_core.specs.Outcome.{no_effect, outcome}
 use Rattle.cap_core.specs.Past.{Past, is_accepted}
 use Rattle.cap_core.specs.Session.{session_of}
-use Rattle.cap_core_laws.proofs.EmptyLemmas.{found-live}
+use Rattle.cap_core_laws.proofs.AppliedCaptureLemmas.{found-live}
 use Rattle.cap_core.proofs.NumberLemmas.{equal_numbers, unequal_numbers}
 use Rattle.cap_core.proofs.SessionLemmas.{record_commit-nothing, session-refused}
 use Rattle.cap_core.proofs.FlagLemmas.{left_by, session-of-command, session_after}
 use Rattle.cap_core.proofs.ToldLemmas.{is_named, to_others}
-
--- a number is among those that pass where it passes itself
-among-passing : (p : ℕ → Bool) (number : ℕ) (numbers : List ℕ) → list_any (nat_eq number) (filter p numbers) ≡ (p number && list_any (nat_eq number) numbers)
-among-passing p number [] = grind arith
-among-passing p number (k ∷ numbers) = grind (arith, nat_tests, among-passing p number numbers)
 
 -- the tables, what is saved, and of the session with the number what it has and whether it is live
 record Seen (A : Type 0) : Type 0 where
@@ -57,11 +51,9 @@ module _ {A : Type 0} where
   seen-event : (number : ℕ) (event : Event A) (past : Past A) → seen number (event ∷ past) ≡ seen_by number (is_accepted event.reply) event.command (seen number past)
   seen-event number event past =
       let after : SessionState A = session_after number event.command (record { version = version past; database = main past }) (saved past) (session_of past number) in
+      let is : session_of (event ∷ past) number ≡ cond (is_accepted event.reply) after (session_of past number) = grind (arith, session-of-command past event number, session-refused number event past) in
       ap (λ s. record (seen_by number (is_accepted event.reply) event.command (seen number past)) { session = s })
-      (elim (is_accepted event.reply) as (λ b. is_accepted event.reply ≡ b → session_of (event ∷ past) number ≡ cond b after (session_of past number)) [
-        | true ↦ session-of-command past event number
-        | false ↦ session-refused number event past
-      ] refl)
+      is
 
   seen-later : (number : ℕ) (past other : Past A) (later : List (Event A)) → seen number past ≡ seen number other → seen number (later ++ past) ≡ seen number (later ++ other)
   seen-later number past other [] same = same
@@ -90,7 +82,7 @@ module _ {A : Type 0} where
   capture-shown : (number : ℕ) (past : Past A) → capture_after past number ≡ shown number (seen number past)
   capture-shown number past =
       ap (λ found. session_answer found (capture_reply (version past) (main past)))
-      (found-live past number ∙ ap (λ b. cond b (Some (session_of past number)) None) (among-passing (λ k. not (is_dropped past k)) number (range_with_len 1 (sessions_made past))))
+      (found-live past number ∙ ap (λ b. cond b (Some (session_of past number)) None) (any-filter_same (nat_eq number) (λ k. not (is_dropped past k)) (not (is_dropped past number)) (λ k same. ap (λ n. not (is_dropped past n)) (sym (equal_numbers number k same))) (range_with_len 1 (sessions_made past))))
 
   captures-agree : (number : ℕ) (past other : Past A) → seen number past ≡ seen number other → capture_after past number ≡ capture_after other number
   captures-agree number past other same = capture-shown number past ∙ ap (shown number) same ∙ sym (capture-shown number other)

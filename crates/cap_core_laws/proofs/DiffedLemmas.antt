@@ -1,6 +1,6 @@
 -- A capture after a diff, applied to the database that was compared with, gives main's rows of the table.
 use Rattle.std.proofs.Common.{◌≡◌, ℕ, Bool, true, false, cond, Option, Some, None, Result, Ok, Err, List, [], ◌∷◌, ◌++◌, ◌&&◌, ◌||◌, map, refl, sym, ap, subst, ◌∙◌, arith}
-use Rattle.std.specs.Prelude.{is_some, option_and_then}
+use Rattle.std.specs.Prelude.{is_some}
 use Rattle.std.specs.Option.{option_map, unwrap_or}
 use Rattle.std.proofs.lemmas.List.Folds.{list_any-append}
 use Rattle.std.specs.Cmp.Lexicographic.{bytes_decides, nat_list_eq_equiv}
@@ -25,10 +25,9 @@ use Rattle.cap_session.proofs.TableLemmas.{listed}
 use Rattle.cap_session.specs.declared.record.Record.{Record}
 use Rattle.cap_session.specs.Recording.{record_commit, touch_table, touches_found}
 use Rattle.cap_session.specs.Records.{Records, Touch as RowTouch, record_after, touch, with_touches}
-use Rattle.cap_session.specs.Session.{AttachedTables, SessionState, attach, forget, is_listed, record_of, records_of as attached_records}
+use Rattle.cap_session.specs.Session.{AttachedTables, SessionState, attach, forget, record_of, records_of as attached_records}
 use Rattle.cap_session.specs.Sessions.{session_numbered}
 use Rattle.cap_core.specs.declared.command.Command.{Command}
-use Rattle.cap_core.specs.declared.command.Command.TheVariants as command
 use Rattle.cap_core.specs.declared.session_command.SessionCommand.{SessionCommand}
 use Rattle.cap_core.specs.declared.session_command.SessionCommand.TheVariants.{Attach, Change, Diff}
 use Rattle.cap_core.specs.declared.event.Event.{Event}
@@ -37,13 +36,13 @@ use Rattle.cap_core.specs.Answer.{answer, capture_after, diffed, session_answer,
 use Rattle.cap_core.specs.Diff.{diff}
 use Rattle.cap_core.specs.AppliedCapture.{AppliesRows, AreQuiet, GivesRows, HoldsImages, IsDiffed, changes_in, renews}
 use Rattle.cap_core.specs.Capture.{CaptureState}
-use Rattle.cap_core.specs.Flags.{changes_shown, command_to, is_indirect}
-use Rattle.cap_core.specs.History.{Databases, effect_of, event_effect, is_write, main, saved, snapshot}
-use Rattle.cap_core.specs.Outcome.{Effect, Refused, no_effect, outcome}
+use Rattle.cap_core.specs.Flags.{command_to, is_indirect}
+use Rattle.cap_core.specs.History.{Databases, event_effect, is_write, main, saved, snapshot}
+use Rattle.cap_core.specs.Outcome.{no_effect, outcome}
 use Rattle.cap_core.specs.Past.{Past, is_accepted}
 use Rattle.cap_core.specs.Session.{session_of, sessions}
 use Rattle.cap_core.specs.Transition.{compared, session_left}
-use Rattle.cap_core_laws.proofs.AppliedCaptureLemmas.{capture_applies, found-rising}
+use Rattle.cap_core_laws.proofs.AppliedCaptureLemmas.{captured, changes_apply, found-rising}
 use Rattle.cap_core.proofs.KeyedLemmas.{ordered}
 use Rattle.cap_core.proofs.ChangeLemmas.{is_changed}
 use Rattle.cap_core.proofs.DiffLemmas.{WasCompared, was_compared}
@@ -80,31 +79,15 @@ module _ {A : Type 0} where
   record-attach : (name : List ℕ) (tables : AttachedTables A) (other : List ℕ) (key : Fields A) → record_of (attach name tables) other key ≡ record_of tables other key
   record-attach name tables other key = grind (arith, attached-append tables name other)
 
-  listed-attach : (name : List ℕ) (tables : AttachedTables A) → is_listed name (attach name tables) ≡ true
-  listed-attach name tables = grind (arith, nat_list_eq_equiv.refl name, list_any-append (λ (attached : List ℕ × Records A). bytes_eq name attached.0) tables ((name, []) ∷ []))
-
   touched-records : (name : List ℕ) (touches : List (RowTouch A)) (tables : AttachedTables A) (other : List ℕ)
       → attached_records (touch_table name touches tables) other ≡ option_map (λ records. cond (bytes_eq name other) (with_touches records touches) records) (attached_records tables other)
   touched-records name touches [] other = refl
   touched-records name touches (first ∷ tables) other = grind (arith, (bytes_decides other first.0).0, touched-records name touches tables other)
 
-  touched-others : (name : List ℕ) (touches : List (RowTouch A)) (tables : AttachedTables A) (other : List ℕ) (key : Fields A) → bytes_eq name other ≡ false
-      → record_of (touch_table name touches tables) other key ≡ record_of tables other key
-  touched-others name touches tables other key apart = grind (arith, touched-records name touches tables other)
-
-  -- an attached table without a record of the key has the image that a diff found
-  touched-image : (name : List ℕ) (indirect : Bool) (ds : List (Difference A)) (tables : AttachedTables A) (key : Fields A) → is_listed name tables ≡ true → record_of tables name key ≡ None
-      → image_in (record_of (touch_table name (touches_found indirect ds) tables) name key) ≡ get fields_cmp (map image_of ds) key
-  touched-image name indirect ds tables key there none =
-      grind (arith, touched-records name (touches_found indirect ds) tables name, listed name tables, nat_list_eq_equiv.refl name, λ (records : Records A). images-after indirect ds records key)
-
   -- ---- events that neither write nor renew
 
   leaves-tables : (now : SnapshotState A) (c : Command A) → is_write c ≡ false → outcome now c ≡ Ok (no_effect now.database)
-  leaves-tables now (command.CreateTable name schema) is = cc
-  leaves-tables now (command.Commit batch) is = cc
-  leaves-tables now (command.Apply blob policy quiet) is = cc
-  leaves-tables now _ is = refl
+  leaves-tables now c writes = grind arith
 
   pub quiet-effect : (past : Past A) (event : Event A) → (is_accepted event.reply && is_write event.command) ≡ false → event_effect (snapshot past) event ≡ no_effect (main past)
   quiet-effect past event quiet = grind (arith, leaves-tables (snapshot past) event.command)
@@ -122,20 +105,12 @@ module _ {A : Type 0} where
   record-after-command : (session : ℕ) (c : Command A) (now : SnapshotState A) (databases : Databases A) (s : SessionState A) (name : List ℕ) (key : Fields A) → is_write c ≡ false → renews (command_to session c) ≡ false
       → record_of (session_after session c now databases s).tables name key ≡ record_of s.tables name key
   record-after-command session c now databases s name key writes renewed =
-      let commit : Result (Effect A) Refused → SessionState A = λ r. record_commit (changes_shown session c (effect_of now.database r).changes) s in
-      elim (command_to session c) as (λ o. renews o ≡ false → record_of (left_by o now.database databases s (commit (outcome now c))).tables name key ≡ record_of s.tables name key) [
-        | Some told ↦ left-records told now.database databases s name key
-        | None ↦ λ _. ap (λ r. record_of (commit r).tables name key) (leaves-tables now c writes) ∙ ap (λ changes. record_of (record_commit changes s).tables name key) (shown-none session c [] refl) ∙ ap (λ t. record_of t.tables name key) (record_commit-nothing s)
-      ] renewed
+      grind (arith, λ (told : SessionCommand A). left-records told now.database databases s name key, leaves-tables now c writes, shown-none session c [] refl, record_commit-nothing s)
 
   quiet-record : (session : ℕ) (past : Past A) (event : Event A) (name : List ℕ) (key : Fields A) → (is_accepted event.reply && (is_write event.command || renews (command_to session event.command))) ≡ false
       → record_of (session_of (event ∷ past) session).tables name key ≡ record_of (session_of past session).tables name key
   quiet-record session past event name key quiet =
-      let after = λ (accepted : is_accepted event.reply ≡ true) (writes : is_write event.command ≡ false) (renewed : renews (command_to session event.command) ≡ false).
-      ap (λ s. record_of s.tables name key) (session-of-command past event session accepted)
-      ∙ record-after-command session event.command (snapshot past) (saved past) (session_of past session) name key writes renewed in
-      let refused = λ (is : is_accepted event.reply ≡ false). ap (λ s. record_of s.tables name key) (session-refused session event past is) in
-      grind arith
+      grind (arith, session-of-command past event session, session-refused session event past, record-after-command session event.command (snapshot past) (saved past) (session_of past session) name key)
 
   later-main : (session : ℕ) (past : Past A) (later : List (Event A)) → AreQuiet session later → main (later ++ past) ≡ main past
   later-main session past [] quiet = refl
@@ -148,10 +123,6 @@ module _ {A : Type 0} where
   later-record session past (event ∷ later) quiet name key = quiet-record session (later ++ past) event name key quiet.0 ∙ later-record session past later quiet.1 name key
 
   -- ---- the diff
-
-  -- what the image of a key says of the two rows
-  image-first : (first last : Option (Fields A)) (image : Option (Fields A)) → image_at first last ≡ Some image → first ≡ image
-  image-first first last image is = grind arith
 
   image-none : (first last : Option (Fields A)) → image_at first last ≡ None → first ≡ last
   image-none (Some old) (Some new) is = grind (arith, tied fields_cmp old new fields_same)
@@ -181,48 +152,29 @@ module _ {A : Type 0} where
     two : WasCompared database name table made.ds
     two = was_compared database name table made.ds (table_of database name) refl made.made
 
-    before : AttachedTables A
-    before = (session_of past session).tables
-
-    after : AttachedTables A
+    abbrev after : AttachedTables A
     after = (session_of (event ∷ past) session).tables
 
-    found : List (RowTouch A)
-    found = touches_found (is_indirect session past) made.ds
-
-    after-is : after ≡ touch_table name found (attach name before)
-    unfolding before after found
+    after-is : after ≡ touch_table name (touches_found (is_indirect session past) made.ds) (attach name (session_of past session).tables)
     after-is =
         ap (λ s. s.tables) (session-of-command past event session d.accepted
         ∙ ap (λ c. session_after session c (snapshot past) (saved past) (session_of past session)) d.diffs
         ∙ ap (λ told. left_by told (main past) (saved past) (session_of past session) (record_commit [] (session_of past session))) (to_itself session (Diff d.from name))
         ∙ ap (λ r. compared name r (session_of past session)) made.is)
 
-    none-before : (other : List ℕ) (key : Fields A) → record_of (attach name before) other key ≡ None
-    unfolding before
-    none-before other key = record-attach name before other key ∙ d.empty other key
-
-    after-other : (other : List ℕ) (key : Fields A) → bytes_eq name other ≡ false → record_of after other key ≡ None
-    after-other other key apart = ap (λ tables. record_of tables other key) after-is ∙ touched-others name found (attach name before) other key apart ∙ none-before other key
-
-    after-here : (key : Fields A) → image_in (record_of after name key) ≡ get fields_cmp (map image_of made.ds) key
-    unfolding found
-    after-here key =
-        ap (λ tables. image_in (record_of tables name key)) after-is
-        ∙ touched-image name (is_indirect session past) made.ds (attach name before) key (listed-attach name before) (none-before name key)
-
     module _ (law : (from to : List (Fields A × Fields A)) → IsOrdered fields_cmp from → IsOrdered fields_cmp to → AreDifferences from to (differences from to))
         (rise : AreRising database) (main_rise : AreRising (main past)) where
       image-is : (key : Fields A) → image_in (record_of after name key) ≡ image_at (get fields_cmp two.first.keyed key) (get fields_cmp table.keyed key)
       image-is key =
-          after-here key
+          ap (λ tables. image_in (record_of tables name key)) after-is
+          ∙ grind (arith, touched-records name (touches_found (is_indirect session past) made.ds) (attach name (session_of past session).tables) name, listed name (attach name (session_of past session).tables), list_any-append (λ (attached : List ℕ × Records A). bytes_eq name attached.0) (session_of past session).tables ((name, []) ∷ []), record-attach name (session_of past session).tables name key, d.empty name key, nat_list_eq_equiv.refl name, λ (records : Records A). images-after (is_indirect session past) made.ds records key)
           ∙ ap (λ ds. get fields_cmp (map image_of ds) key) two.is
           ∙ (law two.first.keyed table.keyed (ordered fields_cmp two.first.keyed (found-rising database name two.first rise.each two.there).keys)
           (ordered fields_cmp table.keyed (found-rising (main past) name table main_rise.each d.there).keys)).each key
 
       -- a key that is touched is one of the table
       touched-here : (other : List ℕ) (key : Fields A) (kept : Record A) → record_of after other key ≡ Some kept → name ≡ other
-      touched-here other key kept at = grind (arith, (bytes_decides name other).0, after-other other key)
+      touched-here other key kept at = grind (arith, (bytes_decides name other).0, ap (λ tables. record_of tables other key) after-is, touched-records name (touches_found (is_indirect session past) made.ds) (attach name (session_of past session).tables) other, record-attach name (session_of past session).tables other key, d.empty other key)
 
       module _ (later : List (Event A)) (quiet : AreQuiet session later) where
         main-is : main (later ++ event ∷ past) ≡ main past
@@ -231,11 +183,7 @@ module _ {A : Type 0} where
             ∙ ap (λ e. e.database) (quiet-effect past event (ap (λ c. is_accepted event.reply && is_write c) d.diffs ∙ and_false (is_accepted event.reply)))
 
         record-is : (other : List ℕ) (key : Fields A) → record_of (session_of (later ++ event ∷ past) session).tables other key ≡ record_of after other key
-        unfolding after
         record-is other key = later-record session (event ∷ past) later quiet other key
-
-        rising-now : AreRising (main (later ++ event ∷ past))
-        rising-now = subst AreRising (sym main-is) main_rise
 
         holds : HoldsImages database (main (later ++ event ∷ past)) (session_of (later ++ event ∷ past) session).tables
         holds = record {
@@ -246,30 +194,13 @@ module _ {A : Type 0} where
                 (λ i. schema_of (main-is i) (sym same i)) ∙ ap (option_map (λ t. t.schema)) d.there ∙ ap Some (sym two.same),
               );
           images = λ other key kept at.
-              let at_after = sym (record-is other key) ∙ at in
-              let same = touched-here other key kept at_after in
-              let image : image_at (get fields_cmp two.first.keyed key) (get fields_cmp table.keyed key) ≡ Some kept.image =
-              sym (image-is key) ∙ ap (λ n. image_in (record_of after n key)) same ∙ ap image_in at_after in
-              ap (λ n. row_at database n key) (sym same)
-              ∙ ap (option_and_then (λ t. get fields_cmp t.keyed key)) two.there
-              ∙ image-first (get fields_cmp two.first.keyed key) (get fields_cmp table.keyed key) kept.image image;
+              grind (arith, touched-here other key kept (sym (record-is other key) ∙ at), record-is other key, image-is key, two.there);
         }
 
         all-rows : (left : Tables A) → GivesRows database (main (later ++ event ∷ past)) left (session_of (later ++ event ∷ past) session).tables
             → (key : Fields A) → row_at left name key ≡ row_at (main (later ++ event ∷ past)) name key
         all-rows left gives key =
-            let now = record_of (session_of (later ++ event ∷ past) session).tables name key in
-            elim now as (λ o. now ≡ o → row_at left name key ≡ row_at (main (later ++ event ∷ past)) name key) [
-              | Some kept ↦ λ at. gives.touched name key kept at
-              | None ↦ λ none.
-                  let same : get fields_cmp two.first.keyed key ≡ get fields_cmp table.keyed key =
-                  image-none (get fields_cmp two.first.keyed key) (get fields_cmp table.keyed key) (sym (image-is key) ∙ ap image_in (sym (record-is name key) ∙ none)) in
-                  gives.untouched name key none
-                  ∙ ap (option_and_then (λ t. get fields_cmp t.keyed key)) two.there
-                  ∙ same
-                  ∙ ap (option_and_then (λ t. get fields_cmp t.keyed key)) (sym d.there)
-                  ∙ ap (λ tables. row_at tables name key) (sym main-is)
-            ] refl
+            grind (arith, gives.touched name key, gives.untouched name key, image-none (get fields_cmp two.first.keyed key) (get fields_cmp table.keyed key), image-is key, record-is name key, two.there, d.there, ap (λ tables. row_at tables name key) main-is)
 
         -- the session's capture, as a changeset or as a patchset
         pub diff-applies : (blob_of : List (TableChanges A) → Contents A)
@@ -277,5 +208,5 @@ module _ {A : Type 0} where
             → (policy : Policy) (capture : CaptureState A) → capture_after (later ++ event ∷ past) session ≡ Captured capture
             → AppliesRows policy (blob_of capture.changes) (changes_in capture.changes) database (main (later ++ event ∷ past)) name
         diff-applies blob_of gives policy capture is =
-            let whole = capture_applies (later ++ event ∷ past) session database rise rising-now holds blob_of gives policy capture is in
+            let whole = changes_apply (later ++ event ∷ past) session database rise (subst AreRising (sym main-is) main_rise) holds blob_of gives policy capture.changes (captured (later ++ event ∷ past) session capture is) in
             (whole.0, whole.1, all-rows whole.0.database whole.2, whole.3)

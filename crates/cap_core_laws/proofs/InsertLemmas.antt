@@ -1,6 +1,6 @@
 -- What a session captures after an insert of a row whose key had none when the session saw it first.
-use Rattle.std.proofs.Common.{◌≡◌, ℕ, Bool, true, false, cond, Option, Some, None, Result, Ok, Err, List, [], ◌∷◌, ◌++◌, ◌&&◌, ◌||◌, map, length, refl, sym, ap, subst, ◌∙◌, arith}
-use Rattle.std.specs.Prelude.{option_and_then, ◌==◌}
+use Rattle.std.proofs.Common.{◌≡◌, ℕ, Bool, true, false, cond, Option, Some, None, Result, Ok, List, [], ◌∷◌, ◌++◌, ◌||◌, map, refl, sym, ap, ◌∙◌, arith}
+use Rattle.std.specs.Prelude.{option_and_then}
 use Rattle.std.specs.Option.{option_map}
 use Rattle.std.specs.List.{filter_map, cons_option}
 use Rattle.std.specs.Cmp.{tied_itself}
@@ -9,16 +9,14 @@ use Rattle.std.proofs.lemmas.Bool.Decides.{nat_tests}
 use Rattle.std.proofs.lemmas.Cmp.{nat_list_cmp_total}
 use Rattle.cap_value.specs.Bytes.{bytes_cmp, bytes_eq}
 use Rattle.cap_value.specs.declared.refusal.Refusal.{Refusal}
-use Rattle.cap_value.specs.declared.refusal.Refusal.TheVariants.{WrongWidth}
 use Rattle.cap_row.specs.Fields.{Fields}
 use Rattle.cap_row.specs.Key.{fields_cmp, fields_cmp_total, key_of}
 use Rattle.cap_changes.specs.Change.{change_of, full_record}
 use Rattle.cap_changes.specs.declared.row_change.RowChange.{RowChange}
 use Rattle.cap_changes.specs.declared.row_change.RowChange.TheVariants.{Insert as Inserted}
 use Rattle.cap_tree.specs.Tree.{get, put_entry}
-use Rattle.cap_table.specs.Operation.{placed, with_key}
+use Rattle.cap_table.specs.Operation.{with_key}
 use Rattle.cap_table.specs.Table.{TableState}
-use Rattle.cap_database.specs.Operation.{and_then, changes_in, changes_to, in_place, run, stepped}
 use Rattle.cap_database.specs.Read.{row_at}
 use Rattle.cap_database.specs.Tables.{Tables, table_of}
 use Rattle.cap_database.specs.declared.cause.Cause.TheVariants.{Direct}
@@ -34,14 +32,14 @@ use Rattle.cap_core.specs.History.{effect_of, event_effect, main, snapshot}
 pub use Rattle.cap_database.proofs.KeptLemmas.{names_same}
 use Rattle.cap_apply.proofs.EntryLemmas.{get_put}
 use Rattle.cap_core_laws.specs.Insert.{HasChange, IsInsertOfAbsent, changes_by_key, insert_of}
-use Rattle.cap_core.specs.Outcome.{Effect, Refused as Why, commit_unless, made, no_effect, outcome}
+use Rattle.cap_core.specs.Outcome.{Effect, Refused as Why, commit_unless, no_effect, outcome}
 use Rattle.cap_txn.specs.Stale.{stale}
 use Rattle.cap_core.specs.Past.{Past, is_accepted}
 use Rattle.cap_core.specs.Session.{all_indirect, records_of, session_of}
 use Rattle.cap_core.specs.Touch.{Touch, attach_list, touches, touches_of}
 use Rattle.cap_core.proofs.HistoryLemmas.{is_among}
 use Rattle.cap_core.proofs.LawLemmas.{first_image}
-use Rattle.cap_core.proofs.SessionLemmas.{IsSilent, kept-on, silent-elsewhere}
+use Rattle.cap_core.proofs.SessionLemmas.{kept-on, silent-elsewhere}
 
 -- ---- one item among those that a function makes
 
@@ -97,8 +95,7 @@ module _ {A : Type 0} where
   -- a first touch without a row, and this one, leave no image
   no_image : (found : Option (Touch A)) (kept : Option (Record A)) (indirect : Bool) (image : Option (Fields A)) → kept ≡ option_map (λ touch. record { image = touch.image; indirect = indirect }) found → image ≡ None
       → ((touch : Touch A) → found ≡ Some touch → touch.image ≡ None) → record_after kept image false ≡ record { image = None; indirect = false }
-  no_image None kept indirect image is none absent = grind arith
-  no_image (Some touch) kept indirect image is none absent = let gone = absent touch refl in grind arith
+  no_image found kept indirect image is none absent = grind (arith, λ (touch : Touch A). absent touch)
 
   -- ---- the event
 
@@ -113,9 +110,6 @@ module _ {A : Type 0} where
     effect-is : event_effect (snapshot past) event ≡ insertion (main past) name table key row
     effect-is = (λ i. cond (is.accepted i) (effect_of (main past) (outcome (snapshot past) (is.inserts i))) (no_effect (main past))) ∙ ap (effect_of (main past)) inserted.is
 
-    silent : IsSilent session event past
-    silent = silent-elsewhere session event past (ap (command_to session) is.inserts)
-
     abbrev touched : List (Fields A × Touch A)
     touched = touches_of name (touches session past)
 
@@ -125,25 +119,17 @@ module _ {A : Type 0} where
     abbrev image : Option (Fields A)
     image = row_at (main past) name key
 
-    image-none : image ≡ None
-    image-none = ap (option_and_then (λ t. get fields_cmp t.keyed key)) is.there ∙ inserted.fresh
-
     rows-are : rows ≡ put_entry fields_cmp (records_of touched) key (record { image = None; indirect = false })
     rows-are =
-        kept-on session event past silent is.enabled name is.attached
+        kept-on session event past (silent-elsewhere session event past (ap (command_to session) is.inserts)) is.enabled name is.attached
         ∙ ap (λ (c : Command A). with_touches (records_of touched) (told_by (main past) (is_indirect session past) name (changes_shown session c (event_effect (snapshot past) event).changes))) is.inserts
         ∙ ap (λ (e : Effect A). with_touches (records_of touched) (told_by (main past) (is_indirect session past) name e.changes)) effect-is
         ∙ ap (λ b. with_touches (records_of touched) (cons_option (cond b (Some (record { key = key; image = image; indirect = is_indirect session past || false })) None) [])) (nat_list_eq_equiv.refl name)
         ∙ ap (λ b. with_touch (records_of touched) (record { key = key; image = image; indirect = b || false })) is.direct
-        ∙ ap (put_entry fields_cmp (records_of touched) key) (no_image (get fields_cmp touched key) (get fields_cmp (records_of touched) key) (all_indirect touched key) image (first_image touched key) image-none is.absent)
+        ∙ ap (put_entry fields_cmp (records_of touched) key) (no_image (get fields_cmp touched key) (get fields_cmp (records_of touched) key) (all_indirect touched key) image (first_image touched key) (ap (option_and_then (λ t. get fields_cmp t.keyed key)) is.there ∙ inserted.fresh) is.absent)
 
     abbrev table-now : TableState A
     table-now = record table { keyed = put_entry fields_cmp table.keyed key row }
-
-    table-after : table_of (main (event ∷ past)) name ≡ Some table-now
-    table-after =
-        ap (λ (e : Effect A). table_of e.database name) effect-is
-        ∙ get_put bytes_cmp name table-now (tied_itself nat_list_cmp_total name) (main past)
 
     abbrev change : RowChange A
     change = Inserted false (full_record row)
@@ -155,7 +141,8 @@ module _ {A : Type 0} where
 
     group-here : table_changes (name, rows) (table_of (main (event ∷ past)) name) ≡ Some (record { table = name; schema = table.schema; changes = map (λ k. k.1) (changes_by_key table-now rows) })
     group-here =
-        ap (table_changes (name, rows)) table-after
+        ap (λ (e : Effect A). table_changes (name, rows) (table_of e.database name)) effect-is
+        ∙ ap (table_changes (name, rows)) (get_put bytes_cmp name table-now (tied_itself nat_list_cmp_total name) (main past))
         ∙ ap (group_of name table.schema) (sym (keyed-map table-now rows))
         ∙ some_group name table.schema key change (changes_by_key table-now rows) here
 

@@ -1,8 +1,6 @@
 pub mod AgreeLemmas
 pub mod AppliedCaptureLemmas
-pub mod BytesLemmas
 pub mod DiffedLemmas
-pub mod EmptyLemmas
 pub mod InsertLemmas
 pub mod RestartLemmas
 pub mod SavedLemmas

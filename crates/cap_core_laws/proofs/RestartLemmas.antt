@@ -1,11 +1,11 @@
 -- Captures in a row by restarts, applied in order, give main's rows.
+use Rattle.std.proofs.lemmas.Bool.{cond_both}
 use Rattle.std.proofs.lemmas.List.{append-nil}
-use Rattle.std.proofs.lemmas.Option.{same_Some}
 use Rattle.std.proofs.lemmas.List.Folds.{list_any-append}
 use Rattle.std.proofs.Common.{◌≡◌, ℕ, Bool, true, false, cond, Option, Some, None, Ok, IfOk, List, [], ◌∷◌, ◌++◌, ◌&&◌, ◌||◌, ◌⊎◌, map, refl, sym, ap, subst, ◌∙◌, arith}
-use Rattle.std.specs.Prelude.{filter, is_some}
+use Rattle.std.specs.Prelude.{is_some}
 use Rattle.std.specs.Option.{option_map}
-use Rattle.std.specs.List.{cons_option, enumerate_from, filter_map, list_any}
+use Rattle.std.specs.List.{cons_option, list_any}
 use Rattle.std.specs.Ordering.{eq_by_cmp}
 use Rattle.std.specs.Cmp.Lexicographic.{bytes_decides}
 use Rattle.cap_value.specs.Bytes.{bytes_eq}
@@ -15,7 +15,6 @@ use Rattle.std.specs.Cmp.{eq_by_cmp_equiv}
 use Rattle.cap_tree.specs.Tree.{get}
 use Rattle.cap_table.specs.Sound.{is_key_of}
 use Rattle.cap_database.specs.Read.{row_at}
-use Rattle.cap_table.specs.Table.{TableState}
 use Rattle.cap_database.specs.Operation.{run}
 use Rattle.cap_database.specs.declared.op.Op.{Op}
 use Rattle.cap_changes.specs.Group.{TableChanges}
@@ -25,14 +24,13 @@ use Rattle.cap_apply.specs.Apply.{apply}
 use Rattle.cap_apply.specs.Fitting.{FitsItsColumns}
 use Rattle.cap_apply.specs.Captured.{AllBefore, AllDiffer, GivesAllRowsNow, TableRows, changes_of as group_of_rows}
 use Rattle.cap_apply.specs.declared.policy.Policy.{Policy}
-use Rattle.cap_database.specs.Tables.{AreRising, Tables, create, schema_of, table_of}
+use Rattle.cap_database.specs.Tables.{AreRising, Tables, create, schema_of}
 use Rattle.cap_database.specs.declared.change.Change.{Change}
 use Rattle.cap_session.specs.Recording.{is_cascade}
 use Rattle.cap_core.proofs.CarriedLemmas.{told_by}
 use Rattle.cap_session.specs.Records.{Touch as RowTouch}
-use Rattle.cap_session.specs.Session.{AttachedTables, record_of}
+use Rattle.cap_session.specs.Session.{record_of}
 use Rattle.cap_core.specs.declared.command.Command.{Command}
-use Rattle.cap_core.specs.declared.command.Command.TheVariants as command
 use Rattle.cap_core.specs.declared.event.Event.{Event}
 use Rattle.cap_core.specs.Flags.{command_to, is_enabled, is_indirect, is_quiet}
 use Rattle.cap_core.specs.History.{event_effect, is_write, main, snapshot}
@@ -40,25 +38,19 @@ use Rattle.cap_core.specs.Outcome.{Effect, no_effect}
 use Rattle.cap_database.specs.Carried.{is_of_row}
 use Rattle.cap_core.specs.Past.{Past, is_accepted}
 use Rattle.cap_core.specs.Capture.{session_changes}
-use Rattle.cap_core.specs.AppliedCapture.{AppliesWhole, HoldsImages, but_keyed, changes_in}
+use Rattle.cap_core.specs.AppliedCapture.{AppliesWhole, HoldsImages, changes_in}
 use Rattle.cap_core_laws.specs.Restarts.{AppliesEach, HasRowsNow, HoldsFirst, IsSteady, captures, first_touched, touches_over}
 use Rattle.cap_core.specs.Session.{session_of}
 use Rattle.cap_core.specs.Table.{BlobsFitPast}
-use Rattle.cap_core.specs.Touch.{Touch, attach_list, attachings, changes_touch, diff_touches, event_attachings, event_changes, event_diff, event_touches, is_recorded, restarts, touch_of, touches, touches_of}
-pub use Rattle.cap_core_laws.proofs.DiffedLemmas.{sooner}
-use Rattle.cap_core_laws.proofs.DiffedLemmas.{image_in, quiet-effect}
-use Rattle.cap_core_laws.proofs.AppliedCaptureLemmas.{capture_fits, changes_apply}
-use Rattle.cap_core_laws.proofs.EmptyLemmas.{lookup-listed}
+use Rattle.cap_core.specs.Touch.{Touch, attach_list, attachings, changes_touch, diff_touches, event_attachings, event_diff, event_touches, restarts, touches, touches_of}
+pub use Rattle.cap_core_laws.proofs.DiffedLemmas.{image_in, quiet-effect, sooner}
+use Rattle.cap_core_laws.proofs.AppliedCaptureLemmas.{capture_fits, changes_apply, lookup-listed, there-is}
 use Rattle.cap_core.proofs.LawLemmas.{first_image}
 use Rattle.cap_core_laws.proofs.StayLemmas.{event-keeps, row_stays}
 use Rattle.cap_core.proofs.HistoryLemmas.{is_among, is_among-first_of_each, none_of, table_names, table_names-append, touches-none, touches_of-append}
-use Rattle.cap_core.proofs.SessionLemmas.{IsSilent, kept, shown-none, silent-elsewhere, told-on}
+use Rattle.cap_core.proofs.SessionLemmas.{IsSilent, cond-same, kept, shown-none, silent-elsewhere, told-on}
 use Rattle.cap_core.proofs.SmallLemmas.{second}
 use Rattle.cap_core.proofs.TouchedLemmas.{fields_same, tied, told}
-
-there-is : {X : Type 0} (found : Option X) → is_some found ≡ true → (x : X) × (found ≡ Some x)
-there-is None is = cc
-there-is (Some x) is = (x, refl)
 
 module _ {A : Type 0} where
   -- ---- the first touch among several
@@ -97,10 +89,7 @@ module _ {A : Type 0} where
   -- ---- the touches by an event that is no diff of the session
 
   writes-apart : (session : ℕ) (c : Command A) → is_write c ≡ true → command_to session c ≡ None
-  writes-apart session (command.CreateTable name schema) is = refl
-  writes-apart session (command.Commit batch) is = refl
-  writes-apart session (command.Apply blob policy quiet) is = refl
-  writes-apart session _ is = cc
+  writes-apart session c is = grind arith
 
   module _ (session : ℕ) (event : Event A) (past : Past A) (on : (is_enabled session past ≡ true) × (is_quiet session event.command ≡ false)) (apart : event_diff session event past ≡ None) where
     abbrev changes_here : List (Change A)
@@ -124,9 +113,7 @@ module _ {A : Type 0} where
               ∙ told-named (main past) (is_indirect session past) name changes_here key
           | false ↦ λ quiet.
               let none : changes_here ≡ [] = ap (λ e. e.changes) (quiet-effect past event quiet) in
-              ap (λ changes. first_touched (cond (is_enabled session past) (filter (is_recorded (attachings session (event ∷ past))) (filter_map (touch_of session past) (enumerate_from 0 changes))) []) name key) (shown-none session event.command changes_here none)
-              ∙ elim (is_enabled session past) as (λ b. first_touched (cond b [] []) name key ≡ None) [ true ↦ refl | false ↦ refl ]
-              ∙ ap (λ changes. cond (list_any (is_of_row name key) changes) (Some (row_at (main past) name key)) None) (sym none)
+              grind (arith, none, shown-none session event.command changes_here none, on.0)
         ] refl
 
     -- a row of a table that is not attached is not touched
@@ -134,10 +121,7 @@ module _ {A : Type 0} where
     touched-absent name key absent =
         let now : is_among name (table_names (attachings session (event ∷ past))) ≡ false = sym (is_among-first_of_each name (table_names (attachings session (event ∷ past)))) ∙ absent in
         ap (λ ts. first_touched ts name key) event-touches
-        ∙ elim (is_enabled session past) as (λ b. first_touched (cond b (filter (is_recorded (attachings session (event ∷ past))) (filter_map (touch_of session past) (event_changes session event past))) []) name key ≡ None) [
-          | true ↦ ap (λ pairs. option_map (λ touch. touch.image) (get fields_cmp pairs key)) (none_of (attachings session (event ∷ past)) name now _)
-          | false ↦ refl
-        ]
+        ∙ cond_both (is_enabled session past) _ _ (λ ts. first_touched ts name key ≡ None) (λ _. ap (λ pairs. option_map (λ touch. touch.image) (get fields_cmp pairs key)) (none_of (attachings session (event ∷ past)) name now _)) (λ _. refl)
 
   -- a table that is attached stays attached
   pub stays-listed : (session : ℕ) (event : Event A) (past : Past A) (name : List ℕ) → is_among name (attach_list session past) ≡ true → is_among name (attach_list session (event ∷ past)) ≡ true
@@ -151,13 +135,13 @@ module _ {A : Type 0} where
       → first_touched (touches_over session later start) name key ≡ Some image → is_among name (attach_list session (later ++ start)) ≡ true
   touched-attached session [] start steady name key image is = cc
   touched-attached session (event ∷ later) start steady name key image is =
-      let before = first_touched (touches_over session later start) name key in
-      elim before as (λ o. before ≡ o → is_among name (attach_list session (event ∷ later ++ start)) ≡ true) [
-        | Some earlier ↦ λ touched. stays-listed session event (later ++ start) name (touched-attached session later start steady.2 name key earlier touched)
-        | None ↦ λ none.
-            let all = first-append (touches_over session later start) (event_touches session event (later ++ start)) name key in
-            grind (arith, all, none, touched-absent session event (later ++ start) steady.0 steady.1 name key)
-      ] refl
+      grind (
+        arith,
+        first-append (touches_over session later start) (event_touches session event (later ++ start)) name key,
+        stays-listed session event (later ++ start) name,
+        touched-absent session event (later ++ start) steady.0 steady.1 name key,
+        λ (earlier : Option (Fields A)). touched-attached session later start steady.2 name key earlier,
+      )
 
   -- ---- records and touches
 
@@ -173,14 +157,6 @@ module _ {A : Type 0} where
       → apply mid (blob_of list) policy ≡ Ok next → AppliesEach blob_of policy (lists ++ list ∷ []) start next.database
   applies-append blob_of policy [] list start mid next all is = (next, ap (λ tables. apply tables (blob_of list) policy) (sym all) ∙ is, refl)
   applies-append blob_of policy (first ∷ lists) list start mid next all is = (all.0, all.1, applies-append blob_of policy lists list all.0.database mid next all.2 is)
-
-  same_schema : (found : Option (TableState A)) → option_map (λ t. t.schema) (option_map but_keyed found) ≡ option_map (λ t. t.schema) found
-  same_schema None = refl
-  same_schema (Some table) = refl
-
-  restarts-write : (session : ℕ) (c : Command A) → restarts (command_to session c) ≡ true → is_write c ≡ false
-  restarts-write session (command.Session number told) is = refl
-  restarts-write session _ is = cc
 
   module _ (runs_keep : (tables : Tables A) (ops : List (Op A)) → IfOk (run tables ops) (λ left. (other : List ℕ) → schema_of left.database other ≡ schema_of tables other))
       (creates_keep : (tables : Tables A) (other : List ℕ) (schema : List Bool) → IfOk (create tables other schema) (λ after. (table : List ℕ) (columns : List Bool) → schema_of tables table ≡ Some columns → schema_of after table ≡ Some columns))
@@ -208,26 +184,17 @@ module _ {A : Type 0} where
     over-more : (event : Event A) (later : List (Event A)) (name : List ℕ) (key : Fields A) → Over (event ∷ later) name key ≡ sooner (Over later name key) (Here event later name key)
     over-more event later name key = first-append (touches_over session later start) (event_touches session event (later ++ start)) name key
 
-    since-more : (event : Event A) (later : List (Event A)) (name : List ℕ) (key : Fields A) → is_restart event ≡ false
-        → Since (event ∷ later) name key ≡ sooner (Since later name key) (Here event later name key)
-    since-more event later name key kept_on =
-        ap (λ b. first_touched (cond b [] (touches session (later ++ start) ++ event_touches session event (later ++ start))) name key) kept_on
-        ∙ first-append (touches session (later ++ start)) (event_touches session event (later ++ start)) name key
-
-    since-restart : (event : Event A) (later : List (Event A)) (name : List ℕ) (key : Fields A) → is_restart event ≡ true → Since (event ∷ later) name key ≡ None
-    since-restart event later name key restarted = ap (λ b. first_touched (cond b [] (touches session (later ++ start) ++ event_touches session event (later ++ start))) name key) restarted
+    since-more : (event : Event A) (later : List (Event A)) (name : List ℕ) (key : Fields A) → Since (event ∷ later) name key ≡ cond (is_restart event) None (sooner (Since later name key) (Here event later name key))
+    since-more event later name key =
+        grind (arith, first-append (touches session (later ++ start)) (event_touches session event (later ++ start)) name key)
 
     -- what was not touched over all was not touched since the last restart
     not-since : (later : List (Event A)) (name : List ℕ) (key : Fields A) → Over later name key ≡ None → Since later name key ≡ None
     not-since [] name key none = ap (λ ts. first_touched ts name key) fresh
     not-since (event ∷ later) name key none =
-        elim (is_restart event) as (λ b. is_restart event ≡ b → Since (event ∷ later) name key ≡ None) [
-          | true ↦ since-restart event later name key
-          | false ↦ λ kept_on.
-              let before : Over later name key ≡ None = grind (arith, over-more event later name key) in
-              let here : Here event later name key ≡ None = grind (arith, over-more event later name key) in
-              since-more event later name key kept_on ∙ (λ i. sooner (not-since later name key before i) (here i))
-        ] refl
+        let before : Over later name key ≡ None = grind (arith, over-more event later name key) in
+        let here : Here event later name key ≡ None = grind (arith, over-more event later name key) in
+        since-more event later name key ∙ (λ i. cond (is_restart event) None (sooner (not-since later name key before i) (here i))) ∙ cond-same (is_restart event) None
 
     -- a row that an event touches is named by one of its changes, and has main's row before the event as its image
     here-is : (event : Event A) (later : List (Event A)) → IsSteady session (event ∷ later) start → (name : List ℕ) (key : Fields A)
@@ -250,9 +217,7 @@ module _ {A : Type 0} where
     over-there [] steady name key over = cc
     over-there (event ∷ later) steady name key over =
         let keeps = event-keeps name key runs_keep creates_keep (snapshot (later ++ start)) event in
-        let there : is_some (schema_of (main (later ++ start)) name) ≡ true = grind (arith, over-more event later name key, here-is event later steady name key, keeps.there, over-there later steady.2 name key) in
-        let columns = there-is (schema_of (main (later ++ start)) name) there in
-        ap is_some (keeps.columns columns.0 columns.1)
+        grind (arith, over-more event later name key, here-is event later steady name key, keeps.there, over-there later steady.2 name key, λ (columns : List Bool). keeps.columns columns)
 
     holds-before : (event : Event A) (later : List (Event A)) → IsSteady session (event ∷ later) start → HoldsFirst database session (event ∷ later) start → HoldsFirst database session later start
     holds-before event later steady holds =
@@ -263,7 +228,7 @@ module _ {A : Type 0} where
               let last = holds.columns name key image (more name key image is) in
               let now = there-is (schema_of (main (later ++ start)) name) (over-there later steady.2 name key (ap is_some is)) in
               let keeps = event-keeps name key runs_keep creates_keep (snapshot (later ++ start)) event in
-              let same : last.0 ≡ now.0 = same_Some last.0 now.0 (sym last.2 ∙ keeps.columns now.0 now.1) in
+              let same : last.0 ≡ now.0 = grind (arith, last.2, keeps.columns now.0 now.1) in
               (now.0, last.1 ∙ ap Some same, now.1);
           images = λ name key image is. holds.images name key image (more name key image is);
         }
@@ -301,56 +266,41 @@ module _ {A : Type 0} where
         rising = before.rising;
         columns = before.columns;
         current = λ name key image is.
-            grind (arith, since-more event later name key kept_on, over-more event later name key, here-is event later steady name key, before.current name key image, before.earlier name key, before.untouched name key, holds.images name key image);
-        earlier = λ name key over none. grind (arith, since-more event later name key kept_on, over-more event later name key, over-stays event later steady name key, before.earlier name key);
+            grind (arith, since-more event later name key, over-more event later name key, here-is event later steady name key, before.current name key image, before.earlier name key, before.untouched name key, holds.images name key image);
+        earlier = λ name key over none. grind (arith, since-more event later name key, over-more event later name key, over-stays event later steady name key, before.earlier name key);
         untouched = λ name key none. grind (arith, over-more event later name key, before.untouched name key);
       }
 
       -- a restart, whose capture is applied
       module _ (restarted : is_restart event ≡ true) (main_rise : AreRising (main (later ++ start))) where
-        abbrev tables_now : AttachedTables A
-        tables_now = (session_of (later ++ start) session).tables
-
         quiet : event_effect (snapshot (later ++ start)) event ≡ no_effect (main (later ++ start))
-        quiet = quiet-effect (later ++ start) event (grind (arith, restarts-write session event.command))
-
-        nothing-here : (name : List ℕ) (key : Fields A) → Here event later name key ≡ None
-        nothing-here name key = grind (arith, here-is event later steady name key, ap (λ (e : Effect A). list_any (is_of_row name key) e.changes) quiet)
+        quiet = quiet-effect (later ++ start) event (grind (arith, writes-apart session event.command))
 
         over-same : (name : List ℕ) (key : Fields A) → Over (event ∷ later) name key ≡ Over later name key
-        over-same name key = grind (arith, over-more event later name key, nothing-here name key)
+        over-same name key = grind (arith, over-more event later name key, here-is event later steady name key, ap (λ (e : Effect A). list_any (is_of_row name key) e.changes) quiet)
 
-        main-same : main (event ∷ later ++ start) ≡ main (later ++ start)
-        main-same = ap (λ (e : Effect A). e.database) quiet
-
-        over-since : (name : List ℕ) (key : Fields A) (image : Option (Fields A)) → Since later name key ≡ Some image → (first : Option (Fields A)) × (Over later name key ≡ Some first)
-        over-since name key image is = there-is (Over later name key) (grind (arith, not-since later name key))
-
-        images-now : HoldsImages before.left (main (later ++ start)) tables_now
+        images-now : HoldsImages before.left (main (later ++ start)) (session_of (later ++ start) session).tables
         images-now = record {
           columns = λ name key kept at.
-              let over = over-since name key kept.image (sym (record-touched (later ++ start) session name key) ∙ ap image_in at) in
+              let over = there-is (Over later name key) (grind (arith, not-since later name key, record-touched (later ++ start) session name key)) in
               let held = (holds-before event later steady holds).columns name key over.0 over.1 in
               (held.0, before.columns name ∙ held.1, held.2);
           images = λ name key kept at. before.current name key kept.image (sym (record-touched (later ++ start) session name key) ∙ ap image_in at);
         }
 
-        whole : AppliesWhole policy (blob_of list) (changes_in list) before.left (main (later ++ start)) tables_now
+        whole : AppliesWhole policy (blob_of list) (changes_in list) before.left (main (later ++ start)) (session_of (later ++ start) session).tables
         whole = changes_apply (later ++ start) session before.left before.rising main_rise images-now blob_of gives policy list refl
-
-        list-fits : FitsItsColumns (blob_of list)
-        list-fits = capture_fits (later ++ start) session before.left before.rising main_rise images-now blob_of fit
 
         restart-left : Left (event ∷ later)
         restart-left = record {
           left = whole.0.database;
           applied = subst (λ lists. AppliesEach blob_of policy lists database whole.0.database) (sym (ap (λ b. captures session later start ++ cond b (list ∷ []) []) restarted))
               (applies-append blob_of policy (captures session later start) list database before.left whole.0 before.applied whole.1);
-          rising = subst (λ r. IfOk r (λ next. AreRising next.database)) whole.1 (applies before.left (blob_of list) policy before.rising list-fits);
-          columns = λ name. sym (same_schema (table_of whole.0.database name)) ∙ ap (option_map (λ t. t.schema)) (whole.2.others name) ∙ same_schema (table_of before.left name) ∙ before.columns name;
-          current = λ name key image is. let clash : None ≡ Some image = sym (since-restart event later name key restarted) ∙ is in cc;
+          rising = subst (λ r. IfOk r (λ next. AreRising next.database)) whole.1 (applies before.left (blob_of list) policy before.rising (capture_fits (later ++ start) session before.left before.rising main_rise images-now blob_of fit));
+          columns = λ name. grind (arith, whole.2.others name, before.columns name);
+          current = λ name key image is. grind (arith, since-more event later name key);
           earlier = λ name key over none.
-              grind (arith, over-same name key, record-touched (later ++ start) session name key, ap (λ tables. row_at tables name key) main-same, whole.2.touched name key, whole.2.untouched name key, before.earlier name key);
+              grind (arith, over-same name key, record-touched (later ++ start) session name key, ap (λ (e : Effect A). row_at e.database name key) quiet, whole.2.touched name key, whole.2.untouched name key, before.earlier name key);
           untouched = λ name key none.
               grind (arith, over-same name key, record-touched (later ++ start) session name key, not-since later name key, whole.2.untouched name key, before.untouched name key);
         }
@@ -370,4 +320,4 @@ module _ {A : Type 0} where
         → (left : Tables A) × AppliesEach blob_of policy (captures session (event ∷ later) start) database left × HasRowsNow left session (event ∷ later) start
     in_a_row event later restarted steady holds fits =
         let found = left-after (event ∷ later) steady holds fits in
-        (found.left, found.applied, λ name key image is. found.earlier name key (ap is_some is) (since-restart event later name key restarted))
+        (found.left, found.applied, λ name key image is. found.earlier name key (ap is_some is) (grind (arith, since-more event later name key)))

@@ -1,6 +1,7 @@
 -- In every saved database names, keys and ids rise.
-use Rattle.std.proofs.Common.{◌≡◌, ℕ, true, false, cond, Some, List, [], ◌∷◌, arith}
+use Rattle.std.proofs.Common.{◌≡◌, ℕ, Some, List, [], ◌∷◌, arith}
 use Rattle.std.specs.List.{AllByRecursion}
+use Rattle.std.proofs.lemmas.Bool.{cond_both}
 use Rattle.cap_value.specs.Bytes.{bytes_cmp}
 use Rattle.cap_tree.specs.Tree.{get, take_entry}
 use Rattle.cap_database.specs.Tables.{AreRising, Tables}
@@ -26,11 +27,7 @@ module _ {A : Type 0} (rises : (past : Past A) → BlobsFitPast past → AreRisi
 
   saved-rise : (past : Past A) → BlobsFitPast past → EachRising (saved past)
   saved-rise [] fits = tt
-  saved-rise (event ∷ past) fits =
-      elim (is_accepted event.reply) as (λ b. EachRising (cond b (saved_after event.command (main past) (saved past)) (saved past))) [
-        | true ↦ after-rises event.command (main past) (saved past) (rises past fits.1) (saved-rise past fits.1)
-        | false ↦ saved-rise past fits.1
-      ]
+  saved-rise (event ∷ past) fits = cond_both (is_accepted event.reply) _ _ EachRising (λ _. after-rises event.command (main past) (saved past) (rises past fits.1) (saved-rise past fits.1)) (λ _. saved-rise past fits.1)
 
   pub found-rises : (past : Past A) → BlobsFitPast past → (name : List ℕ) (database : Tables A) → get bytes_cmp (saved past) name ≡ Some database → AreRising database
   found-rises past fits name database is = each-found AreRising (saved past) name database (saved-rise past fits) is

@@ -1,15 +1,14 @@
 -- A row that no change names stays as it was, whatever the command.
-use Rattle.std.proofs.Common.{◌≡◌, ℕ, Bool, true, false, cond, Option, Some, None, Result, Ok, Err, IfOk, List, [], ◌∷◌, ◌||◌, length, refl, sym, ap, ◌∙◌, arith}
+use Rattle.std.proofs.Common.{◌≡◌, ℕ, Bool, true, false, Option, Some, None, Result, Ok, Err, IfOk, List, [], ◌∷◌, refl, sym, ap, ◌∙◌, arith}
 use Rattle.std.specs.Prelude.{is_some}
 use Rattle.std.specs.List.{list_any}
 use Rattle.std.specs.Cmp.Lexicographic.{bytes_decides}
 use Rattle.std.proofs.lemmas.List.Folds.{list_any-append}
-use Rattle.cap_value.specs.declared.refusal.Refusal.{Refusal}
 use Rattle.cap_row.specs.Fields.{Fields}
 use Rattle.cap_table.specs.Table.{TableState}
 use Rattle.cap_table.specs.Operation.{empty_table}
 use Rattle.cap_database.specs.Carried.{is_of_row}
-use Rattle.cap_database.specs.Operation.{and_then, changed_rows, changes, changes_in, run, step}
+use Rattle.cap_database.specs.Operation.{changed_rows, changes, changes_in, run}
 use Rattle.cap_database.specs.Outcome.{OutcomeState}
 use Rattle.cap_database.specs.Read.{row_at}
 use Rattle.cap_database.specs.Snapshot.{SnapshotState}
@@ -30,14 +29,11 @@ module _ {A : Type 0} where
     abbrev Stays : Tables A → Effect A → Type 0
     Stays tables effect = list_any (is_of_row name key) effect.changes ≡ false → row_at effect.database name key ≡ row_at tables name key
 
-    create-stays : (tables : Tables A) (other : List ℕ) (schema : List Bool) → IfOk (create tables other schema) (λ after. Stays tables (no_effect after))
-    create-stays tables other schema = grind (arith, put-stays name key tables other (empty_table schema))
-
     pub row_stays : (now : SnapshotState A) (event : Event A) → list_any (is_of_row name key) (event_effect now event).changes ≡ false
         → row_at (event_effect now event).database name key ≡ row_at now.database name key
     row_stays now event =
         let tables = now.database in
-        event-each now (Stays tables) (λ _. refl) event (create-stays tables)
+        event-each now (Stays tables) (λ _. refl) event (λ other schema. grind (arith, put-stays name key tables other (empty_table schema)))
         (λ ops. if_ok (Leaves name key tables) (λ left. Stays tables (record { database = left.database; changes = left.changes; report = None })) (λ left leaves. leaves.stays) (run tables ops) (run-leaves name key ops tables))
         (λ blob policy quiet _. if_ok (λ left. MoreChanges name key tables [] left.database left.changes) (λ left. Stays tables (record { database = left.database; changes = left.changes; report = Some left.report }))
         (λ left more unnamed. more.stays (ap (list_any (is_of_row name key)) (sym more.are) ∙ unnamed)) (apply tables blob policy) (apply-more name key tables blob policy))
@@ -49,9 +45,6 @@ module _ {A : Type 0} where
       abbrev RunThere : Tables A → Result (OutcomeState A) RefusedAt → Type 0
       RunThere tables r = IfOk r (λ left. list_any (is_of_row name key) left.changes ≡ true → is_some (schema_of tables name) ≡ true)
 
-      step-columns : (tables : Tables A) (op : Op A) → IfOk (step tables op) (λ next. schema_of next name ≡ schema_of tables name)
-      step-columns tables op = grind (arith, runs tables (op ∷ []))
-
       op-there : (tables : Tables A) (op : Op A) (found : Option (TableState A)) → table_of tables op.table ≡ found → list_any (is_of_row name key) (changes_in found op) ≡ true → is_some (schema_of tables name) ≡ true
       op-there tables op None there named = cc
       op-there tables op (Some table) there named = grind (arith, (bytes_decides name op.table).0 (named-table name key op.table op.cause (changed_rows table op.action) named))
@@ -59,7 +52,7 @@ module _ {A : Type 0} where
       run-there : (ops : List (Op A)) (tables : Tables A) → RunThere tables (run tables ops)
       run-there [] tables = λ named. cc
       run-there (op ∷ ops) tables =
-          grind (arith, λ (next : Tables A). run-there ops next, step-columns tables op, op-there tables op (table_of tables op.table) refl, list_any-append (is_of_row name key) (changes tables op))
+          grind (arith, λ (next : Tables A). run-there ops next, runs tables (op ∷ []), op-there tables op (table_of tables op.table) refl, list_any-append (is_of_row name key) (changes tables op))
 
       -- what an effect keeps of the tables
       pub record Keeps (tables : Tables A) (effect : Effect A) : Type 0 where

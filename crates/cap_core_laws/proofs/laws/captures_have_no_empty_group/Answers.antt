@@ -1,4 +1,4 @@
-use Rattle.cap_core_laws.proofs.BytesLemmas.{no-empty-group}
+use Rattle.cap_core_laws.proofs.AppliedCaptureLemmas.{no-empty-group}
 use Rattle.cap_core_laws.proofs.laws.captures_have_no_empty_group.Goals as goal
 
 pub returns : goal.returns

@@ -1,4 +1,4 @@
-use Rattle.cap_core_laws.proofs.EmptyLemmas.{empty-live, empty-none}
+use Rattle.cap_core_laws.proofs.AppliedCaptureLemmas.{empty-live, empty-none}
 use Rattle.cap_core_laws.proofs.laws.empty_without_touches.Goals as goal
 
 pub returns : goal.returns

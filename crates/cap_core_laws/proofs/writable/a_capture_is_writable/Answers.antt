@@ -2,7 +2,7 @@ use Rattle.std.proofs.Common.{subst}
 use Rattle.cap_changes.specs.Patch.{patch_list_of}
 use Rattle.cap_codec.specs.Writable.{IsWritable}
 use Rattle.cap_codec.specs.declared.read.Contents.TheVariants.{Changes, Patches}
-use Rattle.cap_core_laws.proofs.BytesLemmas.{patches-writable}
+use Rattle.cap_core_laws.proofs.AppliedCaptureLemmas.{patches-writable}
 use Rattle.cap_core_laws.proofs.writable.a_capture_is_writable.Goals as goal
 
 pub returns-clause-changeset : goal.returns-clause-changeset
