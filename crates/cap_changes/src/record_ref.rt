@@ -52,9 +52,9 @@ impl<'a, A: AllocHandle> RecordRef<'a, A> {
         RecordRef::of(&[])
     }
 
-    // The record with these bytes.
+    /// The record with these bytes.
     #[inline(always)]
-    pub(crate) fn of(bytes: &'a [u8]) -> Self
+    pub fn of(bytes: &'a [u8]) -> Self
         requires { IsRecord {A = A} bytes.now (fields_of bytes.now) }
         ensures { result ≡ fields_of bytes.now }
     {

@@ -1,31 +1,28 @@
 -- The record of a row or of a key is read as it again, and spells nothing else.
 use Rattle.std.proofs.Common.{◌≡◌, ℕ, zero, suc, ◌≤◌, true, false, not, nat_le, IsTrue, List, [], ◌∷◌, ◌++◌, length, map, Option, Some, None, IfSome, Ok, refl, sym, ap, subst, ◌∙◌, arith, length-append}
 use Rattle.std.specs.Global.{Global}
-use Rattle.std.specs.List.{AllByRecursion, list_any}
-use Rattle.std.specs.Prelude.{All, IfOk, OnOk, Result, Err}
+use Rattle.std.specs.List.{AllByRecursion, list_all, list_any}
+use Rattle.std.specs.Prelude.{All, IfOk, OnOk, Result, Err, is_some}
 use Rattle.std.proofs.lemmas.List.Elements.{recursion_from_All}
 use Rattle.std.proofs.lemmas.Bool.{and_parts, le-leb, not-true, or_parts}
 use Rattle.cap_value.specs.declared.value.Value.{Value}
 use Rattle.cap_value.specs.Value.{IsValue, is_null}
 use Rattle.cap_row.specs.Fields.{Fields}
-use Rattle.cap_row.specs.Key.{is_key}
+use Rattle.cap_row.specs.Key.{is_key, key_from}
 use Rattle.cap_changes.specs.FieldRecord.{RecordFields}
 use Rattle.cap_changes.specs.Requirements.{satisfies}
 use Rattle.cap_changes.specs.declared.field_requirement.FieldRequirement.{FieldRequirement}
 use Rattle.cap_changes.specs.declared.field_requirement.FieldRequirement.TheVariants as required
 use Rattle.cap_field.specs.Reading.{◌>>=◌}
+use Rattle.cap_field.proofs.Spelled.{AreLow}
 use Rattle.cap_field.specs.Field.{value_bytes}
 use Rattle.cap_changes.specs.Field.{field_bytes, record_bytes}
 use Rattle.cap_changes.specs.FieldReading.{field_at}
 use Rattle.cap_changes.proofs.FieldAgain.{field_again}
 use Rattle.cap_records.specs.Record.{defined, fields_at, has_byte, key_in, record_in, row_in, values_bytes}
-use Rattle.cap_records.proofs.FieldLemmas.{AreMet, a_byte, asked-is, fields_meet, no_more, one_more}
+use Rattle.cap_records.proofs.FieldLemmas.{AreSpelled, IsWhole, a_byte, asked-is, no_more, one_more, record_spelled}
 
 -- ---- fields
-
--- the requirement is met, by a value within its limits
-abbrev IsWhole : FieldRequirement → Option (Value Global) → Type 0
-IsWhole requirement field = (satisfies requirement field ≡ true) × IfSome field IsValue
 
 field_read : (requirement : FieldRequirement) (total : ℕ) (field : Option (Value Global)) (rest : List ℕ) → IsTrue (has_byte requirement) → IsWhole requirement field → field_at total requirement (field_bytes field ++ rest) ≡ Ok (field, rest)
 field_read requirement total field rest is whole =
@@ -72,13 +69,17 @@ row_again row fits = values_read required.Defined row refl (row_whole row fits)
 pub row_encoded : (bytes : List ℕ) (row : Fields Global) → bytes ≡ values_bytes row → AllByRecursion IsValue row → row_in bytes ≡ Ok row
 row_encoded bytes row spelled fits = ap row_in spelled ∙ row_again row fits
 
-defined_bytes : (fields : RecordFields Global) → AreMet required.Defined fields → values_bytes (defined fields) ≡ record_bytes fields
-defined_bytes [] met = refl
-defined_bytes (None ∷ fields) met = absurd (cc (met.0))
-defined_bytes (Some value ∷ fields) met = ap (λ (b : List ℕ). value_bytes value ++ b) (defined_bytes fields met.1)
+-- the fields of a record are all defined
+pub all_defined : (requirement : FieldRequirement) (fields : RecordFields Global) → satisfies {A = Global} requirement None ≡ false → AllByRecursion (IsWhole requirement) fields → list_all is_some fields ≡ true
+all_defined requirement [] never whole = refl
+all_defined requirement (None ∷ fields) never whole = absurd (cc (never, whole.0.0))
+all_defined requirement (Some value ∷ fields) never whole = all_defined requirement fields never whole.1
 
-pub row_spelled : (bytes : List ℕ) (fields : RecordFields Global) → record_in required.Defined bytes ≡ Ok fields → record_bytes fields ≡ bytes → values_bytes (defined fields) ≡ bytes
-row_spelled bytes fields read spelled = defined_bytes fields (fields_meet required.Defined (length bytes) (length bytes) bytes fields read) ∙ spelled
+pub values_in : (requirement : FieldRequirement) (bytes : List ℕ) (fields : RecordFields Global) (values : Fields Global) → record_in requirement bytes ≡ Ok fields → fields ≡ map Some values → (record_in requirement bytes >>= (λ fields. Ok (defined fields))) ≡ Ok values
+values_in requirement bytes fields values read full = rw (read, full, some_defined values) refl
+
+pub values_spelled : (requirement : FieldRequirement) (bytes : List ℕ) (fields : RecordFields Global) (values : Fields Global) → AreSpelled requirement fields bytes → fields ≡ map Some values → values_bytes values ≡ bytes
+values_spelled requirement bytes fields values spelled full = sym (spelled.0 ∙ ap (λ (f : RecordFields Global). record_bytes f) full ∙ some_bytes values)
 
 -- ---- keys
 
@@ -98,24 +99,18 @@ pub key_made : {V E : Type 0} (items : V → List ℕ) (result : Result V E) (ke
 key_made items (Ok v) key is bytes fits = ap key_in bytes ∙ key_again key (recursion_from_All IsValue key fits) is
 key_made items (Err e) key is bytes fits = tt
 
-none_null : (fields : RecordFields Global) → AreMet required.Key fields → list_any is_null (defined fields) ≡ false
-none_null [] met = refl
-none_null (None ∷ fields) met = absurd (cc (met.0))
-none_null (Some value ∷ fields) met = rw (not-true (is_null value) met.0) (none_null fields met.1)
-
-as_many : (fields : RecordFields Global) → AreMet required.Key fields → length (defined fields) ≡ length fields
-as_many [] met = refl
-as_many (None ∷ fields) met = absurd (cc (met.0))
-as_many (Some value ∷ fields) met = omega (arith, as_many fields met.1)
-
-some_fields : (fields : RecordFields Global) → 1 ≤ length (record_bytes fields) → 1 ≤ length fields
-some_fields [] some = absurd (omega arith)
-some_fields (field ∷ fields) some = omega arith
+none_null : (values : Fields Global) → AllByRecursion (IsWhole required.Key) (map Some values) → list_any is_null values ≡ false
+none_null [] whole = refl
+none_null (value ∷ values) whole = rw (not-true (is_null value) whole.0.0) (none_null values whole.1)
 
 -- a record with bytes, in which every field is a value other than NULL, is of a key
-pub key_stands : (bytes : List ℕ) (fields : RecordFields Global) → 1 ≤ length bytes → record_in required.Key bytes ≡ Ok fields → record_bytes fields ≡ bytes → is_key (defined fields) ≡ true
-key_stands bytes fields some read spelled =
-    let met = fields_meet required.Key (length bytes) (length bytes) bytes fields read in
-    let many = some_fields fields (subst (λ (b : List ℕ). 1 ≤ length b) (sym spelled) some) in
-    let long : nat_le 1 (length (defined fields)) ≡ true = le-leb 1 (length (defined fields)) (omega (arith, as_many fields met)) in
-    rw (long, none_null fields met) refl
+key_stands : (bytes : List ℕ) (values : Fields Global) → 1 ≤ length bytes → AreSpelled required.Key (map Some values) bytes → is_key values ≡ true
+key_stands bytes [] some spelled = absurd (omega (arith, ap length spelled.0))
+key_stands bytes (value ∷ values) some spelled = rw (le-leb 1 (length (value ∷ values)) (omega arith), none_null (value ∷ values) spelled.1) refl
+
+-- the key that is made of its values
+pub key_is : (bytes : List ℕ) (fields : RecordFields Global) (values items : Fields Global) (key : Option (Fields Global)) → 1 ≤ length bytes → AreLow bytes → record_in required.Key bytes ≡ Ok fields
+    → fields ≡ map Some values → items ≡ values → key ≡ key_from items → key ≡ Some values
+key_is bytes fields values items key some low read full same made =
+    let spelled = subst (λ f. AreSpelled required.Key f bytes) full (record_spelled required.Key bytes fields refl low read) in
+    made ∙ rw (same, key_stands bytes values some spelled) refl

@@ -1,9 +1,10 @@
 -- Reading the fields of a record up to its end, as the loop does, and what was read.
-use Rattle.std.proofs.Common.{◌≡◌, ℕ, zero, suc, ◌<◌, ◌≤◌, true, IsTrue, List, [], ◌∷◌, ◌++◌, length, Option, Some, None, Result, Ok, Err, refl, sym, ap, subst, ◌∙◌, append_assoc, arith, length-append}
+use Rattle.std.proofs.Common.{◌≡◌, ℕ, zero, suc, ◌<◌, ◌≤◌, true, IsTrue, List, [], ◌∷◌, ◌++◌, length, Option, Some, None, IfSome, Result, Ok, Err, refl, sym, ap, subst, ◌∙◌, append_assoc, arith, length-append}
 use Rattle.std.specs.Global.{Global}
 use Rattle.std.specs.List.{AllByRecursion}
 use Rattle.std.proofs.lemmas.List.{append-nil}
 use Rattle.cap_value.specs.declared.value.Value.{Value}
+use Rattle.cap_value.specs.Value.{IsValue}
 use Rattle.cap_value.specs.declared.value.Value.TheVariants.{Null, Int, Text, Blob}
 use Rattle.cap_changes.specs.FieldRecord.{RecordFields}
 use Rattle.cap_changes.specs.Requirements.{satisfies}
@@ -13,6 +14,8 @@ use Rattle.cap_field.specs.declared.fault.BlobFault.{BlobFault}
 use Rattle.cap_field.specs.Reading.{◌>>=◌}
 use Rattle.cap_changes.specs.Field.{field_bytes, record_bytes}
 use Rattle.cap_changes.specs.FieldReading.{field_at}
+use Rattle.cap_changes.specs.Record.{AreFields, IsRecord, fields_of}
+use Rattle.cap_changes.proofs.StoredRecord.{stored}
 use Rattle.cap_field.proofs.Binds.{bind_ok, ok_is}
 use Rattle.cap_changes.proofs.FieldAgain.{asked_bytes}
 use Rattle.cap_changes.proofs.FitLemmas.{field_meets}
@@ -116,25 +119,36 @@ first_and_others requirement most total bytes fields some read =
 none-is : (requirement : FieldRequirement) (most total : ℕ) (fields : RecordFields Global) → fields_at requirement most total [] ≡ Ok fields → [] ≡ fields
 none-is requirement most total fields read = ok_is [] fields (sym (no_more requirement most total) ∙ read)
 
--- the bytes spell the fields
-pub fields_spelled : (requirement : FieldRequirement) (most total : ℕ) (bytes : List ℕ) (fields : RecordFields Global) → IsTrue (has_byte requirement) → AreLow bytes → length bytes ≤ most → fields_at requirement most total bytes ≡ Ok fields → record_bytes fields ≡ bytes
-fields_spelled requirement zero total [] fields is low le read = ap (λ (f : RecordFields Global). record_bytes f) (sym (none-is requirement zero total fields read))
+-- the requirement is met, by a value within its limits
+abbrev pub IsWhole : FieldRequirement → Option (Value Global) → Type 0
+IsWhole requirement field = (satisfies requirement field ≡ true) × IfSome field IsValue
+
+-- the bytes spell the fields, each of which is whole
+abbrev pub AreSpelled : FieldRequirement → RecordFields Global → List ℕ → Type 0
+AreSpelled requirement fields bytes = (bytes ≡ record_bytes fields) × AllByRecursion (IsWhole requirement) fields
+
+fields_spelled : (requirement : FieldRequirement) (most total : ℕ) (bytes : List ℕ) (fields : RecordFields Global) → IsTrue (has_byte requirement) → AreLow bytes → length bytes ≤ most → fields_at requirement most total bytes ≡ Ok fields → AreSpelled requirement fields bytes
+fields_spelled requirement zero total [] fields is low le read = subst (λ f. AreSpelled requirement f []) (none-is requirement zero total fields read) (refl, tt)
 fields_spelled requirement zero total (byte ∷ bytes) fields is low le read = absurd (omega arith)
-fields_spelled requirement (suc most) total [] fields is low le read = ap (λ (f : RecordFields Global). record_bytes f) (sym (none-is requirement (suc most) total fields read))
+fields_spelled requirement (suc most) total [] fields is low le read = subst (λ f. AreSpelled requirement f []) (none-is requirement (suc most) total fields read) (refl, tt)
 fields_spelled requirement (suc most) total (byte ∷ bytes) fields is low le read =
     let (x, others, first, more, made) = first_and_others requirement most total (byte ∷ bytes) fields (omega arith) read in
     let spelled = parts requirement total (byte ∷ bytes) x is low first in
     let fewer = shorter requirement total (byte ∷ bytes) x is low first in
     let behind = fields_spelled requirement most total x.1 others is (low_behind (byte ∷ bytes) (field_bytes x.0) x.1 spelled low) (omega (arith, fewer)) more in
-    ap (λ (f : RecordFields Global). record_bytes f) (sym made) ∙ ap (λ (b : List ℕ). field_bytes x.0 ++ b) behind ∙ sym spelled
+    let whole : IsWhole requirement x.0 = (field_meets total requirement (byte ∷ bytes) x first, (field_spelled total requirement (byte ∷ bytes) x low first).1) in
+    subst (λ f. AreSpelled requirement f (byte ∷ bytes)) made (spelled ∙ ap (λ (b : List ℕ). field_bytes x.0 ++ b) behind.0, (whole, behind.1))
 
-abbrev pub AreMet : FieldRequirement → RecordFields Global → Type 0
-AreMet requirement fields = AllByRecursion (λ field. satisfies requirement field ≡ true) fields
+fields_fit : (requirement : FieldRequirement) (fields : RecordFields Global) → AllByRecursion (IsWhole requirement) fields → AreFields fields
+fields_fit requirement [] whole = tt
+fields_fit requirement (field ∷ fields) whole = (whole.0.1, fields_fit requirement fields whole.1)
 
-pub fields_meet : (requirement : FieldRequirement) (most total : ℕ) (bytes : List ℕ) (fields : RecordFields Global) → fields_at requirement most total bytes ≡ Ok fields → AreMet requirement fields
-unfolding fields_at
-fields_meet requirement zero total bytes fields read = subst (AreMet requirement) (ok_is [] fields read) tt
-fields_meet requirement (suc most) total [] fields read = subst (AreMet requirement) (ok_is [] fields read) tt
-fields_meet requirement (suc most) total (byte ∷ bytes) fields read =
-    let (x, others, first, more, made) = first_and_others requirement most total (byte ∷ bytes) fields (omega arith) read in
-    subst (AreMet requirement) made (field_meets total requirement (byte ∷ bytes) x first, fields_meet requirement most total x.1 others more)
+pub record_spelled : (requirement : FieldRequirement) (bytes : List ℕ) (fields : RecordFields Global) → IsTrue (has_byte requirement) → AreLow bytes → record_in requirement bytes ≡ Ok fields → AreSpelled requirement fields bytes
+record_spelled requirement bytes fields is low read = fields_spelled requirement (length bytes) (length bytes) bytes fields is low (omega arith) read
+
+-- bytes that were read are a record of what was read
+pub record_stands : (requirement : FieldRequirement) (bytes : List ℕ) (fields : RecordFields Global) → IsTrue (has_byte requirement) → AreLow bytes → record_in requirement bytes ≡ Ok fields
+    → (fields_of bytes ≡ fields) × IsRecord {A = Global} bytes (fields_of bytes)
+record_stands requirement bytes fields is low read =
+    let spelled = record_spelled requirement bytes fields is low read in
+    stored bytes fields (fields_fit requirement fields spelled.1) spelled.0

@@ -1,96 +1,63 @@
 //! Reading of records that stand alone.
-ghost use Rattle.std.specs.Prelude.{◌≡◌, ◌++◌, ◌∷◌, [], IfOk, IfSome, IsTrue, OnOk};
-ghost use Rattle.std.specs.declared.alloc.Global.{Global};
-ghost use Rattle.cap_value.specs.Value.{IsValue};
-ghost use Rattle.cap_changes.specs.FieldReading.{field_of};
-ghost use Rattle.cap_value.specs.Memory.{ShowsUnlessMemory};
-ghost use Rattle.cap_changes.specs.Field.{record_bytes};
-ghost use Rattle.cap_records.specs.Record.{columns_set, defined, has_byte, record_in};
+ghost use Rattle.std.specs.Prelude.{◌≡◌, IfOk, IsTrue};
+ghost use Rattle.cap_field.specs.Reading.{Reads};
+ghost use Rattle.cap_records.specs.Record.{columns_set, has_byte, record_in};
 
-use cap_changes::FieldRequirement;
+use cap_changes::{FieldRequirement, RecordRef};
 use cap_codec::{BlobFault, take_field};
 use cap_database::Assignments;
-use cap_field::ValueRef;
-use cap_value::{Fault, OutOfMemory, Value};
+use cap_row::{KeyValues, RowFields};
+use cap_value::OutOfMemory;
 use std::alloc::Global;
 
-fn push_field(
-    fields: &mut Vec<Option<Value<Global>>, Global>,
-    field: Option<Value<Global>>,
-) -> Result<(), OutOfMemory>
-    ensures { OnOk result (fields.new.items ≡ fields.old.items ++ field ∷ []) }
-{
-    fields.push(field)?;
-    Ok(())
-}
-
-/// Fields with this requirement, up to the end of the bytes.
-pub(crate) fn take_fields(
-    alloc: Global,
+/// The record that the bytes are, all of them: fields with this requirement.
+pub(crate) fn take_record<'a>(
     requirement: FieldRequirement,
-    bytes: &[u8],
-) -> Result<Vec<Option<Value<Global>>, Global>, Fault<BlobFault>>
+    bytes: &'a [u8],
+) -> Result<RecordRef<'a, Global>, BlobFault>
     requires { IsTrue (has_byte requirement) }
-    // Which fields, or which fault.
-    ensures gives { ShowsUnlessMemory (λ fields. fields.items) result (record_in requirement bytes.now) }
-    // The bytes, all of them, spell what is read.
-    ensures spelled { IfOk result (λ fields. record_bytes fields.items ≡ bytes.now) }
+    ensures { Reads (λ fields. fields) result (record_in requirement bytes.now) }
 {
-    let mut fields = Vec::new(alloc);
     let mut rest = bytes;
     while !rest.is_empty() {
         match take_field::<Global>(bytes.len(), requirement, rest) {
-            Ok((field, after)) => {
-                push_field(&mut fields, own_field(alloc, field)?)?;
-                rest = after;
-            }
-            Err(fault) => return Err(Fault::Refused(fault)),
+            Ok((_, after)) => rest = after,
+            Err(fault) => return Err(fault),
         }
     }
-    Ok(fields)
+    Ok(RecordRef::of(bytes))
 }
 
-// An owned copy of a field.
-fn own_field(
+/// Owned copies of values.
+pub(crate) fn own_values(
     alloc: Global,
-    field: Option<ValueRef<'_>>,
-) -> Result<Option<Value<Global>>, OutOfMemory>
-    requires { IfSome (field_of {A = Global} field) IsValue }
-    ensures { IfOk result (λ own. own ≡ field_of field.entry) }
+    values: RowFields<'_, Global>,
+) -> Result<KeyValues<Global>, OutOfMemory>
+    ensures { IfOk result (λ own. own.items ≡ values.entry) }
 {
-    match field {
-        Some(value) => Ok(Some(value.own(alloc)?)),
-        None => Ok(None),
+    let mut own = KeyValues::new(alloc);
+    let mut rest = values;
+    while let Some(value) = rest.next_value() {
+        own.push(value.own(alloc)?)?;
     }
-}
-
-/// The values of the fields that are defined.
-pub(crate) fn defined(
-    alloc: Global,
-    fields: &[Option<Value<Global>>],
-) -> Result<Vec<Value<Global>, Global>, OutOfMemory>
-    ensures { IfOk result (λ values. values.items ≡ defined fields.now) }
-{
-    let mut values = Vec::with_capacity(alloc, fields.len())?;
-    for field in fields {
-        if let Some(value) = field {
-            values.push(value.copy()?)?;
-        }
-    }
-    Ok(values)
+    Ok(own)
 }
 
 /// The columns whose fields are defined, counted from 0, each with its value.
 pub(crate) fn columns_set(
     alloc: Global,
-    fields: &[Option<Value<Global>>],
+    fields: RecordRef<'_, Global>,
 ) -> Result<Assignments<Global>, OutOfMemory>
-    ensures { IfOk result (λ assignments. assignments ≡ columns_set fields.now) }
+    ensures { IfOk result (λ assignments. assignments ≡ columns_set fields.entry) }
 {
-    let mut columns = Vec::with_capacity(alloc, fields.len())?;
-    for (column, field) in fields.iter().enumerate() {
+    let mut columns = Vec::new(alloc);
+    let mut rest = fields.copy();
+    for column in 0..fields.width() {
+        let Some(field) = rest.next_field() else {
+            break;
+        };
         if let Some(value) = field {
-            columns.push((column, value.copy()?))?;
+            columns.push((column, value.own(alloc)?))?;
         }
     }
     Ok(Assignments::new(columns))

@@ -3,12 +3,12 @@ ghost use Rattle.std.specs.Prelude.{◌≡◌, ◌≤◌, length, IfOk};
 ghost use Rattle.cap_value.specs.Memory.{AnswersUnlessMemory};
 ghost use Rattle.cap_records.specs.Record.{assigned_in, key_in, row_in, values_bytes};
 
-use crate::reading::{columns_set, defined, take_fields};
+use crate::reading::{columns_set, own_values, take_record};
 use crate::writing::values_record;
 use cap_changes::FieldRequirement;
 use cap_codec::BlobFault;
 use cap_database::Assignments;
-use cap_row::{Key, Row};
+use cap_row::{Key, Row, RowBuilder};
 use cap_value::{Fault, OutOfMemory};
 use std::alloc::Global;
 
@@ -19,8 +19,14 @@ pub fn row_of(alloc: Global, bytes: &[u8]) -> Result<Row<Global>, Fault<BlobFaul
     // The bytes, all of them, are the record of what is read.
     ensures spelled { IfOk result (λ row. values_bytes row ≡ bytes.now) }
 {
-    let fields = take_fields(alloc, FieldRequirement::Defined, bytes)?;
-    Ok(Row::new(defined(alloc, fields.as_slice())?)?)
+    match take_record(FieldRequirement::Defined, bytes) {
+        Ok(record) => {
+            let mut row = RowBuilder::with_room(alloc, bytes.len())?;
+            row.push_rest(record.as_values())?;
+            Ok(row.finish()?)
+        }
+        Err(fault) => Err(Fault::Refused(fault)),
+    }
 }
 
 /// The key of a record in which every field is defined and not NULL.
@@ -28,8 +34,11 @@ pub(crate) fn key_of(alloc: Global, bytes: &[u8]) -> Result<Key<Global>, Fault<B
     requires some { 1 ≤ length bytes.now }
     ensures { AnswersUnlessMemory result (key_in bytes.now) }
 {
-    let fields = take_fields(alloc, FieldRequirement::Key, bytes)?;
-    match Key::new(alloc, defined(alloc, fields.as_slice())?)? {
+    let values = match take_record(FieldRequirement::Key, bytes) {
+        Ok(record) => own_values(alloc, record.as_values())?,
+        Err(fault) => return Err(Fault::Refused(fault)),
+    };
+    match Key::of_values(alloc, values)? {
         Some(key) => Ok(key),
         None => unreachable!(),
     }
@@ -43,8 +52,10 @@ pub(crate) fn assignments_of(
 ) -> Result<Assignments<Global>, Fault<BlobFault>>
     ensures { AnswersUnlessMemory result (assigned_in bytes.now) }
 {
-    let fields = take_fields(alloc, FieldRequirement::Any, bytes)?;
-    Ok(columns_set(alloc, fields.as_slice())?)
+    match take_record(FieldRequirement::Any, bytes) {
+        Ok(record) => Ok(columns_set(alloc, record)?),
+        Err(fault) => Err(Fault::Refused(fault)),
+    }
 }
 
 /// The record of a row.
