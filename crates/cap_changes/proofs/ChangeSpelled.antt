@@ -1,32 +1,16 @@
--- What was read is spelled by the bytes that were read: records and changes.
+-- What was read is spelled by the bytes that were read: changes.
 use Rattle.std.proofs.Common.{◌≡◌, ℕ, Bool, true, List, [], ◌∷◌, ◌++◌, Result, Ok, refl, sym, ap, subst, ◌∙◌, append_assoc, zero, suc, inl, inr}
 use Rattle.cap_field.specs.declared.fault.BlobFault.{BlobFault}
 use Rattle.cap_field.specs.Reading.{◌>>=◌}
 use Rattle.cap_field.proofs.Binds.{bind_ok, ok_is, chosen}
 use Rattle.cap_field.proofs.Spelled.{AreLow, low_behind}
 use Rattle.cap_changes.specs.ChangeReading.{change_at, patch_at, changes_at}
-use Rattle.cap_changes.specs.Field.{record_bytes}
-use Rattle.cap_changes.specs.FieldRecord.{RecordFields}
-use Rattle.cap_changes.specs.HasValues.{AreValues}
 use Rattle.cap_changes.specs.Operation.{is_operation}
-use Rattle.cap_changes.specs.RecordReading.{record_at}
-use Rattle.cap_changes.specs.Requirements.{requirements}
 use Rattle.cap_changes.specs.Spelling.{SpellsEach, SpellsChange, SpellsPatch}
-use Rattle.cap_changes.specs.declared.record_kind.RecordKind.TheVariants as record_kinds
 use Rattle.cap_changes.specs.declared.row_change.RowChange.{RowChange}
 use Rattle.cap_changes.specs.declared.patch.Patch.{Patch}
-use Rattle.cap_changes.proofs.FitLemmas.{record_meets}
-use Rattle.cap_changes.proofs.RecordAgain.{kind_asked}
-use Rattle.cap_changes.proofs.Spelled.{as_values}
-pub use Rattle.cap_changes.proofs.Grammar.{Begins, third}
+pub use Rattle.cap_changes.proofs.Grammar.{Begins}
 use Rattle.cap_changes.proofs.Grammar.{is_spelled, changes, patches}
-
--- ---- records
-
-module _ {A : Type 0} where
-  pub keyed_spelled : (total : ℕ) (flags : List Bool) (bytes : List ℕ) (x : RecordFields A × List ℕ) → AreLow bytes → record_at total (requirements record_kinds.Keyed flags) bytes ≡ Ok x → AreValues x.0 × (bytes ≡ record_bytes x.0 ++ x.1)
-  keyed_spelled total flags bytes x low e =
-      as_values total (requirements record_kinds.Keyed flags) bytes x (record_bytes x.0) low e (kind_asked record_kinds.Keyed flags x.0 (record_meets total (requirements record_kinds.Keyed flags) bytes x e))
 
 -- ---- changes
 

@@ -19,7 +19,6 @@ module _ {A : Type 0} where
   record_meets total [] bytes x e = grind arith
   record_meets total (requirement ∷ requirements) bytes x e = grind (arith, field_meets, record_meets total requirements)
 
-module _ {A : Type 0} where
   -- a record in which every field is defined has the key fields
   pub full_keyed : (flags : List Bool) (fields : RecordFields A) → satisfy (requirements Full flags) fields ≡ true → satisfy (requirements Keyed flags) fields ≡ true
   full_keyed (key ∷ flags) (field ∷ fields) met = grind (arith, full_keyed flags fields)

@@ -1,6 +1,6 @@
 -- The grammar of a change, of a changeset and of a patchset alike: an operation byte, the indirect flag, and the
 -- records of the operation.
-use Rattle.std.proofs.Common.{◌≡◌, ℕ, Bool, true, false, ◌&&◌, List, [], ◌∷◌, ◌++◌, IsTrue, Result, Ok, Err, refl, sym, ap, subst, ◌∙◌, append_assoc, ◌≤◌, length, arith, inl, inr, ◌==◌, ◌||◌, append-nil, if◌then◌else◌, ◌⊎◌}
+use Rattle.std.proofs.Common.{◌≡◌, ℕ, Bool, true, false, ◌&&◌, List, [], ◌∷◌, ◌++◌, IsTrue, Result, Ok, Err, refl, sym, ap, subst, ◌∙◌, append_assoc, ◌≤◌, length, arith, inl, inr, ◌==◌, append-nil, ◌⊎◌, Option, Some, None}
 use Rattle.std.proofs.lemmas.Bool.{and_parts, and_from, cases_Bool, eqb-true}
 use Rattle.cap_field.specs.declared.fault.BlobFault.{BlobFault}
 use Rattle.cap_field.specs.Reading.{◌>>=◌, byte_at, Reads}
@@ -14,22 +14,27 @@ use Rattle.cap_changes.specs.Fits.{change_fits, patch_fits}
 use Rattle.cap_changes.specs.HasValues.{AreValues, HasValues, PatchHasValues}
 use Rattle.cap_changes.specs.Operation.{operation_byte, is_operation}
 use Rattle.cap_changes.specs.RecordReading.{record_at, value_in, old_in}
-use Rattle.cap_changes.specs.Requirements.{requirements, new_requirements, satisfy}
+use Rattle.cap_changes.specs.Requirements.{requirements, new_requirements, requirement_of, satisfies, satisfy}
 use Rattle.cap_changes.specs.Spelling.{SpellsOperation, SpellsRecords, SpellsPatchRecord}
 use Rattle.cap_changes.specs.declared.operation.Operation.{Operation}
 use Rattle.cap_changes.specs.declared.operation.Operation.TheVariants as operations
 use Rattle.cap_changes.specs.declared.record_kind.RecordKind.{RecordKind}
-use Rattle.cap_changes.specs.declared.record_kind.RecordKind.TheVariants.{Full, Keyed}
+use Rattle.cap_changes.specs.declared.record_kind.RecordKind.TheVariants.{Full, Keyed, KeyAlone}
 use Rattle.cap_changes.specs.declared.row_change.RowChange.{RowChange}
 use Rattle.cap_changes.specs.declared.row_change.RowChange.TheVariants as changed
 use Rattle.cap_changes.specs.declared.patch.Patch.{Patch}
 use Rattle.cap_changes.specs.declared.patch.Patch.TheVariants as patched
 use Rattle.cap_changes.proofs.FitLemmas.{record_meets}
-use Rattle.cap_changes.proofs.RecordAgain.{written, kind_asked, new_asked, asked_again}
+use Rattle.cap_changes.proofs.FieldAgain.{written, kind_asked, new_asked, asked_again}
 use Rattle.cap_changes.proofs.Spelled.{as_values}
 use Rattle.cap_changes.specs.Stored.{normal, IsEntry, IsPassed}
 use Rattle.std.specs.Prelude.{IfOk}
 use Rattle.cap_changes.proofs.PassLemmas.{behind_made, read_of, fault_of}
+use Rattle.std.specs.Cmp.Lexicographic.{as_long}
+use Rattle.std.proofs.lemmas.List.{length-map}
+use Rattle.cap_changes.specs.Record.{fields_of, stored_fields, AreFields, IsRecord, IsStored, StartsRecord}
+use Rattle.cap_changes.proofs.StoredRecord.{stored, stored_key}
+use Rattle.cap_changes.proofs.ValueLemmas.{each_of}
 
 -- one record of a kind, or the old record of an UPDATE and the new one, whose requirements depend on it
 pub data Form : Type 0 where
@@ -115,6 +120,36 @@ module _ (A : Type 0) where
       let (old, is) = read_of (record_at {A = A} total (requirements Keyed flags) first) new known in
       rw is (behind_made _ (record_at {A = A} total (new_requirements flags old) new))
 
+  -- ---- records by the bytes that are kept
+
+  -- the key flags of a record of the key alone
+  abbrev pub keys_for : RecordKind → List Bool → Option (List Bool)
+  keys_for KeyAlone flags = Some flags
+  keys_for record_kind flags = None
+
+  -- a change is made of the records of these bytes, where those of an UPDATE are apart
+  abbrev pub IsRead : {C : Type 0} (form : Form) → List Bool → (Records form → C) → C → List ℕ → Type 0
+  IsRead (one record_kind) flags make change bytes = IsStored A (keys_for record_kind flags) bytes × (make (stored_fields (keys_for record_kind flags) bytes) ≡ change)
+  IsRead both flags make change bytes = StartsRecord A (length flags) bytes × ((first second : List ℕ)
+      → ((fields : RecordFields A) (rest : List ℕ) → AreFields fields → length fields ≡ length flags → bytes ≡ record_bytes fields ++ rest → (first ≡ record_bytes fields) × (second ≡ rest))
+      → IsRecord {A = A} first (fields_of first) × IsRecord {A = A} second (fields_of second) × (make (fields_of first, fields_of second) ≡ change))
+
+  kept : {C : Type 0} (form : Form) (flags : List Bool) (records : Records form) (make : Records form → C) → records_fit form flags records ≡ true → HaveValues form records → IsRead form flags make (make records) (records_bytes form records)
+  kept (one KeyAlone) flags fields make fit values = let s = stored_key flags _ fields (each_of fields values) fit refl in (s.1, ap make s.0)
+  kept (one Full) flags fields make fit values = let s = stored _ fields (each_of fields values) refl in (s.1, ap make s.0)
+  kept (one Keyed) flags fields make fit values = let s = stored _ fields (each_of fields values) refl in (s.1, ap make s.0)
+  kept both flags records make fit values =
+      let met = and_parts (satisfy (requirements Keyed flags) records.0) (satisfy (new_requirements flags records.0) records.1) fit in
+      let wide : length records.0 ≡ length flags = sym (as_long satisfies (requirements Keyed flags) records.0 met.0) ∙ length-map flags (requirement_of Keyed) in
+      let each = each_of records.0 values.0 in (
+        (records.0, record_bytes records.1, each, wide, refl),
+        λ first second apart.
+            let their = apart records.0 (record_bytes records.1) each wide refl in
+            let a = stored first records.0 each their.0 in
+            let b = stored second records.1 (each_of records.1 values.1) their.1 in
+            (a.1, b.1, rw (a.0, b.0) refl),
+      )
+
 -- ---- a change by its records
 
 pub flag_again : (b : Bool) → is_set (flag_byte b) ≡ b
@@ -144,15 +179,12 @@ module _ (A : Type 0) {C : Type 0} (fits : List Bool → C → Bool) (values : C
 pub operation_is : (operation : Operation) → is_operation (operation_byte operation) ≡ true
 operation_is operation = grind arith
 
-pub third : (a b c : Bool) → (a || b || c) ≡ true → a ≡ false → b ≡ false → c ≡ true
-third a b c e p q = grind arith
-
 is_known : (op : ℕ) → is_operation op ≡ true → (operation : Operation) × (operation_byte operation ≡ op)
 is_known op is = elim (cases_Bool (op == 0x12)) [
   | inl insert ↦ (operations.Insert, sym (eqb-true op 0x12 insert))
   | inr no_insert ↦ elim (cases_Bool (op == 0x17)) [
     | inl update ↦ (operations.Update, sym (eqb-true op 0x17 update))
-    | inr no_update ↦ (operations.Delete, sym (eqb-true op 0x09 (third (op == 0x12) (op == 0x17) (op == 0x09) is no_insert no_update)))
+    | inr no_update ↦ (operations.Delete, sym (eqb-true op 0x09 (rw (no_insert, no_update) at is)))
   ]
 ]
 
@@ -168,12 +200,8 @@ written_back op op' indirect records front spelled = grind arith
 abbrev pub Parts : Operation → Bool → List ℕ → List ℕ → Type 0
 Parts operation indirect records bytes = bytes ≡ operation_byte operation ∷ flag_byte indirect ∷ records
 
--- the operation of a byte that begins a change
-abbrev operation_of : ℕ → Operation
-operation_of byte = if byte == 0x12 then operations.Insert else (if byte == 0x17 then operations.Update else operations.Delete)
-
-operation_again : (operation : Operation) → operation_of (operation_byte operation) ≡ operation
-operation_again operation = grind arith
+same_operation : (a b : Operation) → operation_byte a ≡ operation_byte b → a ≡ b
+same_operation a b same = grind arith
 
 module _ {A C : Type 0} {fits : List Bool → C → Bool} {values : C → Type 0} {bytes_of : C → List ℕ} {spells : C → List ℕ → Type 0}
     {one_at : ℕ → List Bool → ℕ → List ℕ → Result (C × List ℕ) BlobFault} {stored : List Bool → List ℕ → C} (g : Grammar A fits values bytes_of spells one_at stored) where
@@ -232,15 +260,11 @@ module _ {A C : Type 0} {fits : List Bool → C → Bool} {values : C → Type 0
 
   -- ---- kept as its bytes
 
-  stored_of : (flags : List Bool) (change : C) (bytes : List ℕ) → Spells flags change bytes → stored flags bytes ≡ change
-  stored_of flags change bytes spelled =
-      let (op, behind, parts, operation, read) = again 0 flags change bytes spelled in
-      ap (stored flags) parts ∙ g.keeps flags op behind ∙ ap (value_in g.other) (ap (one_at 0 flags op) (sym (append-nil behind)) ∙ read [])
-
   -- the bytes of a change are of just this one
   pub entry : (flags : List Bool) (change : C) (bytes : List ℕ) → IsTrue (fits flags change) → values change → bytes ≡ bytes_of change → (stored flags bytes ≡ change) × IsEntry fits values bytes_of flags (stored flags bytes) bytes
   entry flags change bytes fit valued spelled =
-      let same = ap (stored flags) spelled ∙ stored_of flags change (bytes_of change) (written_so flags change fit valued) in
+      let (op, behind, parts, operation, read) = again 0 flags change bytes (rw spelled (written_so flags change fit valued)) in
+      let same = ap (stored flags) parts ∙ g.keeps flags op behind ∙ ap (value_in g.other) (ap (one_at 0 flags op) (sym (append-nil behind)) ∙ read []) in
       (same, subst (λ (x : C). IsEntry fits values bytes_of flags x bytes) (sym same) (record { fits = fit; values = valued; spelled = spelled }))
 
   given_so : (change : C) (op : ℕ) (front : List ℕ) → spells change (op ∷ front) → (normal (op ∷ front) ≡ bytes_of change) × (1 ≤ length front)
@@ -286,39 +310,28 @@ module _ {A C : Type 0} {fits : List Bool → C → Bool} {values : C → Type 0
   entry_passed view (Err f) total flags operation given low read = tt
 
   -- where the records are passed, the change is
-  pub record Passes {X : Type 0} (view : X → List ℕ) (result : Result X BlobFault) (total : ℕ) (flags : List Bool) (operation : Operation) (given : List ℕ) : Type 0 where
-    pub reads : Reads view result (behind (one_at total flags (operation_byte operation) given))
-    pub entry : IfOk result (λ rest. IsPassed fits values bytes_of stored one_at total flags (operation_byte operation) given (view rest))
-
   pub passes : {X : Type 0} (view : X → List ℕ) (result : Result X BlobFault) (total : ℕ) (flags : List Bool) (operation : Operation) (form : Form) (given first : List ℕ) (flag : ℕ) → AreLow given → g.form operation ≡ form → byte_at total given ≡ Ok (flag, first)
-      → Reads view result (behind (records_at A form total flags first)) → Passes view result total flags operation given
+      → Reads view result (behind (records_at A form total flags first))
+      → Reads view result (behind (one_at total flags (operation_byte operation) given)) × IfOk result (λ rest. IsPassed fits values bytes_of stored one_at total flags (operation_byte operation) given (view rest))
   passes view result total flags operation form given first flag low same read is =
       let reads = subst (λ (r : Result (List ℕ) BlobFault). Reads view result r) (sym (behind_records total flags operation form given first flag same read)) is in
-      record { reads = reads; entry = entry_passed view result total flags operation given low reads }
+      (reads, entry_passed view result total flags operation given low reads)
 
   -- ---- taken apart
 
   -- the change of these bytes, whose operation is known
-  pub record Made (flags : List Bool) (operation : Operation) (indirect : Bool) (bytes : List ℕ) (change : C) : Type 0 where
-    pub records : Records A (g.form operation)
-    pub is : g.make operation indirect records ≡ change
-    pub fit : records_fit A (g.form operation) flags records ≡ true
-    pub valued : HaveValues A (g.form operation) records
-    pub spelled : bytes ≡ records_bytes A (g.form operation) records
-
-  pub made : (flags : List Bool) (change : C) (operation known : Operation) (indirect : Bool) (records bytes : List ℕ) → IsEntry fits values bytes_of flags change bytes → Parts operation indirect records bytes → operation ≡ known
-      → Made flags known indirect records change
-  made flags change operation known indirect records bytes is parts same =
-      by_records (λ c. IsEntry fits values bytes_of flags c bytes → Made flags known indirect records c)
+  pub records_read : (flags : List Bool) (change : C) (operation known : Operation) (indirect : Bool) (records bytes : List ℕ) → IsEntry fits values bytes_of flags change bytes → Parts operation indirect records bytes → operation ≡ known
+      → IsRead A (g.form known) flags (g.make known indirect) change records
+  records_read flags change operation known indirect records bytes is parts same =
+      by_records (λ c. IsEntry fits values bytes_of flags c bytes → IsRead A (g.form known) flags (g.make known indirect) c records)
       (λ o i r entry.
       let has = g.has o i r in
       let e : operation_byte operation ∷ flag_byte indirect ∷ records ≡ operation_byte o ∷ flag_byte i ∷ records_bytes A (g.form o) r = sym parts ∙ entry.spelled ∙ has.bytes in
-      let byte : operation_byte operation ≡ operation_byte o = cc in
       let flag : flag_byte indirect ≡ flag_byte i = cc in
       let its : records ≡ records_bytes A (g.form o) r = cc in
-      let op : known ≡ o = sym same ∙ sym (operation_again operation) ∙ ap operation_of byte ∙ operation_again o in
+      let op : known ≡ o = sym same ∙ same_operation operation o cc in
       let marked : indirect ≡ i = sym (flag_again indirect) ∙ ap is_set flag ∙ flag_again i in
-      rw (op, marked, its) (record { records = r; is = refl; fit = sym (has.fit flags) ∙ entry.fits; valued = has.have_values entry.values; spelled = refl }))
+      rw (op, marked, its) (kept A (g.form o) flags r (g.make o i) (sym (has.fit flags) ∙ entry.fits) (has.have_values entry.values)))
       change is
 
 abbrev pub change_form : Operation → Form

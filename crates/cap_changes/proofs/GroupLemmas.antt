@@ -1,5 +1,5 @@
 -- What a group keeps of a change that is written into it.
-use Rattle.std.proofs.Common.{arith, ◌≡◌, Bool, true, ◌||◌, cond, List, [], ◌∷◌, Option, Some, None, IfSome, IsTrue, refl, sym, ap, ◌∙◌, append-nil}
+use Rattle.std.proofs.Common.{arith, ◌≡◌, Bool, true, ◌||◌, cond, List, [], ◌∷◌, Option, Some, None, IfSome, IsTrue, refl, sym, ap, ◌∙◌, append-nil, ℕ, ◌+◌, ◌-◌, ◌≤◌, ◌++◌, length, map, take, drop, subst, append_assoc, length-append, length-drop}
 use Rattle.std.specs.List.{cons_option, flat_map}
 use Rattle.std.specs.Option.{ForSome}
 use Rattle.cap_value.specs.declared.value.Value.{Value}
@@ -18,14 +18,23 @@ use Rattle.cap_changes.specs.ChangeReading.{stored_change, stored_patch}
 use Rattle.cap_changes.specs.Fits.{change_fits, patch_fits}
 use Rattle.cap_changes.specs.HasValues.{HasValues, PatchHasValues}
 use Rattle.cap_changes.specs.Invert.{inverse_of}
-use Rattle.cap_changes.specs.Patch.{patch_of}
-use Rattle.cap_changes.specs.Stored.{IsEntry}
+use Rattle.cap_changes.specs.Patch.{patch_of, update_record}
+use Rattle.cap_changes.specs.Stored.{IsEntry, AreEntries, IsKept, end_of, entries_of, part}
 use Rattle.cap_changes.specs.declared.row_change.RowChange.{RowChange}
 use Rattle.cap_changes.specs.declared.patch.Patch.{Patch}
 use Rattle.cap_changes.proofs.InvertLemmas.{inverse_of-fits}
 use Rattle.cap_changes.proofs.PatchLemmas.{patch_of-fits}
 use Rattle.cap_changes.proofs.StoredChange.{change_entry, patch_entry}
 use Rattle.cap_changes.proofs.ValueLemmas.{inverse_values, patch_values, values_of}
+use Rattle.std.proofs.lemmas.List.{length-take-le, drop-drop}
+use Rattle.std.proofs.Math.Seq.{drop-append_seam, take-append_seam}
+use Rattle.cap_changes.specs.Entries.{AllFit}
+use Rattle.cap_changes.specs.Field.{record_bytes}
+use Rattle.cap_changes.specs.FieldRecord.{RecordFields}
+use Rattle.cap_changes.specs.Requirements.{requirements, new_requirements, satisfy}
+use Rattle.cap_changes.specs.declared.record_kind.RecordKind.TheVariants.{Keyed}
+use Rattle.cap_changes.proofs.LeftLemmas.{first_fits, others_fit}
+use Rattle.cap_changes.proofs.StoredEntries.{part_before, part_behind}
 
 module _ {A : Type 0} where
   pub inverse_again : (flags : List Bool) (change : RowChange A) → IsTrue (change_fits flags change) → HasValues change
@@ -79,3 +88,101 @@ module _ {A : Type 0} where
         values_of _ (column_values old_field (λ key a b x y. if_value (key || is_modified key a b) a x) flags image now (p image refl) (q now refl)),
         values_of _ (column_values new_field (λ key a b x y. if_value (is_modified key a b) b y) flags image now (p image refl) (q now refl)),
       )
+
+-- ---- the inverse of each change, written over its bytes, which are as many
+
+module _ {A : Type 0} where
+  -- two records whose fields are exchanged are as many bytes
+  exchanged : (flags : List Bool) (old new : RecordFields A) → satisfy (requirements Keyed flags) old ≡ true → satisfy (new_requirements flags old) new ≡ true →
+      length (record_bytes (update_record flags old new)) + length (record_bytes (update_record flags new old)) ≡ length (record_bytes old) + length (record_bytes new)
+  exchanged (key ∷ flags) (before ∷ old) (after ∷ new) met met' = grind (arith, length-append, exchanged flags old new)
+  exchanged flags old new met met' = grind arith
+
+  pub as_many : (flags : List Bool) (change : RowChange A) → IsTrue (change_fits flags change) → length (change_bytes (inverse_of flags change)) ≡ length (change_bytes change)
+  as_many flags (Update indirect old new) fits = grind (arith, length-append, exchanged flags old new)
+  as_many flags change fits = refl
+
+  -- the records of the inverse of an update have the place of its own ones
+  pub records_fit : (flags : List Bool) (change : RowChange A) (bytes records : List ℕ) (indirect : Bool) (old new : RecordFields A) → IsTrue (change_fits flags change) → change ≡ Update indirect old new → bytes ≡ change_bytes change
+      → records ≡ record_bytes (update_record flags old new) ++ record_bytes (update_record flags new old) → length (take (length bytes - 2) (drop 2 bytes)) ≡ length records
+  records_fit flags change bytes records indirect old new fits is spelled records_are =
+      let count : length bytes ≡ 2 + length records = ap length spelled ∙ sym (as_many flags change fits) ∙ ap (λ (c : RowChange A). length (change_bytes (inverse_of flags c))) is ∙ omega (arith, ap length records_are) in
+      length-take-le (length bytes - 2) (drop 2 bytes) (omega (arith, length-drop 2 bytes)) ∙ omega (arith, count)
+
+  -- ---- the bytes of a group
+
+  abbrev inverses : List Bool → List (RowChange A) → List ℕ
+  inverses flags changes = flat_map change_bytes (map (inverse_of flags) changes)
+
+  -- bytes of which each entry is one of these, and ends there
+  pub record AreOf (flags : List Bool) (bytes : List ℕ) (start : ℕ) (ends : List ℕ) (changes : List (RowChange A)) : Type 0 where
+    pub are : AreEntries (change_fits {A = A}) HasValues change_bytes stored_change flags bytes start ends
+    pub end : end_of start ends ≡ length bytes
+    pub entries : entries_of stored_change flags bytes start ends ≡ changes
+
+  pub inverted : (flags : List Bool) (bytes front new : List ℕ) (start : ℕ) (ends : List ℕ) → AreEntries (change_fits {A = A}) HasValues change_bytes stored_change flags bytes start ends → length front ≡ start
+      → new ≡ front ++ inverses flags (entries_of stored_change flags bytes start ends) → AreOf flags new start ends (map (inverse_of flags) (entries_of stored_change flags bytes start ends))
+  inverted flags bytes front new start [] are long is =
+      let count : length new ≡ start = ap length (is ∙ append-nil front) ∙ long in
+      record { are = omega (arith, count); end = sym count; entries = refl }
+  inverted flags bytes front new start (end ∷ ends) are long is =
+      let piece = part start end bytes in
+      let change : RowChange A = stored_change flags piece in
+      let written = change_bytes (inverse_of flags change) in
+      let behind = inverses flags (entries_of stored_change flags bytes end ends) in
+      let again = inverse_again flags change are.2.fits are.2.values in
+      let count : length written ≡ end - start = as_many flags change are.2.fits ∙ ap length (sym are.2.spelled) ∙ length-take-le (end - start) (drop start bytes) (omega (arith, length-drop start bytes, are.1)) in
+      let grown : length (front ++ written) ≡ end = omega (arith, length-append front written, long, count, are.0) in
+      let parts : new ≡ (front ++ written) ++ behind = is ∙ sym (append_assoc front written behind) in
+      let rest = inverted flags bytes (front ++ written) new end ends are.3 grown parts in
+      let here : part start end new ≡ written =
+      ap (part start end) parts ∙ part_before start end (front ++ written) behind are.0 (omega (arith, grown))
+      ∙ (λ i. part (sym long i) (sym grown i) (front ++ written)) ∙ part_behind front written in
+      record {
+        are = (are.0, omega (arith, ap length parts, length-append (front ++ written) behind, grown), subst (λ (p : List ℕ). IsEntry (change_fits {A = A}) HasValues change_bytes flags (stored_change flags p) p) (sym here) again.1, rest.are);
+        end = rest.end;
+        entries = λ i. (ap (stored_change flags) here ∙ again.0) i ∷ rest.entries i;
+      }
+
+  pub inverse_kept : (flags : List Bool) (bytes new ends : List ℕ) → IsKept (change_fits {A = A}) HasValues change_bytes stored_change flags bytes ends → new ≡ inverses flags (entries_of stored_change flags bytes 0 ends)
+      → IsKept (change_fits {A = A}) HasValues change_bytes stored_change flags new ends
+      × (◌≡◌ {A = List (RowChange A)} (entries_of stored_change flags new 0 ends) (map (inverse_of flags) (entries_of stored_change flags bytes 0 ends)))
+  inverse_kept flags bytes new ends kept is =
+      let are = inverted flags bytes [] new 0 ends kept.each refl is in
+      (record { keyed = kept.keyed; each = are.are; end = are.end }, are.entries)
+
+  -- ---- one change after another
+
+  -- what is written, up to a place, with the inverses of the changes that are left behind it, is all
+  pub record Written (flags : List Bool) (bytes : List ℕ) (begin : ℕ) (changes : List (RowChange A)) (all : List ℕ) : Type 0 where
+    pub within : begin ≤ length bytes
+    pub left : drop begin bytes ≡ flat_map change_bytes changes
+    pub so_far : take begin bytes ++ inverses flags changes ≡ all
+    pub fit : AllFit change_fits flags changes
+
+  pub one_more : (flags : List Bool) (bytes piece new : List ℕ) (begin end : ℕ) (changes others : List (RowChange A)) (change : RowChange A) (all : List ℕ) → Written flags bytes begin changes all → changes ≡ change ∷ others
+      → end ≡ begin + length (change_bytes change) → piece ≡ change_bytes (inverse_of flags change) → new ≡ take begin bytes ++ (piece ++ drop end bytes) → Written flags new end others all
+  one_more flags bytes piece new begin end changes others change all w is end_is piece_is new_is =
+      let left : drop begin bytes ≡ change_bytes change ++ flat_map change_bytes others = w.left ∙ ap (flat_map change_bytes) is in
+      let behind : drop end bytes ≡ flat_map change_bytes others =
+      ap (λ (n : ℕ). drop n bytes) end_is ∙ sym (drop-drop (length (change_bytes change)) begin bytes) ∙ ap (drop (length (change_bytes change))) left ∙ drop-append_seam (change_bytes change) (flat_map change_bytes others) in
+      let fits = first_fits (change_fits {A = A}) flags flags changes others change refl is w.fit in
+      let long = ap length piece_is ∙ as_many flags change fits in
+      let front = take begin bytes ++ piece in
+      let count : length front ≡ end = omega (arith, length-append (take begin bytes) piece, length-take-le begin bytes w.within, long, end_is) in
+      let parts : new ≡ front ++ flat_map change_bytes others = new_is ∙ sym (append_assoc (take begin bytes) piece (drop end bytes)) ∙ ap (λ (b : List ℕ). front ++ b) behind in
+      record {
+        within = omega (arith, ap length parts, length-append front (flat_map change_bytes others), count);
+        left = (λ i. drop (sym count i) (parts i)) ∙ drop-append_seam front (flat_map change_bytes others);
+        so_far = ap (λ (b : List ℕ). b ++ inverses flags others) ((λ i. take (sym count i) (parts i)) ∙ take-append_seam front (flat_map change_bytes others))
+            ∙ append_assoc (take begin bytes) piece (inverses flags others)
+            ∙ ap (λ (b : List ℕ). take begin bytes ++ (b ++ inverses flags others)) piece_is
+            ∙ sym (ap (λ (c : List (RowChange A)). take begin bytes ++ inverses flags c) is) ∙ w.so_far;
+        fit = others_fit (change_fits {A = A}) flags changes others change is w.fit;
+      }
+
+  -- the change ends within the bytes
+  pub ends_within : (flags : List Bool) (bytes : List ℕ) (begin : ℕ) (changes others : List (RowChange A)) (change : RowChange A) (all : List ℕ) → Written flags bytes begin changes all → changes ≡ change ∷ others
+      → begin + length (change_bytes change) ≤ length bytes
+  ends_within flags bytes begin changes others change all w is =
+      omega (arith, w.within, ap length (w.left ∙ ap (flat_map change_bytes) is), length-drop begin bytes, length-append (change_bytes change) (flat_map change_bytes others))

@@ -1,5 +1,5 @@
 -- Records that are passed over, field by field.
-use Rattle.std.proofs.Common.{arith, ◌≡◌, ℕ, ◌+◌, ◌<◌, ◌≤◌, Bool, false, List, [], ◌∷◌, ◌++◌, length, drop, get_or, Option, Result, Ok, Err, refl, ap, subst, ◌∙◌, add-one, drop-cons}
+use Rattle.std.proofs.Common.{arith, ◌≡◌, ℕ, ◌+◌, ◌<◌, ◌≤◌, Bool, false, List, [], ◌∷◌, ◌++◌, length, drop, get_or, Option, Result, Ok, Err, refl, sym, ap, subst, ◌∙◌, add-one, drop-cons}
 use Rattle.std.specs.Prelude.{IsOk}
 use Rattle.std.proofs.lemmas.List.{drop_all}
 use Rattle.cap_value.specs.declared.value.Value.{Value}
@@ -17,7 +17,7 @@ use Rattle.cap_changes.specs.declared.field_requirement.FieldRequirement.{FieldR
 use Rattle.cap_changes.specs.declared.field_requirement.FieldRequirement.TheVariants as required
 use Rattle.cap_changes.specs.declared.record_kind.RecordKind.TheVariants.{Keyed}
 use Rattle.cap_changes.proofs.FieldAgain.{field_again}
-use Rattle.cap_changes.proofs.RecordAgain.{of_keyed}
+use Rattle.cap_changes.proofs.FieldAgain.{of_keyed}
 use Rattle.cap_changes.proofs.Spelled.{field_spelled}
 
 pub ok_of : {X E : Type 0} (read : Result X E) → IsOk read → (x : X) × (read ≡ Ok x)
@@ -57,11 +57,11 @@ module _ (A : Type 0) where
   abbrev pub BeginsOld : ℕ → List Bool → List ℕ → Type 0
   BeginsOld total flags bytes = IsOk (record_at {A = A} total (requirements Keyed flags) bytes)
 
-  -- its first field, and what is left of it
-  pub record OldStep (total : ℕ) (key : Bool) (flags : List Bool) (given : List ℕ) (field : Option (Value A)) (after : List ℕ) : Type 0 where
+  -- its first field, what is left of it, and what is required of the new record
+  pub record OldStep (total : ℕ) (columns flags : List Bool) (key : Bool) (given : List ℕ) (field : Option (Value A)) (after : List ℕ) : Type 0 where
     pub read : field_at 0 required.Any given ≡ Ok (field, after)
     pub left : BeginsOld total flags after
-    pub is : old_in A total (key ∷ flags) given ≡ field ∷ old_in A total flags after
+    pub asked : new_requirements columns (old_in A total columns given) ≡ new_requirement (key, field) ∷ new_requirements flags (old_in A total flags after)
     pub low : AreLow after
 
   old_parts : (total : ℕ) (key : Bool) (flags : List Bool) (given : List ℕ) (field : Option (Value A)) (after : List ℕ) (others : RecordFields A × List ℕ) → field_at total (requirement_of Keyed key) given ≡ Ok (field, after)
@@ -69,10 +69,10 @@ module _ (A : Type 0) where
   unfolding record_at
   old_parts total key flags given field after others read is = rw (read, is) refl
 
-  old_step : (total : ℕ) (key : Bool) (flags : List Bool) (given : List ℕ) → AreLow given → BeginsOld total (key ∷ flags) given → (field : Option (Value A)) × (after : List ℕ) × OldStep total key flags given field after
+  old_step : (total : ℕ) (columns flags : List Bool) (key : Bool) (given : List ℕ) → columns ≡ key ∷ flags → AreLow given → BeginsOld total columns given → (field : Option (Value A)) × (after : List ℕ) × OldStep total columns flags key given field after
   unfolding record_at
-  old_step total key flags given low known =
-      let x = ok_of (record_at {A = A} total (requirements Keyed (key ∷ flags)) given) known in
+  old_step total columns flags key given columns_are low known =
+      let x = ok_of (record_at {A = A} total (requirements Keyed (key ∷ flags)) given) (subst (λ (c : List Bool). BeginsOld total c given) columns_are known) in
       let first = bind_ok (field_at {A = A} total (requirement_of Keyed key) given) (λ field. record_at total (requirements Keyed flags) field.1 >>= (λ others. Ok (field.0 ∷ others.0, others.1))) x.0 x.1 in
       let others = bind_ok (record_at {A = A} total (requirements Keyed flags) first.0.1) (λ others. Ok (first.0.0 ∷ others.0, others.1)) x.0 first.2 in
       let spelled = field_spelled total (requirement_of Keyed key) given first.0 low first.1 in
@@ -82,38 +82,26 @@ module _ (A : Type 0) where
         record {
           read = ap (field_at 0 required.Any) parts ∙ field_again 0 required.Any first.0.0 first.0.1 refl spelled.1;
           left = rw others.1 refl;
-          is = old_parts total key flags given first.0.0 first.0.1 others.0 first.1 others.1;
+          asked = subst (λ (c : List Bool). new_requirements c (old_in A total c given) ≡ new_requirement (key, first.0.0) ∷ new_requirements flags (old_in A total flags first.0.1)) (sym columns_are)
+              (ap (new_requirements (key ∷ flags)) (old_parts total key flags given first.0.0 first.0.1 others.0 first.1 others.1));
           low = low_behind given (field_bytes first.0.0) first.0.1 parts low;
         },
       )
 
   pub old_has_field : (total : ℕ) (columns flags : List Bool) (key : Bool) (given : List ℕ) → columns ≡ key ∷ flags → AreLow given → BeginsOld total columns given → IsOk (field_at {A = A} 0 required.Any given)
-  old_has_field total columns flags key given parts low known =
-      let (field, after, step) = old_step total key flags given low (subst (λ (c : List Bool). BeginsOld total c given) parts known) in rw step.read refl
+  old_has_field total columns flags key given parts low known = let (field, after, step) = old_step total columns flags key given parts low known in rw step.read refl
 
   pub old_left : (total : ℕ) (columns flags : List Bool) (key : Bool) (given : List ℕ) (field : Option (Value A)) (after : List ℕ) → columns ≡ key ∷ flags → AreLow given → BeginsOld total columns given
-      → field_at 0 required.Any given ≡ Ok (field, after) → OldStep total key flags given field after
+      → field_at 0 required.Any given ≡ Ok (field, after) → OldStep total columns flags key given field after
   old_left total columns flags key given field after parts low known read =
-      let (field', after', step) = old_step total key flags given low (subst (λ (c : List Bool). BeginsOld total c given) parts known) in
+      let (field', after', step) = old_step total columns flags key given parts low known in
       let same : (field', after') ≡ (field, after) = cc (step.read, read) in
-      subst (λ (p : Option (Value A) × List ℕ). OldStep total key flags given p.0 p.1) same step
+      subst (λ (p : Option (Value A) × List ℕ). OldStep total columns flags key given p.0 p.1) same step
 
   -- ---- the new record, by it
 
   abbrev pub NewLeft : ℕ → List Bool → List ℕ → List ℕ → Result (List ℕ) BlobFault → Type 0
   NewLeft total flags old given all = behind (record_at {A = A} total (new_requirements flags (old_in A total flags old)) given) ≡ all
-
-  pub new_goes_on : (total : ℕ) (columns flags : List Bool) (key : Bool) (old old_after given after : List ℕ) (field new_field : Option (Value A)) (all : Result (List ℕ) BlobFault) → columns ≡ key ∷ flags → OldStep total key flags old field old_after
-      → field_at total (new_requirement (key, field)) given ≡ Ok (new_field, after) → NewLeft total columns old given all → NewLeft total flags old_after after all
-  new_goes_on total columns flags key old old_after given after field new_field all parts step read so_far =
-      pass_goes_on total (new_requirement (key, field)) (new_requirements columns (old_in A total columns old)) (new_requirements flags (old_in A total flags old_after)) given after new_field all
-      (rw parts (ap (new_requirements (key ∷ flags)) step.is)) read so_far
-
-  pub new_fails : (total : ℕ) (columns flags : List Bool) (key : Bool) (old old_after given : List ℕ) (field : Option (Value A)) (f : BlobFault) (all : Result (List ℕ) BlobFault) → columns ≡ key ∷ flags → OldStep total key flags old field old_after
-      → field_at {A = A} total (new_requirement (key, field)) given ≡ Err f → NewLeft total columns old given all → all ≡ Err f
-  new_fails total columns flags key old old_after given field f all parts step wrong so_far =
-      pass_fails total (new_requirement (key, field)) (new_requirements columns (old_in A total columns old)) (new_requirements flags (old_in A total flags old_after)) given f all
-      (rw parts (ap (new_requirements (key ∷ flags)) step.is)) wrong so_far
 
   pub new_ends : (total : ℕ) (columns : List Bool) (old given : List ℕ) (all : Result (List ℕ) BlobFault) → columns ≡ [] → NewLeft total columns old given all → all ≡ Ok given
   new_ends total columns old given all none so_far = pass_ends total (new_requirements columns (old_in A total columns old)) given all (rw none refl) so_far

@@ -12,7 +12,7 @@ use Rattle.cap_changes.specs.HasValues.{AreValues}
 use Rattle.cap_changes.specs.RecordReading.{record_at}
 use Rattle.cap_field.proofs.Binds.{bind_ok, chosen, ok_is}
 use Rattle.cap_changes.proofs.FieldAgain.{asked_bytes}
-use Rattle.cap_changes.proofs.RecordAgain.{asked_record}
+use Rattle.cap_changes.proofs.FieldAgain.{asked_record}
 use Rattle.cap_changes.proofs.ValueLemmas.{values_of}
 use Rattle.cap_field.proofs.Spelled.{AreLow, low_behind, number_spelled, sized_spelled, text_spelled}
 

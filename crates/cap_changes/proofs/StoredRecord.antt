@@ -1,10 +1,10 @@
 -- The bytes of records, and the fields of bytes.
-use Rattle.std.proofs.Common.{◌≡◌, ◌==◌, true, false, Bool, ℕ, zero, suc, ◌≤◌, ◌<◌, List, [], ◌∷◌, ◌++◌, length, Option, Some, None, IfSome, IsTrue, eqb-true, Ok, IsOk, refl, sym, ap, subst, ◌∙◌, append-nil, length-append, arith, ◌-◌, get_or, take, drop, ◌+◌, Result, Err, append_assoc, take_at, drop_at}
+use Rattle.std.proofs.Common.{◌≡◌, ◌==◌, true, false, Bool, ℕ, zero, suc, ◌≤◌, ◌<◌, List, [], ◌∷◌, ◌++◌, length, Option, Some, None, IfSome, IsTrue, eqb-true, Ok, IsOk, refl, sym, ap, subst, ◌∙◌, append-nil, length-append, arith, ◌-◌, get_or, take, drop, ◌+◌, Result, Err, append_assoc, take_at, drop_at, inl, inr, ◌⊎◌, ◌≢◌}
 use Rattle.std.proofs.lemmas.Bool.{and_parts}
 use Rattle.cap_value.specs.declared.value.Value.{Value}
 use Rattle.cap_value.specs.Value.{IsValue}
 use Rattle.cap_changes.specs.Field.{field_bytes, record_bytes, key_bytes}
-use Rattle.cap_changes.specs.FieldReading.{field_at}
+use Rattle.cap_changes.specs.FieldReading.{field_at, content_at}
 use Rattle.cap_changes.specs.FieldRecord.{RecordFields}
 use Rattle.cap_changes.specs.Record.{fields_from, fields_of, keys_of, AreFields, IsRecord, IsKeyRecord, stored_fields, IsStored, IsFirstField, StartsRecord}
 use Rattle.cap_changes.specs.RecordReading.{record_at}
@@ -12,12 +12,19 @@ use Rattle.cap_changes.specs.Requirements.{requirements, satisfies, satisfy}
 use Rattle.cap_changes.specs.declared.field_requirement.FieldRequirement.TheVariants.{Any, Key, Omitted}
 use Rattle.cap_changes.specs.declared.record_kind.RecordKind.TheVariants.{KeyAlone}
 use Rattle.cap_changes.proofs.FieldAgain.{field_again, asked_bytes}
-use Rattle.cap_changes.proofs.RecordAgain.{fields_again, keys_asked}
-use Rattle.std.proofs.lemmas.List.{take_all, drop_all}
+use Rattle.cap_changes.proofs.FieldAgain.{fields_again, keys_asked}
+use Rattle.std.proofs.lemmas.List.{take_all, drop_all, drop_more}
+use Rattle.std.proofs.lemmas.List.Elements.{All-from_recursion}
 use Rattle.std.proofs.Math.Seq.{take-append_seam}
 use Rattle.cap_field.specs.declared.fault.BlobFault.{BlobFault}
 use Rattle.cap_field.proofs.Spelled.{AreLow}
 use Rattle.cap_changes.proofs.Spelled.{field_spelled}
+use Rattle.cap_field.specs.FieldReading.{value_at}
+use Rattle.cap_field.specs.FieldReading as values
+
+-- the first field has bytes, and the record behind it has these columns
+abbrev pub HasFirst : (keys others : Option (List Bool)) → List ℕ → Type 0
+HasFirst keys others bytes = ((keys ≡ None) × (others ≡ None) × (0 < length bytes)) ⊎ ((flags : List Bool) × (keys ≡ Some (true ∷ flags)) × (others ≡ Some flags))
 
 module _ {A : Type 0} where
   from_bytes : (most : ℕ) (fields : RecordFields A) → AreFields fields → length (record_bytes fields) ≤ most → fields_from most (record_bytes fields) ≡ fields
@@ -49,44 +56,6 @@ module _ {A : Type 0} where
   pub few_fields : (bytes : List ℕ) → IsRecord {A = A} bytes (fields_of bytes) → length (fields_of {A = A} bytes) ≤ length bytes
   few_fields bytes is = subst (λ (n : ℕ). length (fields_of {A = A} bytes) ≤ n) (sym (ap length is.spelled)) (few (fields_of bytes))
 
-  -- ---- the first field
-
-  -- bytes that are not empty begin with the first field, and those behind it are of the others
-  pub record First (bytes : List ℕ) (field : Option (Value A)) (rest : List ℕ) : Type 0 where
-    pub read : field_at 0 Any bytes ≡ Ok (field, rest)
-    pub fields : fields_of bytes ≡ field ∷ fields_of rest
-    pub stored : IsRecord {A = A} rest (fields_of rest)
-    pub fits : IfSome field IsValue
-    pub parts : bytes ≡ field_bytes field ++ rest
-
-  first_of : (bytes : List ℕ) (fields : RecordFields A) → fields_of bytes ≡ fields → AreFields fields → bytes ≡ record_bytes fields → 0 < length bytes → (field : Option (Value A)) × (rest : List ℕ) × First bytes field rest
-  first_of bytes [] is each spelled some = absurd (omega (arith, ap length spelled))
-  first_of bytes (field ∷ fields) is each spelled some =
-      let others = stored (record_bytes fields) fields each.1 refl in (
-        field,
-        record_bytes fields,
-        record {
-          read = ap (field_at 0 Any) spelled ∙ field_again 0 Any field (record_bytes fields) refl each.0;
-          fields = is ∙ ap (λ (l : RecordFields A). field ∷ l) (sym others.0);
-          stored = others.1;
-          fits = each.0;
-          parts = spelled;
-        },
-      )
-
-  first : (bytes : List ℕ) → IsRecord {A = A} bytes (fields_of bytes) → 0 < length bytes → (field : Option (Value A)) × (rest : List ℕ) × First bytes field rest
-  first bytes is some = first_of bytes (fields_of bytes) refl is.each is.spelled some
-
-  pub first_is : (bytes : List ℕ) (field : Option (Value A)) (rest : List ℕ) → IsRecord {A = A} bytes (fields_of bytes) → 0 < length bytes → field_at 0 Any bytes ≡ Ok (field, rest) → First bytes field rest
-  first_is bytes field rest is some read =
-      let (f, r, found) = first bytes is some in
-      let same : (f, r) ≡ (field, rest) = cc (found.read, read) in
-      subst (λ (p : Option (Value A) × List ℕ). First bytes p.0 p.1) same found
-
-  pub ended : (bytes : List ℕ) → (length bytes == 0) ≡ true → fields_of {A = A} bytes ≡ []
-  ended [] e = of_none.0
-  ended (byte ∷ bytes) e = absurd (omega (arith, eqb-true (length (byte ∷ bytes)) 0 e))
-
   -- ---- records of the key alone
 
   pub stored_key : (flags : List Bool) (bytes : List ℕ) (fields : RecordFields A) → AreFields fields → IsTrue (satisfy (requirements KeyAlone flags) fields) → bytes ≡ key_bytes fields
@@ -98,39 +67,41 @@ module _ {A : Type 0} where
       let same : keys_of flags bytes ≡ fields = rw read refl in
       (same, subst (IsKeyRecord flags bytes) (sym same) (record { each = each; fits = fits; spelled = spelled }))
 
-  -- the first field is in the key
-  pub record FirstKey (flags : List Bool) (bytes : List ℕ) (field : Option (Value A)) (rest : List ℕ) : Type 0 where
+  -- ---- the first field, and its bytes
+
+  -- the bytes begin with the first field, and those behind it are of the other columns
+  pub record First (keys others : Option (List Bool)) (bytes : List ℕ) (field : Option (Value A)) (rest : List ℕ) : Type 0 where
     pub read : field_at 0 Any bytes ≡ Ok (field, rest)
-    pub fields : keys_of (true ∷ flags) bytes ≡ field ∷ keys_of flags rest
-    pub stored : IsKeyRecord {A = A} flags rest (keys_of flags rest)
+    pub fields : stored_fields keys bytes ≡ field ∷ stored_fields others rest
+    pub stored : IsStored A others rest
     pub fits : IfSome field IsValue
     pub parts : bytes ≡ field_bytes field ++ rest
 
+  begin : (keys others : Option (List Bool)) (bytes : List ℕ) (field : Option (Value A)) (rest : List ℕ) (fields : RecordFields A) → stored_fields keys bytes ≡ field ∷ fields → (stored_fields others rest ≡ fields) × IsStored A others rest
+      → IfSome field IsValue → bytes ≡ field_bytes field ++ rest → (f : Option (Value A)) × (r : List ℕ) × First keys others bytes f r
+  begin keys others bytes field rest fields is behind fits parts = (
+    field,
+    rest,
+    record {
+      read = ap (field_at 0 Any) parts ∙ field_again 0 Any field rest refl fits;
+      fields = is ∙ ap (λ (l : RecordFields A). field ∷ l) (sym behind.0);
+      stored = behind.1;
+      fits = fits;
+      parts = parts;
+    },
+  )
+
+  -- of a record that has all fields, or of the key alone, by its fields
+  first_of : (bytes : List ℕ) (fields : RecordFields A) → fields_of bytes ≡ fields → AreFields fields → bytes ≡ record_bytes fields → 0 < length bytes → (field : Option (Value A)) × (rest : List ℕ) × First None None bytes field rest
+  first_of bytes [] is each spelled some = absurd (omega (arith, ap length spelled))
+  first_of bytes (field ∷ fields) is each spelled some = begin None None bytes field (record_bytes fields) fields is (stored (record_bytes fields) fields each.1 refl) each.0 spelled
+
   first_key_of : (flags : List Bool) (bytes : List ℕ) (fields : RecordFields A) → keys_of (true ∷ flags) bytes ≡ fields → AreFields fields → IsTrue (satisfy (requirements KeyAlone (true ∷ flags)) fields) → bytes ≡ key_bytes fields
-      → (field : Option (Value A)) × (rest : List ℕ) × FirstKey flags bytes field rest
+      → (field : Option (Value A)) × (rest : List ℕ) × First (Some (true ∷ flags)) (Some flags) bytes field rest
   first_key_of flags bytes (Some value ∷ fields) is each fits spelled =
       let met = and_parts (satisfies Key (Some value)) (satisfy (requirements KeyAlone flags) fields) fits in
-      let others = stored_key flags (key_bytes fields) fields each.1 met.1 refl in (
-        Some value,
-        key_bytes fields,
-        record {
-          read = ap (field_at 0 Any) spelled ∙ field_again 0 Any (Some value) (key_bytes fields) refl each.0;
-          fields = is ∙ ap (λ (l : RecordFields A). Some value ∷ l) (sym others.0);
-          stored = others.1;
-          fits = each.0;
-          parts = spelled;
-        },
-      )
+      begin (Some (true ∷ flags)) (Some flags) bytes (Some value) (key_bytes fields) fields is (stored_key flags (key_bytes fields) fields each.1 met.1 refl) each.0 spelled
   first_key_of flags bytes fields is each fits spelled = absurd cc
-
-  first_key : (flags : List Bool) (bytes : List ℕ) → IsKeyRecord {A = A} (true ∷ flags) bytes (keys_of (true ∷ flags) bytes) → (field : Option (Value A)) × (rest : List ℕ) × FirstKey flags bytes field rest
-  first_key flags bytes is = first_key_of flags bytes (keys_of (true ∷ flags) bytes) refl is.each is.fits is.spelled
-
-  pub first_key_is : (flags : List Bool) (bytes : List ℕ) (field : Option (Value A)) (rest : List ℕ) → IsKeyRecord {A = A} (true ∷ flags) bytes (keys_of (true ∷ flags) bytes) → field_at 0 Any bytes ≡ Ok (field, rest) → FirstKey flags bytes field rest
-  first_key_is flags bytes field rest is read =
-      let (f, r, found) = first_key flags bytes is in
-      let same : (f, r) ≡ (field, rest) = cc (found.read, read) in
-      subst (λ (p : Option (Value A) × List ℕ). FirstKey flags bytes p.0 p.1) same found
 
   -- the first field is outside the key
   other_of : (flags : List Bool) (bytes : List ℕ) (fields : RecordFields A) → keys_of (false ∷ flags) bytes ≡ fields → AreFields fields → IsTrue (satisfy (requirements KeyAlone (false ∷ flags)) fields) → bytes ≡ key_bytes fields
@@ -141,95 +112,49 @@ module _ {A : Type 0} where
       (is ∙ ap (λ (l : RecordFields A). None ∷ l) (sym others.0), others.1)
   other_of flags bytes fields is each fits spelled = absurd cc
 
-  pub other_first : (flags : List Bool) (bytes : List ℕ) → IsKeyRecord {A = A} (false ∷ flags) bytes (keys_of (false ∷ flags) bytes)
-      → (keys_of {A = A} (false ∷ flags) bytes ≡ None ∷ keys_of flags bytes) × IsKeyRecord {A = A} flags bytes (keys_of flags bytes)
-  other_first flags bytes is = other_of flags bytes (keys_of (false ∷ flags) bytes) refl is.each is.fits is.spelled
+  pub other_first : (keys : Option (List Bool)) (flags : List Bool) (bytes : List ℕ) → keys ≡ Some (false ∷ flags) → IsStored A keys bytes
+      → (stored_fields {A = A} keys bytes ≡ None ∷ keys_of flags bytes) × IsKeyRecord {A = A} flags bytes (keys_of flags bytes)
+  other_first keys flags bytes keyed is = let k = rw keyed at is in rw keyed (other_of flags bytes (keys_of (false ∷ flags) bytes) refl k.each k.fits k.spelled)
 
--- ---- the first field of a record, and its bytes
-
-pub some_left : (bytes : List ℕ) → (length bytes == 0) ≡ false → 0 < length bytes
-some_left [] e = absurd cc
-some_left (byte ∷ bytes) e = omega arith
+  pub none_first : (keys : Option (List Bool)) (bytes : List ℕ) → keys ≡ None → (length bytes == 0) ≡ true → stored_fields {A = A} keys bytes ≡ []
+  none_first keys [] none empty = rw none of_none.0
+  none_first keys (byte ∷ bytes) none empty = absurd (omega (arith, eqb-true (length (byte ∷ bytes)) 0 empty))
 
 module _ (A : Type 0) where
-  -- the bytes before those behind a field are its own
-  own_bytes : (bytes front rest own : List ℕ) → bytes ≡ own ++ rest → front ≡ take (length bytes - length rest) bytes → front ≡ own
-  own_bytes bytes front rest own parts is = grind (arith, length-append own rest, take-append_seam own rest)
+  first : (keys others : Option (List Bool)) (bytes : List ℕ) → HasFirst keys others bytes → IsStored A keys bytes → (field : Option (Value A)) × (rest : List ℕ) × First keys others bytes field rest
+  first keys others bytes (inl (whole, left, some)) is = let w = rw whole at is in rw (whole, left) (first_of bytes (fields_of bytes) refl w.each w.spelled some)
+  first keys others bytes (inr (flags, keyed, left)) is = let k = rw keyed at is in rw (keyed, left) (first_key_of flags bytes (keys_of (true ∷ flags) bytes) refl k.each k.fits k.spelled)
 
-  -- ---- of a record that has all fields
+  pub is_read : (keys others : Option (List Bool)) (bytes : List ℕ) → HasFirst keys others bytes → IsStored A keys bytes → IsOk (field_at {A = A} 0 Any bytes)
+  is_read keys others bytes has is = let (field, rest, f) = first keys others bytes has is in rw f.read refl
 
-  whole : (keys : Option (List Bool)) (bytes : List ℕ) → keys ≡ None → IsStored A keys bytes → IsRecord {A = A} bytes (fields_of bytes)
-  whole keys bytes none is = subst (λ (k : Option (List Bool)). IsStored A k bytes) none is
+  pub first_is : (keys others : Option (List Bool)) (bytes rest : List ℕ) (field : Option (Value A)) → HasFirst keys others bytes → IsStored A keys bytes → field_at 0 Any bytes ≡ Ok (field, rest) → First keys others bytes field rest
+  first_is keys others bytes rest field has is read =
+      let (f, r, found) = first keys others bytes has is in
+      let same : (f, r) ≡ (field, rest) = cc (found.read, read) in
+      subst (λ (p : Option (Value A) × List ℕ). First keys others bytes p.0 p.1) same found
 
-  pub whole_ends : (keys : Option (List Bool)) (bytes : List ℕ) (fields : RecordFields A) → keys ≡ None → stored_fields keys bytes ≡ fields → (length bytes == 0) ≡ true → fields ≡ []
-  whole_ends keys bytes fields none view empty = sym view ∙ ap (λ (k : Option (List Bool)). stored_fields k bytes) none ∙ ended bytes empty
+  pub first_parts : (keys others : Option (List Bool)) (bytes front rest : List ℕ) (field : Option (Value A)) (fields : RecordFields A) → HasFirst keys others bytes → IsStored A keys bytes → field_at 0 Any bytes ≡ Ok (field, rest)
+      → front ≡ take (length bytes - length rest) bytes → stored_fields keys bytes ≡ fields → IsFirstField fields field front (stored_fields others rest)
+  first_parts keys others bytes front rest field fields has is read front_is view =
+      let f = first_is keys others bytes rest field has is read in
+      (sym view ∙ f.fields, grind (arith, f.parts, length-append (field_bytes field) rest, take-append_seam (field_bytes field) rest), f.fits)
 
-  pub whole_first : (keys : Option (List Bool)) (bytes : List ℕ) → keys ≡ None → IsStored A keys bytes → (length bytes == 0) ≡ false → IsOk (field_at {A = A} 0 Any bytes)
-  whole_first keys bytes none is some = let (field, rest, f) = first bytes (whole keys bytes none is) (some_left bytes some) in rw f.read refl
+-- the bytes of a record that has all fields are not empty
+pub whole_left : (keys : Option (List Bool)) (bytes : List ℕ) → keys ≡ None → (length bytes == 0) ≡ false → HasFirst keys keys bytes
+whole_left keys [] none some = absurd cc
+whole_left keys (byte ∷ bytes) none some = inl (none, none, omega arith)
 
-  pub whole_left : (keys : Option (List Bool)) (bytes rest : List ℕ) (field : Option (Value A)) → keys ≡ None → IsStored A keys bytes → (length bytes == 0) ≡ false → field_at 0 Any bytes ≡ Ok (field, rest) → IsStored A keys rest
-  whole_left keys bytes rest field none is some read =
-      subst (λ (k : Option (List Bool)). IsStored A k rest) (sym none) (first_is bytes field rest (whole keys bytes none is) (some_left bytes some) read).stored
+-- the columns behind the first, as a pattern gives them
+abbrev pub Others : List Bool → List Bool
+Others flags = take (length flags - 1) (drop 1 flags)
 
-  pub whole_parts : (keys : Option (List Bool)) (bytes front rest : List ℕ) (field : Option (Value A)) (fields : RecordFields A) → keys ≡ None → IsStored A keys bytes → (length bytes == 0) ≡ false → field_at 0 Any bytes ≡ Ok (field, rest)
-      → front ≡ take (length bytes - length rest) bytes → stored_fields keys bytes ≡ fields → IsFirstField fields field front (stored_fields keys rest)
-  whole_parts keys bytes front rest field fields none is some read front_is view =
-      let f = first_is bytes field rest (whole keys bytes none is) (some_left bytes some) read in (
-        sym view ∙ ap (λ (k : Option (List Bool)). stored_fields k bytes) none ∙ f.fields ∙ ap (λ (l : RecordFields A). field ∷ l) (sym (ap (λ (k : Option (List Bool)). stored_fields k rest) none)),
-        own_bytes bytes front rest (field_bytes field) f.parts front_is,
-        f.fits,
-      )
+pub first_flag : (keys : Option (List Bool)) (flags : List Bool) (key d : Bool) → keys ≡ Some flags → 1 ≤ length flags → get_or flags 0 d ≡ key → keys ≡ Some (key ∷ Others flags)
+first_flag keys [] key d some long is = absurd (omega arith)
+first_flag keys (flag ∷ flags) key d some long is = rw (some, is, take_all (length (flag ∷ flags) - 1) flags (omega arith)) refl
 
-  -- ---- of the key alone
-
-  keyed : (keys : Option (List Bool)) (flags : List Bool) (bytes : List ℕ) → keys ≡ Some flags → IsStored A keys bytes → IsKeyRecord {A = A} flags bytes (keys_of flags bytes)
-  keyed keys flags bytes some is = subst (λ (k : Option (List Bool)). IsStored A k bytes) some is
-
-  others_are : (key : Bool) (flags : List Bool) → take (length (key ∷ flags) - 1) (drop 1 (key ∷ flags)) ≡ flags
-  others_are key flags = take_all (length (key ∷ flags) - 1) flags (omega arith)
-
-  abbrev Others : List Bool → List Bool
-  Others flags = take (length flags - 1) (drop 1 flags)
-
-  undefined_of : (flags : List Bool) (bytes : List ℕ) (d : Bool) → 1 ≤ length flags → get_or flags 0 d ≡ false → IsKeyRecord {A = A} flags bytes (keys_of flags bytes)
-      → (keys_of {A = A} flags bytes ≡ None ∷ keys_of (Others flags) bytes) × IsKeyRecord {A = A} (Others flags) bytes (keys_of (Others flags) bytes)
-  undefined_of [] bytes d long not is = absurd (omega arith)
-  undefined_of (true ∷ flags) bytes d long not is = absurd cc
-  undefined_of (false ∷ flags) bytes d long not is = rw (others_are false flags) (other_first flags bytes is)
-
-  pub undefined_left : (keys : Option (List Bool)) (flags : List Bool) (bytes : List ℕ) (d : Bool) → keys ≡ Some flags → IsStored A keys bytes → 1 ≤ length flags → get_or flags 0 d ≡ false → IsKeyRecord {A = A} (Others flags) bytes (keys_of (Others flags) bytes)
-  undefined_left keys flags bytes d some is long not = (undefined_of flags bytes d long not (keyed keys flags bytes some is)).1
-
-  pub undefined_parts : (keys : Option (List Bool)) (flags : List Bool) (bytes : List ℕ) (d : Bool) (fields : RecordFields A) → keys ≡ Some flags → IsStored A keys bytes → 1 ≤ length flags → get_or flags 0 d ≡ false → stored_fields keys bytes ≡ fields
-      → fields ≡ None ∷ keys_of (Others flags) bytes
-  undefined_parts keys flags bytes d fields some is long not view =
-      sym view ∙ ap (λ (k : Option (List Bool)). stored_fields k bytes) some ∙ (undefined_of flags bytes d long not (keyed keys flags bytes some is)).0
-
-  pub key_first : (keys : Option (List Bool)) (flags : List Bool) (bytes : List ℕ) (d : Bool) → keys ≡ Some flags → IsStored A keys bytes → 1 ≤ length flags → get_or flags 0 d ≡ true → IsOk (field_at {A = A} 0 Any bytes)
-  key_first keys [] bytes d some is long inside = absurd (omega arith)
-  key_first keys (false ∷ flags) bytes d some is long inside = absurd cc
-  key_first keys (true ∷ flags) bytes d some is long inside = let (field, rest, f) = first_key flags bytes (keyed keys (true ∷ flags) bytes some is) in rw f.read refl
-
-  pub record Keyed (flags : List Bool) (bytes front rest : List ℕ) (field : Option (Value A)) : Type 0 where
-    pub left : IsKeyRecord {A = A} (Others flags) rest (keys_of (Others flags) rest)
-    pub fields : keys_of flags bytes ≡ field ∷ keys_of (Others flags) rest
-    pub own : front ≡ field_bytes field
-    pub fits : IfSome field IsValue
-
-  pub key_parts : (keys : Option (List Bool)) (flags : List Bool) (bytes front rest : List ℕ) (field : Option (Value A)) (d : Bool) → keys ≡ Some flags → IsStored A keys bytes → 1 ≤ length flags → get_or flags 0 d ≡ true
-      → field_at 0 Any bytes ≡ Ok (field, rest) → front ≡ take (length bytes - length rest) bytes → Keyed flags bytes front rest field
-  key_parts keys [] bytes front rest field d some is long inside read front_is = absurd (omega arith)
-  key_parts keys (false ∷ flags) bytes front rest field d some is long inside read front_is = absurd cc
-  key_parts keys (true ∷ flags) bytes front rest field d some is long inside read front_is =
-      let f = first_key_is flags bytes field rest (keyed keys (true ∷ flags) bytes some is) read in record {
-        left = rw (others_are true flags) f.stored;
-        fields = rw (others_are true flags) f.fields;
-        own = own_bytes bytes front rest (field_bytes field) f.parts front_is;
-        fits = f.fits;
-      }
-
-  pub keyed_view : (keys : Option (List Bool)) (flags : List Bool) (bytes : List ℕ) (fields : RecordFields A) → keys ≡ Some flags → stored_fields keys bytes ≡ fields → fields ≡ keys_of flags bytes
-  keyed_view keys flags bytes fields some view = sym view ∙ ap (λ (k : Option (List Bool)). stored_fields k bytes) some
+pub key_left : (keys : Option (List Bool)) (flags : List Bool) (bytes : List ℕ) (d : Bool) → keys ≡ Some flags → 1 ≤ length flags → get_or flags 0 d ≡ true → HasFirst keys (Some (Others flags)) bytes
+key_left keys flags bytes d some long inside = inr (Others flags, first_flag keys flags true d some long inside, refl)
 
 -- ---- two records, one behind the other
 
@@ -242,21 +167,14 @@ module _ (A : Type 0) where
   abbrev pub Passed : ℕ → List ℕ → ℕ → List ℕ → Type 0
   Passed width bytes at rest = (fields : RecordFields A) (behind : List ℕ) → AreFields fields → length fields ≡ width → bytes ≡ record_bytes fields ++ behind → rest ≡ record_bytes (drop at fields) ++ behind
 
-  abbrev Next : RecordFields A → ℕ → Type 0
-  Next fields at = (field : Option (Value A)) × (drop at fields ≡ field ∷ drop (at + 1) fields) × IfSome field IsValue
-
-  next_of : (fields : RecordFields A) (at : ℕ) → at < length fields → AreFields fields → Next fields at
-  next_of [] at lt each = absurd (omega arith)
-  next_of (first ∷ fields) zero lt each = (first, refl, each.0)
-  next_of (first ∷ fields) (suc at) lt each = let (field, is, value) = next_of fields at (omega arith) each.1 in (field, grind (arith, is), value)
-
   again : (width : ℕ) (bytes : List ℕ) (at : ℕ) (rest : List ℕ) (fields : RecordFields A) (behind : List ℕ) → Passed width bytes at rest → AreFields fields → length fields ≡ width → bytes ≡ record_bytes fields ++ behind → at < width
       → (field : Option (Value A)) × (field_at 0 Any rest ≡ Ok (field, record_bytes (drop (at + 1) fields) ++ behind))
   again width bytes at rest fields behind passed each wide parts lt =
-      let (field, is, value) = next_of fields at (omega (arith, lt, wide)) each in (
+      let inside : at < length fields = omega (arith, lt, wide) in
+      let field : Option (Value A) = get_or fields at None in (
         field,
-        ap (field_at 0 Any) (passed fields behind each wide parts ∙ ap (λ (l : RecordFields A). record_bytes l ++ behind) is ∙ append_assoc (field_bytes field) (record_bytes (drop (at + 1) fields)) behind)
-            ∙ field_again 0 Any field (record_bytes (drop (at + 1) fields) ++ behind) refl value,
+        ap (field_at 0 Any) (passed fields behind each wide parts ∙ ap (λ (l : RecordFields A). record_bytes l ++ behind) (drop_more fields at None inside) ∙ append_assoc (field_bytes field) (record_bytes (drop (at + 1) fields)) behind)
+            ∙ field_again 0 Any field (record_bytes (drop (at + 1) fields) ++ behind) refl (All-from_recursion (λ (f : Option (Value A)). IfSome f IsValue) fields each at None inside),
       )
 
   pub is_field : (width : ℕ) (bytes : List ℕ) (at : ℕ) (rest : List ℕ) → Passed width bytes at rest → at < width → StartsRecord A width bytes → IsOk (field_at {A = A} 0 Any rest)
@@ -292,3 +210,23 @@ module _ (A : Type 0) where
   no_more_behind bytes field rest low read =
       let spelled = field_spelled 0 Any bytes (field, rest) low read in
       omega (arith, ap length spelled.0, length-append (asked_bytes {A = A} Any field) rest)
+
+-- ---- a field that is defined is a value
+
+module _ (A : Type 0) where
+  -- ---- of bytes that are not empty
+
+  pub ok_behind : (bytes : List ℕ) → 1 ≤ length bytes → get_or bytes 0 0 ≢ 0 → IsOk (field_at {A = A} 0 Any bytes) → IsOk (value_at {A = A} 0 bytes)
+  unfolding field_at content_at values.content_at value_at
+  ok_behind [] long some ok = absurd (omega arith)
+  ok_behind (kind ∷ rest) long some ok = grind arith
+
+  pub defined_at : (bytes : List ℕ) (value : Value A) (rest : List ℕ) → 1 ≤ length bytes → get_or bytes 0 0 ≢ 0 → IsOk (field_at {A = A} 0 Any bytes) → value_at 0 bytes ≡ Ok (value, rest) → field_at 0 Any bytes ≡ Ok (Some value, rest)
+  unfolding field_at content_at values.content_at value_at
+  defined_at [] value rest long some ok read = absurd (omega arith)
+  defined_at (kind ∷ behind) value rest long some ok read = grind arith
+
+  pub undefined_at : (bytes : List ℕ) → 1 ≤ length bytes → get_or bytes 0 0 ≡ 0 → field_at {A = A} 0 Any bytes ≡ Ok (None, take (length bytes - 1) (drop 1 bytes))
+  unfolding field_at content_at
+  undefined_at [] long none = absurd (omega arith)
+  undefined_at (kind ∷ rest) long none = grind (arith, take_all (length (kind ∷ rest) - 1) rest)

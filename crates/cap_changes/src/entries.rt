@@ -49,6 +49,7 @@ impl<'a, C: Entry> Entries<'a, C> {
 
     /// How many are left.
     #[inline(always)]
+    #[tactic(auto, using(crate::proofs::StoredEntries::as_many))]
     pub fn len(&self) -> usize
         ensures { result ≡ length self.now }
     {
@@ -57,6 +58,7 @@ impl<'a, C: Entry> Entries<'a, C> {
 
     /// Whether none is left.
     #[inline(always)]
+    #[tactic(auto, using(crate::proofs::StoredEntries::as_many))]
     pub fn is_empty(&self) -> bool
         ensures { result ≡ (length self.now == 0) }
     {
@@ -90,6 +92,7 @@ impl<'a, C: Entry> Entries<'a, C> {
 }
 
 // Where the entry so many places on begins, by where each ends.
+#[tactic(auto, using(crate::proofs::StoredEntries::start_behind))]
 pub(crate) fn start_at(start: usize, ends: &[usize], place: usize) -> usize
     requires { place < length ends.now }
     ensures { result ≡ start_of start ends.now place }

@@ -265,6 +265,7 @@ fn judge<'a, C: Entry, A: AllocHandle>(
 }
 
 // Writes any indirect flag but zero as one, of the changes that end at these places.
+#[tactic(auto, using(crate::proofs::ChangeLoops::next_flag))]
 fn write_flags(bytes: &mut [u8], start: usize, ends: &[usize])
     requires { HaveFlags (length bytes.old) start ends.now }
     ensures { bytes.new ≡ with_flags bytes.old start ends.now }

@@ -46,6 +46,7 @@ impl<'a, A: AllocHandle> Model for RecordRef<'a, A> {
 
 impl<'a, A: AllocHandle> RecordRef<'a, A> {
     /// A record without fields.
+    #[tactic(auto, using(crate::proofs::StoredRecord::of_none))]
     pub fn empty() -> Self
         ensures { result ≡ [] }
     {
@@ -148,6 +149,7 @@ impl<'a, A: AllocHandle> RecordRef<'a, A> {
     }
 
     /// The value of the column so many places on, none where it is undefined or outside the record.
+    #[tactic(auto, using(crate::proofs::LeftLemmas::none_left, crate::proofs::LeftLemmas::next_at, crate::proofs::LeftLemmas::taken, std::proofs::lemmas::Option::slice_get_past))]
     pub fn get(self, place: usize) -> Option<ValueRef<'a>>
         ensures value { field_of result ≡ option_flatten (slice_get self.entry place) }
         ensures fits { IfSome (field_of {A = A} result) IsValue }
@@ -169,6 +171,7 @@ impl<'a, A: AllocHandle> RecordRef<'a, A> {
     }
 
     /// How many fields are left, undefined ones among them.
+    #[tactic(auto, using(crate::proofs::LeftLemmas::none_left, crate::proofs::LeftLemmas::taken, crate::proofs::LeftLemmas::whole_few))]
     pub fn width(&self) -> usize
         ensures { result ≡ length self.now }
     {

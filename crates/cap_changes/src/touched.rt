@@ -95,6 +95,7 @@ pub(crate) fn push_change<A: AllocHandle>(
 }
 
 // Appends a record in which every field is defined.
+#[tactic(auto, using(crate::proofs::TouchedLemmas::row_is_record))]
 fn push_row<A: AllocHandle>(out: &mut Vec<u8, A>, row: &Row<A>) -> Result<(), OutOfMemory>
     ensures bytes { OnOk result
         (out.new.items ≡ out.old.items ++ record_bytes (touched.full_record row.now)) }

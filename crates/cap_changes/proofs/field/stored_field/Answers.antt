@@ -1,4 +1,4 @@
-use Rattle.cap_changes.proofs.StoredField.{ok_behind, defined_at, undefined_at}
+use Rattle.cap_changes.proofs.StoredRecord.{ok_behind, defined_at, undefined_at}
 use Rattle.cap_changes.proofs.field.stored_field.Goals as goal
 
 pub stored_value-requires : goal.stored_value-requires

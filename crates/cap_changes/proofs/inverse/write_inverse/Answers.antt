@@ -1,6 +1,6 @@
 use Rattle.std.proofs.Common.{refl, ap, sym, ◌∙◌}
 use Rattle.cap_changes.specs.ChangeRef.{change_of}
-use Rattle.cap_changes.proofs.InverseBytes.{records_fit}
+use Rattle.cap_changes.proofs.GroupLemmas.{records_fit}
 use Rattle.cap_changes.proofs.inverse.write_inverse.Goals as goal
 
 pub copy_from_slice-requires : goal.copy_from_slice-requires

@@ -1,6 +1,6 @@
 use Rattle.std.proofs.Common.{List, ℕ, ap, arith, length, take, drop, ◌++◌, ◌∙◌, ◌+◌}
 use Rattle.std.proofs.lemmas.List.{drop-drop}
-use Rattle.cap_changes.proofs.InverseBytes.{ends_within, one_more}
+use Rattle.cap_changes.proofs.GroupLemmas.{ends_within, one_more}
 use Rattle.cap_changes.proofs.inverse.write_inverses.Goals as goal
 
 pub slice_bounds-write_inverse-end : goal.slice_bounds-write_inverse-end

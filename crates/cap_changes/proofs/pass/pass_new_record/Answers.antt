@@ -1,7 +1,7 @@
 use Rattle.std.proofs.Common.{◌+◌, false, drop, get_or, arith}
 use Rattle.std.proofs.lemmas.Result.{err_from_is_err_and}
 use Rattle.cap_changes.specs.FieldReading.{field_of}
-use Rattle.cap_changes.proofs.PassLemmas.{old_has_field, old_left, new_goes_on, new_fails, new_ends, flags-cons, flags-past}
+use Rattle.cap_changes.proofs.PassLemmas.{old_has_field, old_left, pass_goes_on, pass_fails, new_ends, flags-cons, flags-past}
 use Rattle.cap_changes.proofs.pass.pass_new_record.Goals as goal
 
 pub stored_field-requires : goal.stored_field-requires
@@ -15,8 +15,7 @@ returns-in_err-after-clause-reads g c =
     let parts = flags-cons c.args.flags.now c.loop-key.key-index (omega (arith, c.loop-key-test.true)) in
     let step = old_left g.row.A.Denot c.args.total (drop c.loop-key.key-index c.args.flags.now) (drop (c.loop-key.key-index + 1) c.args.flags.now) (get_or c.args.flags.now c.loop-key.key-index false) c.loop-key.field.now (field_of c.stored_field.result.0) c.stored_field.result.1.now
     parts c.loop-key.invariant.low c.loop-key.invariant.old c.stored_field.ensures in
-    rw (p.1, p.2) (new_fails g.row.A.Denot c.args.total (drop c.loop-key.key-index c.args.flags.now) (drop (c.loop-key.key-index + 1) c.args.flags.now) (get_or c.args.flags.now c.loop-key.key-index false) c.loop-key.field.now c.stored_field.result.1.now c.loop-key.rest.now
-    (field_of c.stored_field.result.0) c.in_err-after.field-0.0 _ parts step (rw c.requirement_beside.ensures at c.in_err-after.ensures.reads) c.loop-key.invariant.read)
+    rw (p.1, p.2) (pass_fails g.row.A.Denot c.args.total _ _ _ c.loop-key.rest.now c.in_err-after.field-0.0 _ step.asked (rw c.requirement_beside.ensures at c.in_err-after.ensures.reads) c.loop-key.invariant.read)
 
 pub loop-key-preserved : goal.loop-key-preserved
 loop-key-preserved g c =
@@ -26,8 +25,7 @@ loop-key-preserved g c =
     record {
       low = step.low;
       old = step.left;
-      read = new_goes_on g.row.A.Denot c.args.total (drop c.loop-key.key-index c.args.flags.now) (drop (c.loop-key.key-index + 1) c.args.flags.now) (get_or c.args.flags.now c.loop-key.key-index false) c.loop-key.field.now c.stored_field.result.1.now c.loop-key.rest.now c.in_ok-after.after.now
-          (field_of c.stored_field.result.0) _ _ parts step (rw c.requirement_beside.ensures at c.in_ok-after.ensures.reads) c.loop-key.invariant.read;
+      read = pass_goes_on g.row.A.Denot c.args.total _ _ _ c.loop-key.rest.now c.in_ok-after.after.now _ _ step.asked (rw c.requirement_beside.ensures at c.in_ok-after.ensures.reads) c.loop-key.invariant.read;
       behind = omega (arith, c.in_ok-after.ensures.behind, c.loop-key.invariant.behind);
     }
 

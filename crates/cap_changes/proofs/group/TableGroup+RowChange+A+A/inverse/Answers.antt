@@ -8,7 +8,7 @@ use Rattle.cap_changes.specs.HasValues.{HasValues}
 use Rattle.cap_changes.specs.Invert.{inverse_of}
 use Rattle.cap_changes.specs.Made.{group_of}
 use Rattle.cap_changes.specs.declared.row_change.RowChange.{RowChange}
-use Rattle.cap_changes.proofs.InverseBytes.{inverse_kept}
+use Rattle.cap_changes.proofs.GroupLemmas.{inverse_kept}
 use Rattle.cap_changes.proofs.StoredEntries.{spelled}
 use Rattle.cap_changes.proofs.group.TableGroup+RowChange+A+A.inverse.Goals as goal
 

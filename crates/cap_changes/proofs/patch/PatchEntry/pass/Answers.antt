@@ -13,4 +13,4 @@ pub returns : goal.returns
 returns g c =
     let p = passes (patches {A = g.row.A.Denot}) (λ rest. rest.now) c.pass_record.result c.args.total c.args.flags.now c.args.operation _ c.args.given.now c.in_ok-first.first.now _ (are_low c.args.given.now (λ i. omega (arith, c.type_inv.given i)))
     refl c.in_ok-first.ensures.reads (rw c.patch_kind.ensures at c.pass_record.ensures.reads) in
-    record { reads = p.reads; entry = p.entry }
+    record { reads = p.0; entry = p.1 }

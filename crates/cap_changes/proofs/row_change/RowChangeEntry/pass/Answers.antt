@@ -21,10 +21,10 @@ pub returns-in-Insert : goal.returns-in-Insert
 returns-in-Insert g c =
     let p = passes (changes {A = g.row.A.Denot}) (λ rest. rest.now) c.pass_record.result c.args.total c.args.flags.now c.args.operation _ c.args.given.now c.in_ok-first.first.now _ (are_low c.args.given.now (λ i. omega (arith, c.type_inv.given i)))
     (full_form c.args.operation c.in-Insert.is) c.in_ok-first.ensures.reads c.pass_record.ensures.reads in
-    record { reads = p.reads; entry = p.entry }
+    record { reads = p.0; entry = p.1 }
 
 pub returns-in_ok-new-in-Update : goal.returns-in_ok-new-in-Update
 returns-in_ok-new-in-Update g c =
     let p = passes (changes {A = g.row.A.Denot}) (λ rest. rest.now) c.pass_new_record.result c.args.total c.args.flags.now c.args.operation both c.args.given.now c.in_ok-first.first.now _ (are_low c.args.given.now (λ i. omega (arith, c.type_inv.given i)))
     (ap change_form c.in-Update.is) c.in_ok-first.ensures.reads (rw (new_behind g.row.A.Denot c.args.total c.args.flags.now c.in_ok-first.first.now c.in_ok-new-in-Update.new.now c.in_ok-new-in-Update.ensures.reads) c.pass_new_record.ensures.reads) in
-    record { reads = p.reads; entry = p.entry }
+    record { reads = p.0; entry = p.1 }
