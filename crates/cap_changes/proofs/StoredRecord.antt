@@ -19,6 +19,7 @@ use Rattle.std.proofs.Math.Seq.{take-append_seam}
 use Rattle.cap_field.specs.declared.fault.BlobFault.{BlobFault}
 use Rattle.cap_field.proofs.Spelled.{AreLow}
 use Rattle.cap_changes.proofs.Spelled.{field_spelled}
+use Rattle.cap_field.specs.Reading.{◌>>=◌}
 use Rattle.cap_field.specs.FieldReading.{value_at}
 use Rattle.cap_field.specs.FieldReading as values
 
@@ -216,15 +217,10 @@ module _ (A : Type 0) where
 module _ (A : Type 0) where
   -- ---- of bytes that are not empty
 
-  pub ok_behind : (bytes : List ℕ) → 1 ≤ length bytes → get_or bytes 0 0 ≢ 0 → IsOk (field_at {A = A} 0 Any bytes) → IsOk (value_at {A = A} 0 bytes)
+  pub defined_at : (bytes : List ℕ) → 1 ≤ length bytes → get_or bytes 0 0 ≢ 0 → IsOk (field_at {A = A} 0 Any bytes) → field_at {A = A} 0 Any bytes ≡ value_at 0 bytes >>= (λ v. Ok (Some v.0, v.1))
   unfolding field_at content_at values.content_at value_at
-  ok_behind [] long some ok = absurd (omega arith)
-  ok_behind (kind ∷ rest) long some ok = grind arith
-
-  pub defined_at : (bytes : List ℕ) (value : Value A) (rest : List ℕ) → 1 ≤ length bytes → get_or bytes 0 0 ≢ 0 → IsOk (field_at {A = A} 0 Any bytes) → value_at 0 bytes ≡ Ok (value, rest) → field_at 0 Any bytes ≡ Ok (Some value, rest)
-  unfolding field_at content_at values.content_at value_at
-  defined_at [] value rest long some ok read = absurd (omega arith)
-  defined_at (kind ∷ behind) value rest long some ok read = grind arith
+  defined_at [] long some ok = absurd (omega arith)
+  defined_at (kind ∷ rest) long some ok = grind arith
 
   pub undefined_at : (bytes : List ℕ) → 1 ≤ length bytes → get_or bytes 0 0 ≡ 0 → field_at {A = A} 0 Any bytes ≡ Ok (None, take (length bytes - 1) (drop 1 bytes))
   unfolding field_at content_at

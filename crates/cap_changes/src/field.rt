@@ -118,7 +118,7 @@ pub fn take_field<'a, A: AllocHandle>(
 
 /// The first field of bytes that begin with one, and the bytes behind it. Nothing is validated.
 #[inline(always)]
-#[tactic(auto, unfolding(crate::specs::FieldReading::field_at))]
+#[tactic(auto, unfolding(crate::specs::FieldReading::field_at), using(crate::proofs::StoredRecord::defined_at, crate::proofs::StoredRecord::undefined_at))]
 pub(crate) fn stored_field<'a, A: AllocHandle>(bytes: &'a [u8]) -> (Option<ValueRef<'a>>, &'a [u8])
     requires { IsOk (field_at {A = A} 0 Any bytes.now) }
     ensures { field_at {A = A} 0 Any bytes.now ≡ Ok (field_of result.0, result.1.now) }

@@ -28,6 +28,7 @@ impl<A: AllocHandle> Model for FieldRecord<A> {
 
 impl<A: AllocHandle> FieldRecord<A> {
     /// The record of the key fields of `old`, and of the other fields of `new`.
+    #[tactic(auto, using(crate::proofs::StoredRecord::stored, crate::proofs::ValueLemmas::update_each))]
     pub fn of_update(
         alloc: A,
         flags: &[bool],

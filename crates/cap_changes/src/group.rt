@@ -140,6 +140,7 @@ impl<C: Entry, A: AllocHandle> TableGroup<C, A> {
     }
 
     /// The changes, in order.
+    #[tactic(auto, using(crate::proofs::StoredEntries::all_fit, crate::proofs::StoredEntries::all_values))]
     pub fn changes(&self) -> Entries<'_, C>
         ensures changes { result ≡ self.now.changes }
         ensures fit { AllFit C.fits_in self.now.schema self.now.changes }
@@ -153,6 +154,7 @@ impl<C: Entry, A: AllocHandle> TableGroup<C, A> {
     }
 
     /// The bytes of the changes, one after the other.
+    #[tactic(auto, using(crate::proofs::StoredEntries::spelled))]
     pub fn as_bytes(&self) -> &[u8]
         ensures { result.now ≡ flat_map C.bytes_of self.now.changes }
     {
@@ -173,6 +175,7 @@ impl<C: Entry, A: AllocHandle> TableGroup<C, A> {
     }
 
     /// A law: the schema has a key column, and each change fits it. Does nothing at run time.
+    #[tactic(auto, using(crate::proofs::StoredEntries::all_fit))]
     pub fn fits(&self)
         ensures { IsFitting C.fits_in self.now }
     {

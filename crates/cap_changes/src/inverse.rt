@@ -74,6 +74,7 @@ fn write_inverses<A: AllocHandle>(
 
 // Writes the inverse of a change over its bytes. The records of an update are made in a place of their own.
 #[inline(always)]
+#[tactic(auto, using(crate::proofs::GroupLemmas::records_fit))]
 fn write_inverse<A: AllocHandle>(
     records: &mut Vec<u8, A>,
     flags: &[bool],

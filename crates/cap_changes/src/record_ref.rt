@@ -163,6 +163,7 @@ impl<'a, A: AllocHandle> RecordRef<'a, A> {
 
     /// The values of a record in which every field is defined, by the bytes that are there.
     #[inline(always)]
+    #[tactic(auto, using(crate::proofs::WholeLemmas::whole_view))]
     pub fn as_values(&self) -> RowFields<'a, A>
         requires { IsTrue (list_all is_some self.now) }
         ensures { self.now ≡ full_record result }
