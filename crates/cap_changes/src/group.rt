@@ -312,6 +312,7 @@ impl<A: AllocHandle> TableGroup<RowChange<A>, A> {
 
 impl<A: AllocHandle> TableGroup<RowChange<A>, A> {
     /// The inverse of each change, in the same order.
+    #[tactic(auto, using(crate::proofs::StoredEntries::spelled))]
     pub(crate) fn inverse(&self, alloc: A) -> Result<Self, OutOfMemory>
         ensures { IfOk result (λ inverse. inverse ≡ made.group_of inverse_of self.now) }
     {

@@ -116,6 +116,7 @@ impl<'a, A: AllocHandle> RecordRef<'a, A> {
 
     // The next field, and its bytes.
     #[inline(always)]
+    #[tactic(auto, using(crate::proofs::StoredRecord::none_first, crate::proofs::StoredRecord::is_read, crate::proofs::StoredRecord::other_first, crate::proofs::StoredRecord::whole_left, crate::proofs::StoredRecord::first_flag))]
     fn next_parts(&mut self) -> Option<(Option<ValueRef<'a>>, &'a [u8])>
         ensures { MatchOption result ((self.old ≡ []) × (self.new ≡ [])) (λ parts.
             IsFirstField self.old (field_of parts.0) parts.1.now self.new) }

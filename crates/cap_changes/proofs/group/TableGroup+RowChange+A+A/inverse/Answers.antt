@@ -1,21 +1,12 @@
 use Rattle.std.proofs.Common.{◌∙◌, map, ap, sym}
 use Rattle.std.specs.List.{flat_map}
 use Rattle.cap_changes.specs.ChangeBytes.{change_bytes}
-use Rattle.cap_changes.specs.ChangeReading.{stored_change}
 use Rattle.cap_changes.specs.Entries.{TableEntries}
-use Rattle.cap_changes.specs.Fits.{change_fits}
-use Rattle.cap_changes.specs.HasValues.{HasValues}
 use Rattle.cap_changes.specs.Invert.{inverse_of}
 use Rattle.cap_changes.specs.Made.{group_of}
 use Rattle.cap_changes.specs.declared.row_change.RowChange.{RowChange}
 use Rattle.cap_changes.proofs.GroupLemmas.{inverse_kept}
-use Rattle.cap_changes.proofs.StoredEntries.{spelled}
 use Rattle.cap_changes.proofs.group.TableGroup+RowChange+A+A.inverse.Goals as goal
-
-pub inverse_bytes-requires-clause-spelled : goal.inverse_bytes-requires-clause-spelled
-inverse_bytes-requires-clause-spelled g c =
-    c.as_slice.ensures.value ∙ spelled (change_fits {A = g.row.A.Denot}) HasValues change_bytes stored_change c.self.inside.schema c.self.inside.bytes.items c.self.inside.ends.items c.self.invariant.each c.self.invariant.end
-    ∙ ap (λ (t : TableEntries (RowChange g.row.A.Denot)). flat_map change_bytes t.changes) c.self.view_is ∙ ap (flat_map change_bytes) (sym c.changes.ensures.changes)
 
 pub invariant_of-result : goal.invariant_of-result
 invariant_of-result g c =
