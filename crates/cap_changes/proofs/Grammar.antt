@@ -196,10 +196,6 @@ Begins spells op bytes x = (front : List ℕ) × (bytes ≡ front ++ x.1) × spe
 written_back : (op op' : ℕ) (indirect : Bool) (records front : List ℕ) → SpellsOperation op indirect records (op' ∷ front) → (normal (op' ∷ front) ≡ op ∷ flag_byte indirect ∷ records) × (1 ≤ length front)
 written_back op op' indirect records front spelled = grind arith
 
--- the parts of an entry
-abbrev pub Parts : Operation → Bool → List ℕ → List ℕ → Type 0
-Parts operation indirect records bytes = bytes ≡ operation_byte operation ∷ flag_byte indirect ∷ records
-
 same_operation : (a b : Operation) → operation_byte a ≡ operation_byte b → a ≡ b
 same_operation a b same = grind arith
 
@@ -320,7 +316,7 @@ module _ {A C : Type 0} {fits : List Bool → C → Bool} {values : C → Type 0
   -- ---- taken apart
 
   -- the change of these bytes, whose operation is known
-  pub records_read : (flags : List Bool) (change : C) (operation known : Operation) (indirect : Bool) (records bytes : List ℕ) → IsEntry fits values bytes_of flags change bytes → Parts operation indirect records bytes → operation ≡ known
+  pub records_read : (flags : List Bool) (change : C) (operation known : Operation) (indirect : Bool) (records bytes : List ℕ) → IsEntry fits values bytes_of flags change bytes → bytes ≡ operation_byte operation ∷ flag_byte indirect ∷ records → operation ≡ known
       → IsRead A (g.form known) flags (g.make known indirect) change records
   records_read flags change operation known indirect records bytes is parts same =
       by_records (λ c. IsEntry fits values bytes_of flags c bytes → IsRead A (g.form known) flags (g.make known indirect) c records)
@@ -347,10 +343,7 @@ module _ {A : Type 0} where
   change_of operations.Update indirect records = changed.Update indirect records.0 records.1
   change_of operations.Delete indirect old = changed.Delete indirect old
 
-  abbrev pub HasRecords : (operation : Operation) → Bool → (form : Form) → Records A form → RowChange A → Type 0
-  HasRecords operation indirect form records change = Has A change_fits HasValues change_bytes SpellsRecords operation indirect form records change
-
-  pub change_has : (operation : Operation) (indirect : Bool) (records : Records A (change_form operation)) → HasRecords operation indirect (change_form operation) records (change_of operation indirect records)
+  pub change_has : (operation : Operation) (indirect : Bool) (records : Records A (change_form operation)) → Has A change_fits HasValues change_bytes SpellsRecords operation indirect (change_form operation) records (change_of operation indirect records)
   change_has operations.Insert indirect new = record { fit = λ flags. refl; valued = λ v. v; have_values = λ v. v; bytes = refl; spelled = λ given s. s; spelling = λ given s. s }
   change_has operations.Update indirect records = record { fit = λ flags. refl; valued = λ v. v; have_values = λ v. v; bytes = refl; spelled = λ given s. s; spelling = λ given s. s }
   change_has operations.Delete indirect old = record { fit = λ flags. refl; valued = λ v. v; have_values = λ v. v; bytes = refl; spelled = λ given s. s; spelling = λ given s. s }

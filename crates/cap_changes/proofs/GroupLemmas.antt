@@ -37,11 +37,6 @@ use Rattle.cap_changes.proofs.LeftLemmas.{first_fits, others_fit}
 use Rattle.cap_changes.proofs.StoredEntries.{part_before, part_behind}
 
 module _ {A : Type 0} where
-  pub inverse_again : (flags : List Bool) (change : RowChange A) → IsTrue (change_fits flags change) → HasValues change
-      → (stored_change flags (change_bytes (inverse_of flags change)) ≡ inverse_of flags change)
-      × IsEntry {C = RowChange A} change_fits HasValues change_bytes flags (stored_change flags (change_bytes (inverse_of flags change))) (change_bytes (inverse_of flags change))
-  inverse_again flags change fits values = change_entry flags (inverse_of flags change) (change_bytes (inverse_of flags change)) (inverse_of-fits flags change fits) (inverse_values flags change values) refl
-
   pub patch_again : (flags : List Bool) (change : RowChange A) → IsTrue (change_fits flags change) → HasValues change
       → (stored_patch flags (patch_bytes (patch_of flags change)) ≡ patch_of flags change)
       × IsEntry {C = Patch A} patch_fits PatchHasValues patch_bytes flags (stored_patch flags (patch_bytes (patch_of flags change))) (patch_bytes (patch_of flags change))
@@ -130,7 +125,7 @@ module _ {A : Type 0} where
       let change : RowChange A = stored_change flags piece in
       let written = change_bytes (inverse_of flags change) in
       let behind = inverses flags (entries_of stored_change flags bytes end ends) in
-      let again = inverse_again flags change are.2.fits are.2.values in
+      let again = change_entry flags (inverse_of flags change) written (inverse_of-fits flags change are.2.fits) (inverse_values flags change are.2.values) refl in
       let count : length written ≡ end - start = as_many flags change are.2.fits ∙ ap length (sym are.2.spelled) ∙ length-take-le (end - start) (drop start bytes) (omega (arith, length-drop start bytes, are.1)) in
       let grown : length (front ++ written) ≡ end = omega (arith, length-append front written, long, count, are.0) in
       let parts : new ≡ (front ++ written) ++ behind = is ∙ sym (append_assoc front written behind) in

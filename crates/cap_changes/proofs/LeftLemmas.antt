@@ -4,7 +4,7 @@ use Rattle.std.proofs.lemmas.List.{drop-drop, drop_more}
 use Rattle.std.proofs.lemmas.List.Elements.{All-head, All-rest}
 use Rattle.cap_changes.specs.Entries.{AllFit}
 use Rattle.cap_changes.specs.FieldRecord.{RecordFields}
-use Rattle.cap_changes.specs.Record.{stored_fields, IsStored, BeginsWithField}
+use Rattle.cap_changes.specs.Record.{stored_fields, IsStored}
 use Rattle.cap_changes.proofs.StoredRecord.{few_fields}
 
 -- one more was taken
@@ -35,9 +35,6 @@ module _ {A : Type 0} where
   whole_few keys bytes fields none is view =
       subst (λ (l : RecordFields A). length l ≤ length bytes) (ap (λ (k : Option (List Bool)). stored_fields k bytes) (sym none) ∙ view)
       (few_fields bytes (subst (λ (k : Option (List Bool)). IsStored A k bytes) none is))
-
-  pub field_taken : (fields left others : RecordFields A) (passed : ℕ) (bytes : List ℕ) → left ≡ drop passed fields → BeginsWithField left bytes others → Taken fields others passed
-  field_taken fields left others passed bytes is (field, parts, spelled, fits) = taken fields passed field others (sym is ∙ parts)
 
 module _ {X : Type 0} (fits : List Bool → X → Bool) where
   pub first_fits : (flags flags' : List Bool) (xs others : List X) (x : X) → flags' ≡ flags → xs ≡ x ∷ others → AllFit fits flags xs → IsTrue (fits flags' x)

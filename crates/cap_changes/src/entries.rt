@@ -80,6 +80,7 @@ impl<'a, C: Entry> Entries<'a, C> {
     }
 
     /// The one so many places on, none behind the last.
+    #[tactic(auto, using(crate::proofs::StoredEntries::lent_at))]
     pub fn get(&self, place: usize) -> Option<EntryRef<'a, C>>
         ensures { result ≡ slice_get self.now place }
     {

@@ -1,5 +1,4 @@
-use Rattle.std.proofs.Common.{◌∙◌, Some, List, ℕ, sym, ap, slice_get, get_or, arith}
-use Rattle.cap_changes.specs.Stored.{part}
+use Rattle.std.proofs.Common.{◌∙◌, List, sym, ap, slice_get, arith}
 use Rattle.cap_changes.proofs.StoredEntries.{lent_at, none_at}
 use Rattle.cap_changes.proofs.entries.Entries.get.Goals as goal
 
@@ -18,7 +17,3 @@ slice_bounds-of-end g c = let l = lent_at g.C.Entry.fits_in g.C.Entry.has_values
 pub of-requires : goal.of-requires
 of-requires g c = let l = lent_at g.C.Entry.fits_in g.C.Entry.has_values g.C.Entry.bytes_of g.C.Entry.stored c.self.inside.flags.now c.self.inside.bytes.now c.self.inside.start c.self.inside.ends.now c.args.place c.self.invariant (omega (arith, c.if-place-self.false)) in
     rw c.start_at-start.ensures l.is
-
-pub returns : goal.returns
-returns g c = let l = lent_at g.C.Entry.fits_in g.C.Entry.has_values g.C.Entry.bytes_of g.C.Entry.stored c.self.inside.flags.now c.self.inside.bytes.now c.self.inside.start c.self.inside.ends.now c.args.place c.self.invariant (omega (arith, c.if-place-self.false)) in
-    ap Some (c.of.ensures ∙ ap (λ (n : ℕ). g.C.Entry.stored c.self.inside.flags.now (part n (get_or c.self.inside.ends.now c.args.place 0) c.self.inside.bytes.now)) c.start_at-start.ensures) ∙ l.lent ∙ ap (λ (l : List g.row.C.Denot). slice_get l c.args.place) c.self.view_is
