@@ -1,6 +1,6 @@
 -- Whether a change fits the schema of its table (one key flag for each column): exactly the required fields
 -- are defined.
-use Rattle.std.specs.Prelude.{Bool, List, ◌&&◌, IsTrue, All}
+use Rattle.std.specs.Prelude.{Bool, List, ◌&&◌}
 use Rattle.cap_changes.specs.Requirements.{requirements, new_requirements, satisfy}
 use Rattle.cap_changes.specs.declared.row_change.RowChange.{RowChange}
 use Rattle.cap_changes.specs.declared.row_change.RowChange.TheVariants as changed
@@ -21,9 +21,3 @@ module _ {A : Type 0} where
   patch_fits flags (patched.Insert indirect new) = satisfy (requirements record_kinds.Full flags) new
   patch_fits flags (patched.Update indirect new) = satisfy (requirements record_kinds.Keyed flags) new
   patch_fits flags (patched.Delete indirect key) = satisfy (requirements record_kinds.KeyAlone flags) key
-
-  abbrev pub AllChangesFit : List Bool → List (RowChange A) → Type 0
-  AllChangesFit flags changes = All (λ change. IsTrue (change_fits flags change)) changes
-
-  abbrev pub AllPatchesFit : List Bool → List (Patch A) → Type 0
-  AllPatchesFit flags patches = All (λ patch. IsTrue (patch_fits flags patch)) patches
