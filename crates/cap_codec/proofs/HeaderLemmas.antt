@@ -1,20 +1,6 @@
 -- The name and the flags of a header that was read.
-use Rattle.std.proofs.Common.{◌≡◌, ℕ, zero, suc, ◌+◌, ◌<◌, ◌≤◌, true, false, nat_lt, ◌&&◌, List, [], ◌∷◌, ◌++◌, length, take, drop, map, get_or, Some, Ok, if◌then◌else◌, refl, sym, ap, ◌∙◌, arith, add-one, length-take, length-append, drop-drop, drop-cons, take_at, drop_at, take-append-drop}
-use Rattle.std.specs.Prelude.{position}
-use Rattle.std.specs.List.{list_any, position_or_len}
-use Rattle.std.specs.Str.{is_utf8}
-use Rattle.std.proofs.lemmas.Bool.{eqb-true}
-use Rattle.std.proofs.lemmas.Bool.Decides.{nat_tests}
-use Rattle.std.proofs.lemmas.List.{length-map, get_or-take, length-take-le}
-use Rattle.std.proofs.lemmas.List.Folds.{list_any_none}
+use Rattle.cap_codec.proofs.Common.{◌≡◌, ℕ, zero, suc, ◌+◌, ◌<◌, ◌≤◌, true, false, nat_lt, ◌&&◌, List, [], ◌∷◌, ◌++◌, length, take, drop, map, get_or, position, Some, Ok, if◌then◌else◌, refl, sym, ap, ◌∙◌, arith, add-one, length-take, length-append, drop-drop, drop-cons, take_at, drop_at, take-append-drop, list_any, position_or_len, is_utf8, eqb-true, nat_tests, length-map, get_or-take, length-take-le, list_any_none, passes_at_first, is_name, has_key, is_schema, BadName, fault, place, is_zero, name_at, is_set}
 use Rattle.std.proofs.lemmas.List.Quantifiers.{position-Some}
-use Rattle.std.proofs.lemmas.List.Sums.{passes_at_first}
-use Rattle.cap_value.specs.Bytes.{is_name}
-use Rattle.cap_row.specs.Schema.{has_key, is_schema, schema_of}
-use Rattle.cap_field.specs.declared.fault.FaultKind.TheVariants.{BadName}
-use Rattle.cap_field.specs.Reading.{fault, place}
-use Rattle.cap_codec.specs.HeaderReading.{is_zero, name_at}
-use Rattle.cap_changes.specs.ChangeReading.{is_set}
 
 -- ---- the first zero byte
 
@@ -70,7 +56,3 @@ key_is_set (flag ∷ flags) = rw (key_is_set flags) refl
 
 pub is_schema_of : (flags : List ℕ) → 1 ≤ length flags → length flags ≤ 2000 → is_schema (map is_set flags) ≡ true
 is_schema_of flags some fits = let long = length-map flags is_set in grind (arith, nat_tests, long)
-
--- they make a schema
-pub schema_of_flags : (flags : List ℕ) → 1 ≤ length flags → length flags ≤ 2000 → schema_of (map is_set flags) ≡ Ok (map is_set flags)
-schema_of_flags flags some fits = let fit = is_schema_of flags some fits in grind (arith, fit)

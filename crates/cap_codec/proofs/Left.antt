@@ -1,14 +1,5 @@
 -- Reading the groups of a blob one after the other, as the loop does: what was read, and what is left.
-use Rattle.std.proofs.Common.{◌≡◌, ℕ, zero, suc, ◌<◌, ◌≤◌, ◌==◌, true, false, List, [], ◌∷◌, ◌++◌, length, get_or, Result, Ok, Err, refl, sym, ap, ◌∙◌, append_assoc, arith}
-use Rattle.std.proofs.lemmas.List.{append-nil}
-use Rattle.cap_field.specs.declared.fault.BlobFault.{BlobFault}
-use Rattle.cap_value.specs.declared.memory.Fault.{Fault}
-use Rattle.cap_value.specs.declared.memory.Fault.TheVariants.{Refused, OutOfMemory}
-use Rattle.cap_value.specs.Memory.{RefusesUnlessMemory}
-use Rattle.cap_field.specs.Reading.{◌>>=◌, place}
-use Rattle.cap_codec.specs.declared.read.Contents.TheVariants.{Changes, Patches}
-use Rattle.cap_codec.specs.BlobReading.{wrong_kind, group_at, patch_group_at, groups_at, blob_at}
-use Rattle.cap_changes.proofs.ChangeLoops.{behind_of, behind-is}
+use Rattle.cap_codec.proofs.Common.{◌≡◌, ℕ, zero, suc, ◌<◌, ◌≤◌, ◌==◌, true, false, List, [], ◌∷◌, ◌++◌, length, get_or, Result, Ok, Err, refl, sym, ap, ◌∙◌, append_assoc, append-nil, arith, BlobFault, Fault, Refused, OutOfMemory, RefusesUnlessMemory, ◌>>=◌, place, Changes, Patches, wrong_kind, group_at, patch_group_at, groups_at, blob_at, behind_of, behind-is}
 
 -- where a step that failed makes all fail
 pub fails_on : {X Y : Type 0} (read : Result X BlobFault) (all : Result Y BlobFault) → ((f : BlobFault) → read ≡ Err f → all ≡ Err f) → (e : Fault BlobFault) → RefusesUnlessMemory e read → RefusesUnlessMemory e all

@@ -1,3 +1,4 @@
+pub mod Common
 pub mod Left
 pub mod HeaderLemmas
 pub mod KeyFlagLemmas

@@ -1,18 +1,10 @@
 -- What was read of a reader's bytes.
-use Rattle.std.proofs.Common.{◌≡◌, ℕ, zero, suc, ◌+◌, ◌<◌, ◌≤◌, inl, inr, refl, arith, List, [], ◌++◌, length, take, Option, IfSome, Result, Ok, Err, ap, subst, ◌∙◌, add-one, append-nil, length-take}
+use Rattle.cap_codec.proofs.Common.{◌≡◌, ℕ, zero, suc, ◌+◌, ◌<◌, ◌≤◌, inl, inr, refl, arith, List, [], ◌++◌, length, take, Option, IfSome, Result, Ok, Err, ap, subst, ◌∙◌, add-one, append-nil, length-take, AnswersUnlessMemory, Fault, Refused, OutOfMemory, BlobFault, Contents, blob_at, lasting, IsBlobOf, ReadsOn, EndsReads, read_fault}
 use Rattle.std.specs.Io.KnownBytes.{Consumes, IsAtEnd, Keeps}
 use Rattle.std.proofs.KnownBytes.{Consumes-nil, Consumes-trans, Consumes-kept, Consumes-whole}
-use Rattle.cap_value.specs.Memory.{AnswersUnlessMemory}
-use Rattle.cap_value.specs.declared.memory.Fault.{Fault}
-use Rattle.cap_value.specs.declared.memory.Fault.TheVariants.{Refused, OutOfMemory}
-use Rattle.cap_field.specs.declared.fault.BlobFault.{BlobFault}
-use Rattle.cap_codec.specs.declared.read.Contents.{Contents}
-use Rattle.cap_codec.specs.BlobReading.{blob_at}
-use Rattle.cap_codec.specs.Pieces.{lasting}
 use Rattle.cap_codec.specs.declared.stream.ReadFault.{ReadFault}
 use Rattle.cap_codec.specs.declared.stream.ReadFault.TheVariants as read
 use Rattle.cap_stream.specs.StreamCalls.{GaveAtMost, ReadsGave}
-use Rattle.cap_codec.specs.Stream.{IsBlobOf, ReadsOn, EndsReads, read_fault}
 use Rattle.cap_codec.proofs.Looking.{err_lasts}
 
 -- ---- the bytes of a reader

@@ -28,6 +28,10 @@ abbrev pub lasting : {X : Type 0} → Result X BlobFault → Result (Unit {0}) B
 lasting (Ok x) = Ok tt
 lasting (Err fault) = if is_cut fault.kind then Ok tt else Err fault
 
+-- the fault alone
+abbrev pub ended : {X : Type 0} → Result X BlobFault → Result (Unit {0}) BlobFault
+ended read = read >>= (λ x. Ok tt)
+
 -- whether the bytes end before what is read does
 abbrev pub ends_early : {X : Type 0} → Result X BlobFault → Bool
 ends_early (Ok x) = false
@@ -48,10 +52,10 @@ module _ {X : Type 0} (one_at : ℕ → List Bool → ℕ → List ℕ → Resul
       then header_at total first.1 >>= (λ header. Ok (header.0.flags, header.1))
       else Err (wrong_kind first.0 (place total bytes))))
 
-  -- The changes of a group of these columns, and the groups behind it, have this lasting fault or none.
+  -- The changes of a group of these columns, and the groups behind it, have this fault or none.
   abbrev pub GoesOn : ℕ → List Bool → List ℕ → Result (Unit {0}) BlobFault → Type 0
   GoesOn total flags rest answer = (m n : ℕ) × (length rest ≤ m) × (length rest ≤ n)
-      × (lasting (changes_at one_at m total flags rest
+      × (ended (changes_at one_at m total flags rest
       >>= (λ changes. groups_at (entries_at one_at) kind n total changes.1)) ≡ answer)
 
 module _ (A : Type 0) where
@@ -69,12 +73,12 @@ module _ (A : Type 0) where
   abbrev pub part_as : Kind → ℕ → List Bool → List ℕ → Result (List Bool × List ℕ) BlobFault
   part_as kind total flags bytes = part_at (one_as kind) (kind_byte kind) total flags bytes
 
-  -- Whatever follows these bytes, the lasting fault is that of the rest from here on, in a group of these
-  -- columns.
-  unfoldable pub Leads : Kind → List ℕ → List Bool → ℕ → Type 0
-  Leads kind bytes flags at = (more : List ℕ) →
-      GoesOn (one_as kind) (kind_byte kind) (length (bytes ++ more)) flags (drop at (bytes ++ more))
-      (lasting (blob_at {A = A} (bytes ++ more)))
+  -- Whatever follows these bytes, their fault is that of the rest of them and of what follows, in a group of
+  -- these columns.
+  unfoldable pub Leads : Kind → List ℕ → List ℕ → List Bool → Type 0
+  Leads kind bytes rest flags = (more : List ℕ) →
+      GoesOn (one_as kind) (kind_byte kind) (length (bytes ++ more)) flags (rest ++ more)
+      (ended (blob_at {A = A} (bytes ++ more)))
 
   -- Where the bytes end before the next change or header does, so do they with fewer than this many more.
   unfoldable pub Lacks : ℕ → List ℕ → ℕ → Type 0
@@ -96,7 +100,7 @@ module _ (A : Type 0) where
 module _ {A : Type 0} where
   -- the bytes from the position on are still to be scanned
   abbrev pub IsPlace : List ℕ → ScanPosition A → Type 0
-  IsPlace bytes place = (place.at ≤ length bytes) × Leads A place.kind bytes place.flags.items place.at
+  IsPlace bytes place = (place.at ≤ length bytes) × Leads A place.kind bytes (drop place.at bytes) place.flags.items
 
   -- the same, and none of them need be scanned before they are due
   abbrev pub IsScanned : List ℕ → ScanPosition A → Type 0

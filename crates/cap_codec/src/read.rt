@@ -70,6 +70,7 @@ fn take_blob<A: AllocHandle>(alloc: A, bytes: &[u8]) -> Result<Contents<A>, Faul
 
 /// Decodes a whole blob, a changeset or a patchset, written by this program or another. Refused with the
 /// first fault from left to right where it is malformed.
+#[tactic(auto, using(crate::proofs::BlobAgain::blob_again))]
 pub fn read_blob<A: AllocHandle>(alloc: A, bytes: &[u8]) -> Result<Contents<A>, Fault<BlobFault>>
     // The bytes, all of them, spell what is read.
     ensures spelled { IfOk result (λ blob. Spells blob bytes.now) }

@@ -110,7 +110,7 @@ fn scan_from<A: AllocHandle>(
 
 /// Scans what is complete of these bytes, from a position on, once more is due. Refused with the fault that
 /// no further bytes can mend.
-#[tactic(auto, using(crate::proofs::Looking::first_leads), unfolding(crate::specs::BlobReading::blob_at))]
+#[tactic(auto, using(crate::proofs::Looking::first_leads, crate::proofs::Looking::quiet_now), unfolding(crate::specs::BlobReading::blob_at))]
 pub fn scan<A: AllocHandle>(
     alloc: A,
     bytes: &[u8],

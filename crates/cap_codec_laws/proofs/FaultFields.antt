@@ -1,25 +1,9 @@
 -- Where the reading of a field, a record or a change stops at a fault.
-use Rattle.std.proofs.Common.{◌≡◌, ℕ, zero, suc, ◌+◌, ◌-◌, ◌*◌, ◌≤◌, ◌⊎◌, inl, inr, false, not, nat_lt, ◌==◌, ◌&&◌, ◌||◌, List, [], ◌∷◌, ◌++◌, length, Option, Some, None, Err, refl, sym, subst, append_assoc, ap, arith, append-nil}
+use Rattle.cap_codec.proofs.Common.{◌≡◌, ℕ, zero, suc, ◌+◌, ◌-◌, ◌*◌, ◌≤◌, ◌⊎◌, inl, inr, false, not, nat_lt, ◌==◌, ◌&&◌, ◌||◌, List, [], ◌∷◌, ◌++◌, length, Option, Some, None, Err, refl, sym, subst, append_assoc, ap, arith, append-nil, AllByRecursion, is_utf8, cases_Bool, ltb-true, ltb-false, eqb-true, eqb-false, IsUtf8-nil, BlobFault, BadVarint, BadField, Real, BadText, BadRecord, sized_at, text_at, ◌>>=◌, fault, place, byte_at, varint_from, varint_at, varint_bytes, chosen, varint_again, sized_again, text_again, AreLow, low_front, varint_spelled, sized_spelled, FieldRequirement, allows, content_at, typed_at, field_at, record_at, is_cut}
 use Rattle.std.specs.Int.{w64, from_be_bytes, cast_signed}
-use Rattle.std.specs.List.{AllByRecursion}
-use Rattle.std.specs.Str.{is_utf8}
-use Rattle.std.proofs.lemmas.Bool.{cases_Bool, ltb-true, ltb-false, eqb-true, eqb-false}
-use Rattle.std.proofs.lemmas.Str.{IsUtf8-nil}
 use Rattle.cap_value.specs.declared.value.Value.{Value}
 use Rattle.cap_value.specs.declared.value.Value.TheVariants.{Null, Int, Text, Blob}
-use Rattle.cap_field.specs.declared.fault.BlobFault.{BlobFault}
-use Rattle.cap_field.specs.declared.fault.FaultKind.TheVariants.{BadVarint, BadField, Real, BadText, BadRecord}
-use Rattle.cap_field.specs.FieldReading.{sized_at, text_at}
-use Rattle.cap_field.specs.Reading.{◌>>=◌, fault, place, byte_at, varint_from, varint_at}
-use Rattle.cap_field.specs.Varint.{varint_bytes}
-use Rattle.cap_field.proofs.Binds.{chosen}
-use Rattle.cap_field.proofs.FieldAgain.{varint_again, sized_again, text_again}
-use Rattle.cap_field.proofs.Spelled.{AreLow, low_front, varint_spelled, sized_spelled}
-use Rattle.cap_changes.specs.declared.field_requirement.FieldRequirement.{FieldRequirement}
 use Rattle.cap_changes.specs.declared.field_requirement.FieldRequirement.TheVariants as required
-use Rattle.cap_changes.specs.FieldReading.{allows, content_at, typed_at, field_at}
-use Rattle.cap_changes.specs.RecordReading.{record_at}
-use Rattle.cap_codec.specs.Pieces.{is_cut}
 use Rattle.cap_codec.proofs.Looking.{either}
 use Rattle.cap_codec_laws.proofs.FaultParts.{Reader, Reads, IsWhole, Judged, Part, is_read, at_first, low_both, judged_behind, done, bind, bytes_judged}
 

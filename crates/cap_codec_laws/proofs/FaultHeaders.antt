@@ -1,18 +1,5 @@
 -- Where the reading of a header stops at a fault.
-use Rattle.std.proofs.Common.{◌≡◌, ℕ, zero, suc, ◌+◌, ◌≤◌, ◌⊎◌, inl, inr, false, nat_lt, nat_le, ◌==◌, ◌&&◌, ◌||◌, List, [], ◌∷◌, ◌++◌, length, take, drop, replicate, position, None, refl, sym, subst, ◌∙◌, append_assoc, append-nil, arith, length-append, length-take, take-append-drop, take_at, le-ltb, lt-ltb}
-use Rattle.std.specs.List.{list_any, position_or_len}
-use Rattle.std.specs.Str.{is_utf8}
-use Rattle.std.proofs.lemmas.Bool.{cases_Bool, and_cases, ltb-false, cases_lt, lt-leb, ltb-true, leb-false, eqb-true}
-use Rattle.std.proofs.lemmas.List.Folds.{list_any_none}
-use Rattle.std.proofs.lemmas.List.Sums.{fails_before_first}
-use Rattle.std.proofs.lemmas.List.{nil_from_length, get_or_past, get_or-replicate, length-replicate, length-take-le}
-use Rattle.std.proofs.lemmas.Str.{IsUtf8-from_ascii, is_utf8-from_IsUtf8}
-use Rattle.cap_field.specs.declared.fault.FaultKind.TheVariants.{BadHeader, BadName}
-use Rattle.cap_field.specs.Reading.{varint_at}
-use Rattle.cap_field.proofs.FieldAgain.{bytes_again}
-use Rattle.cap_field.proofs.Spelled.{AreLow, are_low, low_front, bytes_spelled}
-use Rattle.cap_changes.specs.ChangeReading.{is_set}
-use Rattle.cap_codec.specs.HeaderReading.{is_zero, count_at, flags_at, name_at, header_at}
+use Rattle.cap_codec.proofs.Common.{◌≡◌, ℕ, zero, suc, ◌+◌, ◌≤◌, ◌⊎◌, inl, inr, false, nat_lt, nat_le, ◌==◌, ◌&&◌, ◌||◌, List, [], ◌∷◌, ◌++◌, length, take, drop, replicate, position, None, refl, sym, subst, ◌∙◌, append_assoc, append-nil, arith, length-append, length-take, take-append-drop, take_at, le-ltb, lt-ltb, list_any, position_or_len, is_utf8, cases_Bool, and_cases, ltb-false, cases_lt, lt-leb, ltb-true, leb-false, eqb-true, list_any_none, fails_before_first, nil_from_length, get_or_past, get_or-replicate, length-replicate, length-take-le, IsUtf8-from_ascii, is_utf8-from_IsUtf8, BadHeader, BadName, varint_at, bytes_again, AreLow, are_low, low_front, bytes_spelled, is_set, is_zero, count_at, flags_at, name_at, header_at}
 use Rattle.cap_codec.proofs.HeaderLemmas.{zero_at, no_zero_before, name_is}
 use Rattle.cap_codec.proofs.SpelledBlob.{count_spelled}
 use Rattle.cap_codec_laws.proofs.FaultParts.{IsWhole, Judged, Part, part, is_read, at_first, judged_behind, done, bind, bytes_judged}

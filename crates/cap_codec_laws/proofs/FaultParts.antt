@@ -1,14 +1,6 @@
 -- Readers of a part of the bytes: what they read, they read again whatever follows; where they stop at a fault, what is
 -- before it can be completed.
-use Rattle.std.proofs.Common.{◌≡◌, ℕ, inl, inr, Bool, true, false, cond, arith, List, [], ◌∷◌, ◌++◌, Result, Ok, Err, refl, sym, ap, subst, ◌∙◌, append_assoc, append-nil, length, take, drop, take-append-drop, lt-ltb}
-use Rattle.std.proofs.lemmas.Bool.{cases_lt}
-use Rattle.std.proofs.lemmas.List.{length-take-le}
-use Rattle.cap_field.specs.declared.fault.BlobFault.{BlobFault}
-use Rattle.cap_field.specs.declared.fault.FaultKind.{FaultKind}
-use Rattle.cap_field.specs.Reading.{◌>>=◌, fault, place, bytes_at, byte_at}
-use Rattle.cap_field.proofs.FieldAgain.{bytes_again}
-use Rattle.cap_field.proofs.Spelled.{AreLow, low_behind, low_front}
-use Rattle.cap_codec.specs.Pieces.{is_cut}
+use Rattle.cap_codec.proofs.Common.{◌≡◌, ℕ, inl, inr, Bool, true, false, cond, arith, List, [], ◌∷◌, ◌++◌, Result, Ok, Err, refl, sym, ap, subst, ◌∙◌, append_assoc, append-nil, length, take, drop, take-append-drop, lt-ltb, cases_lt, length-take-le, BlobFault, FaultKind, ◌>>=◌, fault, place, bytes_at, byte_at, bytes_again, AreLow, low_behind, low_front, is_cut}
 use Rattle.cap_codec.proofs.Looking.{either}
 use Rattle.cap_codec_laws.specs.FaultPlace.{IsFaultyPart}
 

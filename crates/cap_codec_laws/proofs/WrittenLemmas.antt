@@ -1,27 +1,17 @@
 -- What was written for a blob spells it, and bytes spell one blob.
-use Rattle.std.proofs.Common.{◌≡◌, ℕ, Bool, List, [], ◌∷◌, ◌++◌, length, filter, flat_map, Ok, IsTrue, refl, ap, ◌∙◌, append_assoc, arith}
-use Rattle.std.specs.List.{AllByRecursion}
+use Rattle.cap_codec.proofs.Common.{◌≡◌, ℕ, Bool, List, [], ◌∷◌, ◌++◌, length, filter, Ok, IsTrue, refl, ap, ◌∙◌, append_assoc, arith, AllByRecursion, TableChanges, TablePatches, change_bytes, patch_bytes, flags_bytes, header_bytes, entries_bytes, list_bytes, varint_bytes, TableEntries, blob_at, SpellsEach, SpellsChange, SpellsPatch, Spells, IsGroupOf, IsGroup, IsPatchGroup, IsWritable, has_some, blob_bytes, blob_bytes_with, with_some, HasNoEmptyGroup}
+use Rattle.std.proofs.Common.{flat_map}
 use Rattle.std.proofs.lemmas.List.Elements.{recursion_from_All}
 use Rattle.cap_changes.specs.Fits.{change_fits, patch_fits}
-use Rattle.cap_changes.specs.Group.{TableChanges}
-use Rattle.cap_changes.specs.PatchGroup.{TablePatches}
 use Rattle.cap_codec.specs.declared.key_flags.KeyFlags.{KeyFlags}
 use Rattle.cap_codec.specs.declared.key_flags.KeyFlags.TheVariants.{Ones}
 use Rattle.cap_codec.specs.declared.read.Contents.{Contents}
 use Rattle.cap_codec.specs.declared.read.Contents.TheVariants.{Changes, Patches}
-use Rattle.cap_changes.specs.ChangeBytes.{change_bytes, patch_bytes}
-use Rattle.cap_codec.specs.Changeset.{flags_bytes, header_bytes, entries_bytes, list_bytes}
 use Rattle.cap_codec.specs.Patchset.{patch_list_bytes}
-use Rattle.cap_field.specs.Varint.{varint_bytes}
-use Rattle.cap_changes.specs.Entries.{TableEntries}
-use Rattle.cap_codec.specs.BlobReading.{blob_at}
-use Rattle.cap_changes.specs.Spelling.{SpellsEach, SpellsChange, SpellsPatch}
-use Rattle.cap_codec.specs.Spelling.{SpellsGroup, Spells}
-use Rattle.cap_codec.specs.Writable.{IsGroupOf, IsGroup, IsPatchGroup, IsWritable, has_some, blob_bytes, blob_bytes_with, with_some, HasNoEmptyGroup}
 use Rattle.cap_changes.specs.HasValues.{HasValues, PatchHasValues}
 use Rattle.cap_codec.proofs.KeyFlagLemmas.{flags_set}
 use Rattle.cap_changes.proofs.StoredChange.{change_written, patch_written}
-use Rattle.cap_codec.proofs.BlobAgain.{blob_again}
+use Rattle.cap_codec.proofs.BlobAgain.{SpelledAs, blob_again}
 
 module _ {X : Type 0} (key_flags : KeyFlags) (kind : ℕ) (bytes : X → List ℕ) (one : List Bool → X → List ℕ → Type 0) (fits : List Bool → X → Bool) (values : X → Type 0)
     (written : (flags : List Bool) (x : X) → IsTrue (fits flags x) → values x → one flags x (bytes x)) where
@@ -29,11 +19,8 @@ module _ {X : Type 0} (key_flags : KeyFlags) (kind : ℕ) (bytes : X → List �
   each_written flags [] fit are = refl
   each_written flags (x ∷ xs) fit are = (bytes x, flat_map bytes xs, refl, written flags x fit.0 are.0, each_written flags xs fit.1 are.1)
 
-  abbrev Spelled : TableEntries X → List ℕ → Type 0
-  Spelled group front = SpellsGroup kind group.table group.schema (one group.schema) group.changes front
-
   -- a header that was written, and changes behind it
-  group_written : (group : TableEntries X) → IsGroupOf fits values group → Spelled group (header_bytes key_flags kind group.table group.schema ++ flat_map bytes group.changes)
+  group_written : (group : TableEntries X) → IsGroupOf fits values group → SpelledAs kind one group (header_bytes key_flags kind group.table group.schema ++ flat_map bytes group.changes)
   group_written group is = record {
     named = is.table;
     flags = flags_bytes key_flags group.schema;
@@ -44,7 +31,7 @@ module _ {X : Type 0} (key_flags : KeyFlags) (kind : ℕ) (bytes : X → List �
   }
 
   groups_written : (groups : List (TableEntries X)) → AllByRecursion (IsGroupOf fits values) groups
-      → SpellsEach Spelled (filter (λ group. has_some group.changes) groups) (flat_map (entries_bytes key_flags kind bytes) groups)
+      → SpellsEach (SpelledAs kind one) (filter (λ group. has_some group.changes) groups) (flat_map (entries_bytes key_flags kind bytes) groups)
   groups_written [] is = refl
   groups_written (group ∷ groups) is = let first = group_written group is.0 in let others = groups_written groups is.1 in grind (arith, first, others)
 

@@ -1,5 +1,4 @@
-use Rattle.std.proofs.Common.{ℕ, length}
-use Rattle.cap_codec.specs.Pieces.{Lacks}
+use Rattle.cap_codec.proofs.Common.{ℕ, length, Lacks}
 use Rattle.cap_codec.proofs.Looking.{FieldsLack}
 use Rattle.cap_codec.proofs.missing.missing.Given as goal
 

@@ -1,7 +1,4 @@
-use Rattle.std.proofs.lemmas.Bool.{eq-eqb, ne_eqb}
-use Rattle.std.proofs.lemmas.Result.{err_from_is_err_and}
-use Rattle.cap_codec.specs.BlobReading.{entries_at}
-use Rattle.cap_changes.proofs.ChangeLoops.{behind_of}
+use Rattle.cap_codec.proofs.Common.{eq-eqb, ne_eqb, err_from_is_err_and, entries_at, behind_of}
 use Rattle.cap_codec.proofs.Left.{fails_on, groups_start, groups_go_on, groups_fail, groups_other, groups_stop}
 use Rattle.cap_codec.proofs.read.take_groups.Goals as goal
 

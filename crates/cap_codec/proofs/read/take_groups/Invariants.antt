@@ -1,5 +1,4 @@
-use Rattle.std.proofs.Common.{length}
-use Rattle.cap_codec.specs.BlobReading.{entries_at, groups_at}
+use Rattle.cap_codec.proofs.Common.{length, entries_at, groups_at}
 use Rattle.cap_codec.proofs.Left.{GroupsLeft}
 use Rattle.cap_codec.proofs.read.take_groups.Given as goal
 

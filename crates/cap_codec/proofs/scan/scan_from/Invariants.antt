@@ -1,5 +1,4 @@
-use Rattle.std.proofs.Common.{◌-◌, length}
-use Rattle.cap_codec.specs.Pieces.{IsPlace}
+use Rattle.cap_codec.proofs.Common.{◌-◌, length, IsPlace}
 use Rattle.cap_codec.proofs.scan.scan_from.Given as goal
 
 abbrev pub invariant-loop-behind : goal.invariant-loop-behind

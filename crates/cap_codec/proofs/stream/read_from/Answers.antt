@@ -1,7 +1,4 @@
-use Rattle.std.proofs.Common.{Ok, Err, refl, inr, rules, arith, take}
-use Rattle.std.proofs.lemmas.Result.{err_from_is_err_and}
-use Rattle.cap_codec.specs.BlobReading.{blob_at}
-use Rattle.cap_codec.specs.Stream.{read_fault}
+use Rattle.cap_codec.proofs.Common.{Ok, Err, refl, inr, rules, arith, take, err_from_is_err_and, blob_at, read_fault}
 use Rattle.cap_codec.proofs.StreamLemmas.{blob_is, within_piece, reads_on, reads_kept, gave_none, ends_ok, ends_whole, ends_fed}
 use Rattle.cap_codec.proofs.stream.read_from.Goals as goal
 

@@ -1,4 +1,4 @@
-use Rattle.cap_codec.specs.Stream.{ReadsOn}
+use Rattle.cap_codec.proofs.Common.{ReadsOn}
 use Rattle.cap_codec.proofs.stream.read_from.Given as goal
 
 abbrev pub invariant-loop : goal.invariant-loop

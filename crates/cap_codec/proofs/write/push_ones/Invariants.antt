@@ -1,6 +1,4 @@
-use Rattle.std.proofs.Common.{◌≡◌, ◌++◌, take}
-use Rattle.cap_codec.specs.declared.key_flags.KeyFlags.TheVariants.{Ones}
-use Rattle.cap_codec.specs.Changeset.{flags_bytes}
+use Rattle.cap_codec.proofs.Common.{◌≡◌, ◌++◌, take, Ones, flags_bytes}
 use Rattle.cap_codec.proofs.write.push_ones.Given as goal
 
 abbrev pub invariant-loop-flag : goal.invariant-loop-flag

@@ -1,7 +1,4 @@
-use Rattle.std.proofs.Common.{arith, append_assoc, false}
-use Rattle.std.proofs.lemmas.List.FromFn.{map-range_with_len_more}
-use Rattle.std.proofs.lemmas.List.Sums.{count_by_more_yes, count_by_more_no}
-use Rattle.cap_codec.specs.Changeset.{key_place}
+use Rattle.cap_codec.proofs.Common.{arith, append_assoc, false, map-range_with_len_more, count_by_more_yes, count_by_more_no, key_place}
 use Rattle.cap_codec.proofs.write.push_places.Goals as goal
 
 pub loop-flag-preserved : goal.loop-flag-preserved

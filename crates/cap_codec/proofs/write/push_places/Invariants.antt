@@ -1,6 +1,4 @@
-use Rattle.std.proofs.Common.{◌≡◌, ◌++◌, min, map, take}
-use Rattle.std.specs.List.{count_by, range_with_len}
-use Rattle.cap_codec.specs.Changeset.{key_place}
+use Rattle.cap_codec.proofs.Common.{◌≡◌, ◌++◌, min, map, take, count_by, range_with_len, key_place}
 use Rattle.cap_codec.proofs.write.push_places.Given as goal
 
 abbrev pub invariant-loop-flag : goal.invariant-loop-flag

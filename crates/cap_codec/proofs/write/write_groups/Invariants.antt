@@ -1,6 +1,4 @@
-use Rattle.std.proofs.Common.{◌≡◌, take}
-use Rattle.std.specs.List.{flat_map}
-use Rattle.cap_codec.specs.Changeset.{entries_bytes}
+use Rattle.cap_codec.proofs.Common.{◌≡◌, take, flat_map, entries_bytes}
 use Rattle.cap_codec.proofs.write.write_groups.Given as goal
 
 abbrev pub invariant-loop-group : goal.invariant-loop-group

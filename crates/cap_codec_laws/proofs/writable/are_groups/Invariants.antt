@@ -1,6 +1,5 @@
-use Rattle.std.proofs.Common.{ℕ, ◌<◌}
+use Rattle.cap_codec.proofs.Common.{ℕ, ◌<◌, IsGroupOf}
 use Rattle.std.specs.Prelude.{slice_index_or}
-use Rattle.cap_codec.specs.Writable.{IsGroupOf}
 use Rattle.cap_codec_laws.proofs.writable.are_groups.Given as goal
 
 abbrev pub invariant-loop-group : goal.invariant-loop-group
