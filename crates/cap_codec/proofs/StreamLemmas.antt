@@ -9,10 +9,9 @@ use Rattle.cap_codec.proofs.Looking.{err_lasts}
 
 -- ---- the bytes of a reader
 
-module _ (A : Type 0) where
-  -- where they show a fault
-  fault_of : (a c : Option (List ℕ)) (fed : List ℕ) (f : BlobFault) → Consumes a c fed → lasting (blob_at {A = A} fed) ≡ Err f → IfSome a (λ given. blob_at {A = A} given ≡ Err f)
-  fault_of a c fed f p lasts = let later = λ (more : List ℕ). err_lasts A fed more f lasts in grind (arith, later, p)
+-- where they show a fault
+fault_of : (A : Type 0) (a c : Option (List ℕ)) (fed : List ℕ) (f : BlobFault) → Consumes a c fed → lasting (blob_at {A = A} fed) ≡ Err f → IfSome a (λ given. blob_at {A = A} given ≡ Err f)
+fault_of A a c fed f p lasts = let later = λ (more : List ℕ). err_lasts A fed more f lasts in grind (arith, later, p)
 
 -- ---- what the reads gave
 

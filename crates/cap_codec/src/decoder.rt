@@ -61,7 +61,7 @@ impl<A: AllocHandle> Decoder<A> {
     /// Takes the next piece. Refused with the fault of the bytes so far, where no further bytes can mend it
     /// (any but `Truncated`), and from then on with the same fault. Its offset is counted from the first byte
     /// ever fed. On `OutOfMemory` the decoder is unchanged.
-    #[tactic(auto, using(crate::proofs::Looking::err_lasts))]
+    #[tactic(auto, using(crate::proofs::Looking::err_lasts, crate::proofs::Looking::looked_place))]
     pub fn feed(&mut self, piece: &[u8]) -> Result<(), Fault<BlobFault>>
         // A fault that no further bytes can mend is answered again, and takes no memory.
         ensures again { (fault : Wrong) → lasting (blob_at {A = A} self.old) ≡ Err fault →

@@ -7,6 +7,3 @@ loop-behind-init g c = λ n lack. change_lacks g.row.A.Denot c.args.total n c.ar
 
 pub loop-behind-preserved : goal.loop-behind-preserved
 loop-behind-preserved g c = λ n lack. c.loop-behind.invariant n (suc lack.0, (c.in-Ok.behind.now, c.in-Ok.ensures.ok, lack.1))
-
-pub returns-in-Err : goal.returns-in-Err
-returns-in-Err g c = c.loop-behind.invariant c.in-Err.missing (zero, c.in-Err.ensures.err)

@@ -1,9 +1,6 @@
 use Rattle.cap_codec.proofs.Common.{eq-eqb, ne_eqb, err_from_is_err_and, entries_at, behind_of}
-use Rattle.cap_codec.proofs.Left.{fails_on, groups_start, groups_go_on, groups_fail, groups_other, groups_stop}
+use Rattle.cap_codec.proofs.Left.{fails_on, groups_go_on, groups_fail, groups_other}
 use Rattle.cap_codec.proofs.read.take_groups.Goals as goal
-
-pub loop-rest-init : goal.loop-rest-init
-loop-rest-init g c = rw c.new-list.ensures (groups_start (entries_at g.C.Entry.one_at) g.C.Entry.kind c.args.total c.args.bytes.now)
 
 pub returns-then-kind : goal.returns-then-kind
 returns-then-kind g c = rw (c.wrong_kind.ensures, c.place_of.ensures) (groups_other (entries_at g.C.Entry.one_at) g.C.Entry.kind c.loop-rest.list c.args.total c.loop-rest.rest.now _ c.in-len1-up.len_at_least (rw c.kind.ensures at (ne_eqb _ _ c.if-kind.true)) c.loop-rest.invariant)
@@ -15,6 +12,3 @@ returns-in_err-group g c =
 
 pub loop-rest-preserved : goal.loop-rest-preserved
 loop-rest-preserved g c = rw c.in_ok-push.ensures.ok (groups_go_on (entries_at g.C.Entry.one_at) g.C.Entry.kind c.loop-rest.list c.args.total c.loop-rest.rest.now c.in_ok-group.after.now c.in_ok-group.group _ c.in-len1-up.len_at_least (rw c.kind.ensures at (eq-eqb _ _ c.if-kind.false)) c.in_ok-group.ensures.gives c.in_ok-group.ensures.behind c.loop-rest.invariant)
-
-pub returns : goal.returns
-returns g c = groups_stop (entries_at g.C.Entry.one_at) g.C.Entry.kind c.loop-rest.list c.args.total c.loop-rest.rest.now _ c.in_default.len_below c.loop-rest.invariant
