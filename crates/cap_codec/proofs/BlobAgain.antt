@@ -1,5 +1,5 @@
 -- Groups and blobs are read as what their bytes spell.
-use Rattle.cap_codec.proofs.Common.{◌≡◌, ℕ, zero, suc, ◌≤◌, ◌⊎◌, inl, inr, Bool, false, nat_le, List, [], ◌∷◌, ◌++◌, length, map, Result, Ok, IsTrue, refl, ap, ◌∙◌, append_assoc, arith, length-append, nat_tests, and_parts, eq-eqb, length-map, is_utf8-from_IsUtf8, has_key, TableChanges, TablePatches, BlobFault, Contents, Changes, Patches, count_at, flags_at, header_at, is_set, change_at, patch_at, varint_bytes, is_operation, TableEntries, entries_at, group_at, patch_group_at, groups_at, blob_at, SpellsEach, SpellsChange, SpellsPatch, SpellsGroup, Spells, ◌>>=◌, IsTable, varint_again, bytes_again}
+use Rattle.cap_codec.proofs.Common.{◌≡◌, ℕ, zero, suc, ◌≤◌, ◌⊎◌, inl, inr, Bool, false, nat_le, List, [], ◌∷◌, ◌++◌, length, map, Result, Ok, refl, ap, ◌∙◌, append_assoc, arith, length-append, nat_tests, and_parts, eq-eqb, length-map, is_utf8-from_IsUtf8, TableChanges, TablePatches, BlobFault, Contents, Changes, Patches, count_at, flags_at, header_at, is_set, change_at, patch_at, varint_bytes, is_operation, TableEntries, entries_at, group_at, patch_group_at, groups_at, blob_at, SpellsEach, SpellsChange, SpellsPatch, SpellsGroup, Spells, ◌>>=◌, IsTable, varint_again, bytes_again}
 use Rattle.cap_codec.proofs.HeaderLemmas.{name_is, key_is_set}
 use Rattle.cap_codec.proofs.Left.{changes_are, patches_are}
 use Rattle.cap_changes.proofs.ChangeAgain as change_read
@@ -7,30 +7,21 @@ use Rattle.cap_changes.proofs.ChangeAgain.{NoChange, change_again, patch_again, 
 
 -- ---- headers
 
-pub count_again : (total count : ℕ) (rest : List ℕ) → 1 ≤ count → count ≤ 2000 → count_at total (varint_bytes count ++ rest) ≡ Ok (count, rest)
-unfolding count_at
-count_again total count rest some fits = let read = varint_again total count rest in grind (arith, nat_tests, read)
-
-flags_again : (total : ℕ) (schema : List Bool) (flags rest : List ℕ) → map is_set flags ≡ schema → IsTrue (has_key schema) → flags_at total (length schema) (flags ++ rest) ≡ Ok (flags, rest)
-unfolding flags_at
-flags_again total schema flags rest flagged keyed =
-    let long = length-map flags is_set in
-    let set = key_is_set flags in
-    let read = bytes_again total (length schema) flags rest in
-    grind (arith, long, set, read)
-
 -- a header behind its kind byte, and more
 pub header_again : (total : ℕ) (table : List ℕ) (schema : List Bool) (flags rest : List ℕ) → IsTable table schema → map is_set flags ≡ schema
     → header_at total (varint_bytes (length schema) ++ flags ++ table ++ 0 ∷ rest) ≡ Ok (record { table = table; flags = schema }, rest)
-unfolding header_at
+unfolding count_at flags_at header_at
 header_again total table schema flags rest is flagged =
     let columns = and_parts (nat_le 1 (length schema)) (nat_le (length schema) 2000) is.columns in
-    let count = count_again total (length schema) (flags ++ (table ++ 0 ∷ rest)) in
-    let set = flags_again total schema flags (table ++ 0 ∷ rest) flagged is.keyed in
+    let count = varint_again total (length schema) (flags ++ (table ++ 0 ∷ rest)) in
+    let read = bytes_again total (length schema) flags (table ++ 0 ∷ rest) in
+    let long = length-map flags is_set in
+    let set = key_is_set flags in
+    let keyed = is.keyed in
     let named = name_is total table rest in
     let text = is_utf8-from_IsUtf8 table is.utf8 in
     let name = is.name in
-    grind (arith, nat_tests, append_assoc, columns, count, set, named, text, name)
+    grind (arith, nat_tests, append_assoc, columns, count, long, set, read, keyed, named, text, name)
 
 -- ---- groups
 

@@ -1,11 +1,11 @@
 -- The names that most proofs cite, passed on from one place. Declares nothing.
-pub use Rattle.std.proofs.Common.{◌≡◌, ℕ, zero, suc, ◌≤◌, ◌⊎◌, inl, inr, Bool, false, nat_le, List, [], ◌∷◌, ◌++◌, length, map, Result, Ok, IsTrue, IsUtf8, refl, ap, ◌∙◌, append_assoc, arith, length-append, ◌+◌, ◌<◌, true, nat_lt, ◌&&◌, take, drop, get_or, position, Some, if◌then◌else◌, sym, add-one, length-take, drop-drop, drop-cons, take_at, drop_at, take-append-drop, ◌==◌, Err, append-nil, Option, None, IfSome, subst, length-drop, IfOk, ◌-◌, ◌*◌, cond, le-ltb, rules, min, ◌||◌, not, replicate, lt-ltb, filter}
+pub use Rattle.std.proofs.Common.{◌≡◌, ℕ, zero, suc, ◌≤◌, ◌⊎◌, inl, inr, Bool, false, nat_le, List, [], ◌∷◌, ◌++◌, length, map, Result, Ok, IsTrue, IsUtf8, refl, ap, ◌∙◌, append_assoc, arith, length-append, ◌+◌, ◌<◌, true, nat_lt, ◌&&◌, take, drop, get_or, position, Some, if◌then◌else◌, sym, add-one, length-take, drop-drop, take_at, drop_at, take-append-drop, ◌==◌, Err, append-nil, Option, None, IfSome, subst, length-drop, IfOk, ◌-◌, ◌*◌, cond, le-ltb, rules, min, ◌||◌, not, replicate, lt-ltb, filter}
 pub use Rattle.std.proofs.lemmas.Bool.{and_parts, eq-eqb, eqb-true, cases_Bool, ne_eqb, ltb-true, ltb-false, eqb-false, and_cases, cases_lt, lt-leb, leb-false}
 pub use Rattle.std.proofs.lemmas.Bool.Decides.{nat_tests}
 pub use Rattle.std.proofs.lemmas.List.{length-map, get_or-take, length-take-le, drop-append-le, take-append-le, take_rest, nil_from_length, get_or_past, get_or-replicate, length-replicate}
 pub use Rattle.std.proofs.lemmas.List.Folds.{list_any_none}
 pub use Rattle.std.proofs.lemmas.List.FromFn.{fill_by_all, map-range_with_len_more}
-pub use Rattle.std.proofs.lemmas.List.Sums.{passes_at_first, count_by_more_yes, count_by_more_no, fails_before_first}
+pub use Rattle.std.proofs.lemmas.List.Sums.{count_by_more_yes, count_by_more_no, fails_before_first}
 pub use Rattle.std.proofs.lemmas.Result.{err_from_is_err_and}
 pub use Rattle.std.proofs.lemmas.Str.{is_utf8-from_IsUtf8, IsUtf8-from_is_utf8, IsUtf8-nil, IsUtf8-from_ascii}
 pub use Rattle.std.specs.List.{list_any, position_or_len, range_with_len, count_by, flat_map, AllByRecursion}

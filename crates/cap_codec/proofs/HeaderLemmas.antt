@@ -1,5 +1,5 @@
 -- The name and the flags of a header that was read.
-use Rattle.cap_codec.proofs.Common.{◌≡◌, ℕ, zero, suc, ◌+◌, ◌<◌, ◌≤◌, true, false, nat_lt, ◌&&◌, List, [], ◌∷◌, ◌++◌, length, take, drop, map, get_or, position, Some, Ok, if◌then◌else◌, refl, sym, ap, ◌∙◌, arith, add-one, length-take, length-append, drop-drop, drop-cons, take_at, drop_at, take-append-drop, list_any, position_or_len, is_utf8, eqb-true, nat_tests, length-map, get_or-take, length-take-le, list_any_none, passes_at_first, is_name, has_key, is_schema, BadName, fault, place, is_zero, name_at, is_set}
+use Rattle.cap_codec.proofs.Common.{◌≡◌, ℕ, zero, suc, ◌+◌, ◌<◌, ◌≤◌, true, false, nat_lt, ◌&&◌, List, [], ◌∷◌, ◌++◌, length, take, drop, map, position, Some, Ok, if◌then◌else◌, refl, sym, ap, ◌∙◌, arith, length-take, length-append, drop-drop, take_at, drop_at, list_any, position_or_len, is_utf8, nat_tests, length-map, get_or-take, length-take-le, list_any_none, is_name, has_key, is_schema, BadName, fault, place, is_zero, name_at, is_set}
 use Rattle.std.proofs.lemmas.List.Quantifiers.{position-Some}
 
 -- ---- the first zero byte
@@ -7,11 +7,8 @@ use Rattle.std.proofs.lemmas.List.Quantifiers.{position-Some}
 -- the bytes before and behind it
 pub zero_at : (most : ℕ) (bytes : List ℕ) → position_or_len is_zero (take most bytes) < length (take most bytes)
     → bytes ≡ take (position_or_len is_zero (take most bytes)) bytes ++ 0 ∷ drop (position_or_len is_zero (take most bytes) + 1) bytes
-zero_at most bytes lt =
-    let i = position_or_len is_zero (take most bytes) in
-    let is : get_or bytes i 0 ≡ 0 = sym (get_or-take most bytes i 0 (omega (arith, length-take most bytes))) ∙ eqb-true _ 0 (passes_at_first is_zero (take most bytes) 0 lt) in
-    let behind : drop i bytes ≡ 0 ∷ drop (i + 1) bytes = drop-cons bytes i 0 (omega (arith, length-take most bytes)) ∙ rw (is, add-one) refl in
-    sym (take-append-drop i bytes) ∙ ap (λ (b : List ℕ). take i bytes ++ b) behind
+zero_at (suc most) (byte ∷ bytes) lt = let rest = zero_at most bytes in grind (arith, nat_tests, rest)
+zero_at most bytes lt = absurd (omega arith)
 
 -- no byte before it is zero
 pub no_zero_before : (bytes : List ℕ) (len : ℕ) → position is_zero (take 256 bytes) ≡ Some len → list_any is_zero (take len bytes) ≡ false

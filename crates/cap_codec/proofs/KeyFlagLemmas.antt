@@ -1,5 +1,5 @@
 -- The key flags that are written, and what they read as.
-use Rattle.cap_codec.proofs.Common.{◌≡◌, ℕ, ◌<◌, Bool, false, List, [], ◌∷◌, length, map, get_or, refl, sym, ◌∙◌, arith, range_with_len, nat_tests, fill_by_all, count_by_more_yes, KeyFlags, Ones, Places, key_place, flags_bytes, is_set}
+use Rattle.cap_codec.proofs.Common.{◌≡◌, Bool, false, List, [], ◌∷◌, length, map, refl, sym, ◌∙◌, arith, range_with_len, nat_tests, fill_by_all, count_by_more_yes, KeyFlags, Ones, Places, key_place, flags_bytes, is_set}
 use Rattle.std.proofs.lemmas.Simd.{map-map}
 use Rattle.cap_changes.proofs.Grammar.{flag_again}
 

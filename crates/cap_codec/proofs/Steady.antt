@@ -3,8 +3,7 @@
 use Rattle.cap_codec.proofs.Common.{◌≡◌, ℕ, ◌+◌, ◌-◌, ◌*◌, ◌<◌, ◌≤◌, Bool, true, false, cond, nat_lt, ◌==◌, List, [], ◌∷◌, ◌++◌, length, take, drop, Result, Ok, Err, refl, sym, ap, subst, ◌∙◌, arith, append_assoc, append-nil, length-append, length-take, take-append-drop, le-ltb, position_or_len, nat_tests, take-append-le, drop-append-le, FieldRequirement, BlobFault, sized_at, text_at, content_at, typed_at, field_at, is_zero, count_at, flags_at, name_at, header_at, change_at, patch_at, content_len_at, skip_content, skip_at, Kind, is_cut, ends_early, one_as, ◌>>=◌, place, byte_at, bytes_at, varint_from, varint_at, record_at}
 use Rattle.cap_field.specs.FieldReading.{number_at}
 use Rattle.cap_changes.specs.declared.field_requirement.FieldRequirement.TheVariants as required
-use Rattle.cap_changes.specs.declared.record_kind.RecordKind.TheVariants as record_kinds
-use Rattle.cap_changes.specs.Requirements.{requirements, new_requirements}
+use Rattle.cap_changes.specs.Requirements.{requirements}
 use Rattle.cap_codec.specs.declared.scan.Kind.TheVariants as kinds
 use Rattle.cap_codec.proofs.HeaderLemmas.{no_zero_before, zero_at, name_is}
 
@@ -48,6 +47,9 @@ module _ (P : Result (List ℕ) ℕ → Type 0) where
   pub either_stays : {X : Type 0} (bytes more : List ℕ) (test : Bool) (x y later_x later_y : Result (X × List ℕ) BlobFault) → Stays P bytes more x later_x → Stays P bytes more y later_y
       → Stays P bytes more (cond test x y) (cond test later_x later_y)
   either_stays bytes more test x y later_x later_y of_x of_y = grind (arith, of_x, of_y)
+
+  ok_stays : {X : Type 0} (x : X) (rest more : List ℕ) → P (Ok rest) → Stays P rest more (Ok (x, rest)) (Ok (x, rest ++ more))
+  ok_stays x rest more p = (refl, ([], refl), p)
 
   bytes_stay : (total later count : ℕ) (bytes more : List ℕ) → P (skip_content (Ok (count, bytes))) → Stays P bytes more (bytes_at total count bytes) (bytes_at later count (bytes ++ more))
   bytes_stay total later count bytes more p =
@@ -135,18 +137,8 @@ module _ (A : Type 0) (P : Result (List ℕ) ℕ → Type 0) (total : ℕ) (next
 
   pub one_stays : (kind : Kind) (flags : List Bool) (op : ℕ) (bytes more : List ℕ) → P (skip_flag bytes) → Stays P bytes more (one_as A kind total flags op bytes) (one_as A kind (total + length more) flags op (bytes ++ more))
   unfolding change_at patch_at
-  one_stays kinds.Changes flags op bytes more p = stays_then P bytes more _ _ _ _ (flag_stays bytes more p)
-      (λ flag q. either_stays P flag.1 more (op == 0x12) _ _ _ _
-      (stays_then P flag.1 more _ _ _ _ (record_stays (requirements record_kinds.Full flags) flag.1 more q) (λ new r. (refl, ([], refl), r)))
-      (either_stays P flag.1 more (op == 0x17) _ _ _ _
-      (stays_then P flag.1 more _ _ _ _ (record_stays (requirements record_kinds.Keyed flags) flag.1 more q)
-      (λ old r. stays_then P old.1 more _ _ _ _ (record_stays (new_requirements flags old.0) old.1 more r) (λ new s. (refl, ([], refl), s))))
-      (stays_then P flag.1 more _ _ _ _ (record_stays (requirements record_kinds.Full flags) flag.1 more q) (λ old r. (refl, ([], refl), r)))))
-  one_stays kinds.Patches flags op bytes more p = stays_then P bytes more _ _ _ _ (flag_stays bytes more p) (λ flag q.
-      let full = record_stays (requirements record_kinds.Full flags) flag.1 more q in
-      let keyed = record_stays (requirements record_kinds.Keyed flags) flag.1 more q in
-      let alone = record_stays (requirements record_kinds.KeyAlone flags) flag.1 more q in
-      grind (arith, full, keyed, alone))
+  one_stays kinds.Changes flags op bytes more p = search (stays_then, either_stays, flag_stays, record_stays, ok_stays) depth 12
+  one_stays kinds.Patches flags op bytes more p = search (stays_then, either_stays, flag_stays, record_stays, ok_stays) depth 12
 
 -- ---- headers
 
@@ -176,7 +168,4 @@ name_stays total bytes more =
 
 pub header_stays : (total : ℕ) (bytes more : List ℕ) → Stays Any bytes more (header_at total bytes) (header_at (total + length more) (bytes ++ more))
 unfolding header_at
-header_stays total bytes more =
-    stays_then Any bytes more _ _ _ _ (count_stays total bytes more)
-    (λ count any. stays_then Any count.1 more _ _ _ _ (flags_stay total count.0 count.1 more)
-    (λ flags any. stays_then Any flags.1 more _ _ _ _ (name_stays total flags.1 more) (λ name any. (refl, ([], refl), tt))))
+header_stays total bytes more = search (stays_then, count_stays, flags_stay, name_stays, ok_stays) depth 12

@@ -1,4 +1,4 @@
-use Rattle.cap_codec.proofs.Common.{zero, suc, arith, rules, take_rest}
+use Rattle.cap_codec.proofs.Common.{suc, arith, rules, take_rest}
 use Rattle.cap_codec.proofs.Looking.{change_lacks}
 use Rattle.cap_codec.proofs.missing.missing.Goals as goal
 
