@@ -76,8 +76,8 @@ module _ {A : Type 0} where
 
   -- ---- no values, and one more
 
-  pub of_none : (fields_of {A = A} [] ≡ []) × Encodes {A = A} [] (fields_of [])
-  of_none = encoded [] [] tt refl
+  pub no_values : fields_of {A = A} [] ≡ []
+  no_values = values_again [] tt
 
   pub each-append : (xs ys : List (Value A)) → AreValues xs → AreValues ys → AreValues (xs ++ ys)
   each-append [] ys a b = b
@@ -170,5 +170,5 @@ module _ {A : Type 0} where
       subst (λ (p : Value A × List ℕ). First bytes p.0 p.1) same is
 
   pub ended : (bytes : List ℕ) → (length bytes == 0) ≡ true → fields_of {A = A} bytes ≡ []
-  ended [] e = of_none.0
+  ended [] e = no_values
   ended (byte ∷ bytes) e = absurd (omega (arith, eqb-true (length (byte ∷ bytes)) 0 e))

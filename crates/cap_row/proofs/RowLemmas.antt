@@ -1,11 +1,11 @@
 -- Columns that an update names, one more at a time, and what they do to a row.
-use Rattle.std.proofs.Common.{◌≡◌, ◌∙◌, ℕ, suc, ◌+◌, ◌<◌, ◌≤◌, ◌⊎◌, Bool, true, false, List, [], ◌∷◌, ◌++◌, length, get_or, set, take, drop, map, drop-cons, nat_eq, ap, sym, refl, arith}
+use Rattle.std.proofs.Common.{◌≡◌, ◌∙◌, ℕ, zero, suc, ◌+◌, ◌<◌, ◌≤◌, ◌⊎◌, inl, inr, Bool, true, false, not, ◌&&◌, ◌||◌, List, [], ◌∷◌, ◌++◌, length, get_or, set, take, drop, map, nat_eq, replicate, ap, sym, refl, arith}
+use Rattle.std.proofs.Math.Bool.{and-true}
 use Rattle.std.specs.List.{list_any, enumerate_from}
 use Rattle.std.proofs.lemmas.Bool.Decides.{nat_tests}
 use Rattle.std.proofs.lemmas.Grind.{common_steps}
-use Rattle.std.proofs.lemmas.List.{take-append-drop, take_more, get_or-map, length-map}
+use Rattle.std.proofs.lemmas.List.{drop_more, length-map}
 use Rattle.std.proofs.lemmas.List.FromFn.{length-enumerate_from}
-use Rattle.std.proofs.lemmas.List.Folds.{list_any-append}
 use Rattle.cap_value.specs.declared.value.Value.{Value}
 use Rattle.cap_row.specs.Row.{are_columns, columns_of, new_value, row_with}
 use Rattle.cap_row.specs.Fields.{Fields}
@@ -13,30 +13,23 @@ use Rattle.cap_row.proofs.EncodingLemmas.{passed}
 use Rattle.std.specs.Option.{unwrap_or}
 use Rattle.std.proofs.Common.{Option, append_assoc, length-drop}
 
-named_in : (c : ℕ) (xs ys : List ℕ) → list_any (nat_eq c) (xs ++ c ∷ ys) ≡ true
-named_in c [] ys = grind (arith, nat_tests)
-named_in c (x ∷ xs) ys = let e = named_in c xs ys in grind (arith, nat_tests)
+-- no column is named at first
+not_named : (n c : ℕ) → get_or (replicate n false) c false ≡ false
+not_named zero c = refl
+not_named (suc n) zero = refl
+not_named (suc n) (suc c) = not_named n c
 
--- a column that is not in the table, or was named before
-refused-append : (w c : ℕ) (xs ys : List ℕ) → (w ≤ c) ⊎ (list_any (nat_eq c) xs ≡ true) → are_columns w (xs ++ c ∷ ys) ≡ false
-refused-append w c [] ys h = grind (arith, nat_tests)
-refused-append w c (x ∷ xs) ys h =
-    let e = refused-append w c xs ys in
-    let n = named_in c xs ys in
-    grind (arith, nat_tests, e, n)
+none_named : (n : ℕ) (columns : List ℕ) → list_any (λ k. get_or (replicate n false) k false) columns ≡ false
+none_named n [] = refl
+none_named n (c ∷ columns) = rw (not_named n c) (none_named n columns)
 
--- a column that is in the table and was not named before
-accepted-push : (w c : ℕ) (xs : List ℕ) → are_columns w xs ≡ true → c < w → list_any (nat_eq c) xs ≡ false → are_columns w (xs ++ c ∷ []) ≡ true
-accepted-push w c [] a b n = grind (arith, nat_tests)
-accepted-push w c (x ∷ xs) a b n =
-    let e = accepted-push w c xs in
-    grind (arith, nat_tests, list_any-append, e)
+-- one more column is named
+one_named : (named : List Bool) (c : ℕ) (columns : List ℕ) → c < length named → list_any (λ k. get_or (set named c true) k false) columns ≡ (list_any (nat_eq c) columns || list_any (λ k. get_or named k false) columns)
+one_named named c [] lt = refl
+one_named named c (k ∷ columns) lt = grind (arith, common_steps, one_named named c columns)
 
-named-push : (named : List Bool) (w c : ℕ) (xs : List ℕ) → w ≤ length named → c < w → ((k : ℕ) → k < w → get_or named k false ≡ list_any (nat_eq k) xs) → (k : ℕ) → k < w → get_or (set named c true) k false ≡ list_any (nat_eq k) (xs ++ c ∷ [])
-named-push named w c xs l b h k lt = let e = h k lt in grind (arith, nat_tests, common_steps, list_any-append)
-
-pub length-row_with : {A : Type 0} (changes : List (ℕ × Value A)) (row : List (Value A)) → length (row_with changes row) ≡ length row
-length-row_with changes row = length-map _ _ ∙ length-enumerate_from 0 row
+pub row_with_length : {A : Type 0} (changes : List (ℕ × Value A)) (row : List (Value A)) → length (row_with changes row) ≡ length row
+row_with_length changes row = length-map _ _ ∙ length-enumerate_from 0 row
 
 module _ {A : Type 0} where
   -- the rows from a column on, with the fields set
@@ -61,21 +54,21 @@ module _ {A : Type 0} where
         left = one ∙ passed row i value (value ∷ others) others so.left refl;
       }
 
-module _ {A : Type 0} (w i : ℕ) (changes : List (ℕ × Value A)) (change : ℕ × Value A) (lt : i < length changes) (is : change ≡ get_or changes i change) where
-  column_at : change.0 ≡ get_or (columns_of changes) i 0
-  column_at = ap (λ (c : ℕ × Value A). c.0) is ∙ sym (get_or-map (λ (c : ℕ × Value A). c.0) changes i change 0 lt)
+module _ {A : Type 0} (w : ℕ) (changes : List (ℕ × Value A)) where
+  -- the columns from a place on are in the table, none is named twice, and none was named before
+  abbrev pub LeftColumns : List Bool → ℕ → Bool
+  LeftColumns named i = are_columns w (columns_of (drop i changes)) && not (list_any (λ k. get_or named k false) (columns_of (drop i changes)))
 
-  so_far : take (i + 1) (columns_of changes) ≡ take i (columns_of changes) ++ change.0 ∷ []
-  so_far = rw column_at (take_more (columns_of changes) i 0 (grind (arith, common_steps)))
+  pub all_left : LeftColumns (replicate 2000 false) 0 ≡ are_columns w (columns_of changes)
+  all_left = rw (none_named 2000 (columns_of changes), and-true) refl
 
-  cut : columns_of changes ≡ take i (columns_of changes) ++ change.0 ∷ drop (suc i) (columns_of changes)
-  cut = rw column_at (sym (take-append-drop i (columns_of changes)) ∙ ap (λ l. take i (columns_of changes) ++ l) (drop-cons (columns_of changes) i 0 (grind (arith, common_steps))))
+  module _ (named : List Bool) (i : ℕ) (change : ℕ × Value A) (lt : i < length changes) (is : change ≡ get_or changes i change) where
+    here : drop i changes ≡ change ∷ drop (i + 1) changes
+    here = drop_more changes i change lt ∙ ap (λ c. c ∷ drop (i + 1) changes) (sym is)
 
-  pub are_columns-refused : (w ≤ change.0) ⊎ (list_any (nat_eq change.0) (take i (columns_of changes)) ≡ true) → false ≡ are_columns w (columns_of changes)
-  are_columns-refused h = sym (rw cut (refused-append w change.0 _ _ h))
+    pub refused : (w ≤ change.0) ⊎ (get_or named change.0 false ≡ true) → LeftColumns named i ≡ false
+    refused (inl outside) = rw here (grind (arith, nat_tests))
+    refused (inr twice) = rw here (grind (arith, nat_tests))
 
-  pub are_columns-more : are_columns w (take i (columns_of changes)) ≡ true → change.0 < w → list_any (nat_eq change.0) (take i (columns_of changes)) ≡ false → are_columns w (take (i + 1) (columns_of changes)) ≡ true
-  are_columns-more a b n = rw so_far (accepted-push w change.0 _ a b n)
-
-  pub named-more : (named : List Bool) → w ≤ length named → change.0 < w → ((k : ℕ) → k < w → get_or named k false ≡ list_any (nat_eq k) (take i (columns_of changes))) → (k : ℕ) → k < w → get_or (set named change.0 true) k false ≡ list_any (nat_eq k) (take (i + 1) (columns_of changes))
-  named-more named l b h k lt = rw so_far (named-push named w change.0 _ l b h k lt)
+    pub accepted : w ≤ length named → change.0 < w → get_or named change.0 false ≡ false → LeftColumns named i ≡ LeftColumns (set named change.0 true) (i + 1)
+    accepted long inside once = rw (here, one_named named change.0 (columns_of (drop (i + 1) changes)) (omega arith)) (grind (arith, nat_tests))

@@ -199,6 +199,7 @@ pub fn key_of<A: AllocHandle>(
     Key::of_values(alloc, key_values(alloc, schema.flags(), row.fields())?)
 }
 
+#[tactic(auto, using(crate::proofs::KeyLemmas::no_more_row))]
 fn key_values<A: AllocHandle>(
     alloc: A,
     flags: &[bool],

@@ -98,6 +98,7 @@ impl<A: AllocHandle> Row<A> {
 
     /// The row with just these fields set, each a column, counted from 0, and its new value. Refused with
     /// `BadColumn` where a column is outside the table, or named twice.
+    #[tactic(auto, using(crate::proofs::RowLemmas::row_with_length))]
     pub fn with_fields(
         &self,
         alloc: A,

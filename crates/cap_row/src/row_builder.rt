@@ -41,6 +41,7 @@ impl<A: AllocHandle> Drop for RowBuilder<A> {
 
 impl<A: AllocHandle> RowBuilder<A> {
     /// No values. Takes no memory.
+    #[tactic(auto, using(crate::proofs::EncodingLemmas::no_values))]
     pub fn new(alloc: A) -> Self
         ensures { result ≡ [] }
     {
@@ -50,6 +51,7 @@ impl<A: AllocHandle> RowBuilder<A> {
     }
 
     /// No values, with memory for so many bytes.
+    #[tactic(auto, using(crate::proofs::EncodingLemmas::no_values))]
     pub fn with_room(alloc: A, room: usize) -> Result<Self, OutOfMemory>
         ensures { IfOk result (λ builder. builder ≡ []) }
     {
@@ -59,6 +61,7 @@ impl<A: AllocHandle> RowBuilder<A> {
     }
 
     /// Takes all values away, and keeps the memory.
+    #[tactic(auto, using(crate::proofs::EncodingLemmas::no_values))]
     pub fn clear(&mut self)
         ensures { self.new ≡ [] }
     {
@@ -254,6 +257,7 @@ fn push_parts<A: AllocHandle>(
     Ok(())
 }
 
+#[tactic(auto, using(cap_field::proofs::Spelled::digits_1))]
 #[inline(always)]
 fn push_length<A: AllocHandle>(out: &mut RowBytes<A>, length: usize) -> Result<(), OutOfMemory>
     ensures bytes { OnOk result (out.new.items ≡ out.old.items ++ varint_bytes length) }

@@ -6,7 +6,7 @@ ghost use Rattle.std.specs.Iterator.{at_most};
 ghost use Rattle.cap_value.specs.Value.{IsValue};
 ghost use Rattle.cap_field.specs.Field.{values_bytes};
 ghost use Rattle.cap_field.specs.FieldReading.{value_of};
-ghost use Rattle.cap_row.specs.Encoding.{fields_of, AreValues, BeginsWith, Encodes};
+ghost use Rattle.cap_row.specs.Encoding.{fields_of, AreValues, BeginsWith, Encodes, IsFieldOf};
 
 use cap_field::{ValueRef, stored_value};
 use cap_value::AllocHandle;
@@ -50,11 +50,7 @@ impl<'a, A: AllocHandle> RowFields<'a, A> {
         ensures value { TakesFirst value_of self.old result self.new }
         ensures fits { IfSome result (λ value. IsValue {A = A} (value_of value)) }
     {
-        if self.bytes.is_empty() {
-            return None;
-        }
-        let (value, rest) = stored_value::<A>(self.bytes);
-        self.bytes = rest;
+        let (value, _) = self.next_both()?;
         Some(value)
     }
 
@@ -64,13 +60,23 @@ impl<'a, A: AllocHandle> RowFields<'a, A> {
         ensures { MatchOption result ((self.old ≡ []) × (self.new ≡ []))
             (λ field. BeginsWith self.old field.now self.new) }
     {
+        let (_, field) = self.next_both()?;
+        Some(field)
+    }
+
+    // The next value, and its bytes.
+    #[inline(always)]
+    fn next_both(&mut self) -> Option<(ValueRef<'a>, &'a [u8])>
+        ensures { MatchOption result ((self.old ≡ []) × (self.new ≡ []))
+            (λ x. (self.old ≡ value_of x.0 ∷ self.new) × IsFieldOf {A = A} x.1.now (value_of x.0)) }
+    {
         let bytes = self.bytes;
         if bytes.is_empty() {
             return None;
         }
-        let (_, rest) = stored_value::<A>(bytes);
+        let (value, rest) = stored_value::<A>(bytes);
         self.bytes = rest;
-        Some(&bytes[..bytes.len() - rest.len()])
+        Some((value, &bytes[..bytes.len() - rest.len()]))
     }
 
     /// Passes the next value, where there is one.

@@ -1,6 +1,6 @@
 use Rattle.std.proofs.Common.{◌∙◌, sym}
 use Rattle.cap_row.proofs.EncodingLemmas.{has_first, first_is, ended, before_rest, no_more_behind}
-use Rattle.cap_row.proofs.row_fields.RowFields.next_field.Goals as goal
+use Rattle.cap_row.proofs.row_fields.RowFields.next_both.Goals as goal
 
 pub returns-then-is_empty : goal.returns-then-is_empty
 returns-then-is_empty g c = let none = sym c.self.view_is ∙ ended _ (sym c.is_empty.ensures ∙ c.if-is_empty.true) in (none, none)
@@ -17,4 +17,4 @@ invariant_of-self g c = (first_is _ _ _ c.self.invariant (sym c.is_empty.ensures
 pub returns : goal.returns
 returns g c =
     let is = first_is _ _ _ c.self.invariant (sym c.is_empty.ensures ∙ c.if-is_empty.false) c.stored_value.ensures in
-    (_, sym c.self.view_is ∙ is.values, (before_rest _ _ _ is.parts, is.fits))
+    (sym c.self.view_is ∙ is.values, (before_rest _ _ _ is.parts, is.fits))
