@@ -1,11 +1,9 @@
 -- Two records of one row, field by field, by the bytes of their fields.
-use Rattle.std.proofs.Common.{◌≡◌, ℕ, ◌+◌, ◌<◌, List, [], ◌∷◌, ◌++◌, Bool, true, false, not, ◌&&◌, ◌||◌, cond, length, drop, get_or, Option, Some, None, IfSome, ◌⊎◌, inl, inr, refl, sym, ap, ◌∙◌, append_assoc, append-nil}
+use Rattle.std.proofs.Common.{◌≡◌, ℕ, ◌+◌, ◌<◌, List, [], ◌∷◌, ◌++◌, Bool, true, false, not, ◌&&◌, ◌||◌, cond, length, drop, get_or, Option, Some, None, IfSome, ◌⊎◌, inl, inr, refl, sym, ap, ◌∙◌, append_assoc, append-nil, arith}
 use Rattle.std.proofs.Math.Bool.{or_assoc, or-false}
 use Rattle.std.proofs.lemmas.List.{drop_more}
-use Rattle.std.specs.List.{cons_option}
 use Rattle.cap_value.specs.Bytes.{bytes_eq}
 use Rattle.cap_value.specs.declared.value.Value.{Value}
-use Rattle.cap_value.specs.declared.value.Value.TheVariants.{Null, Int, Text, Blob}
 use Rattle.cap_value.specs.Value.{IsValue}
 use Rattle.cap_changes.specs.ChangeBytes.{flag_byte}
 use Rattle.cap_changes.specs.Column.{by_column}
@@ -22,22 +20,13 @@ module _ {A : Type 0} where
   -- a column outside the key has no value of it
   pub outside_key : (keys : List Bool) (fields : RecordFields A) → key_values (keys ++ false ∷ []) fields ≡ key_values keys fields
   outside_key [] [] = refl
-  outside_key [] (field ∷ fields) = refl
-  outside_key (key ∷ keys) [] = refl
-  outside_key (key ∷ keys) (field ∷ fields) = ap (cons_option (cond key field None)) (outside_key keys fields)
+  outside_key (key ∷ keys) (field ∷ fields) = grind (arith, outside_key keys fields)
+  outside_key keys fields = grind arith
 
   -- fields that are the same have the same bytes, and no others
   pub field_eq_bytes : (b a : (Option (Value A))) → IfSome b IsValue → IfSome a IsValue → bytes_eq (field_bytes b) (field_bytes a) ≡ together.field_eq b a
-  field_eq_bytes None None p q = refl
-  field_eq_bytes None (Some Null) p q = refl
-  field_eq_bytes None (Some (Int n)) p q = refl
-  field_eq_bytes None (Some (Text t)) p q = refl
-  field_eq_bytes None (Some (Blob t)) p q = refl
-  field_eq_bytes (Some Null) None p q = refl
-  field_eq_bytes (Some (Int n)) None p q = refl
-  field_eq_bytes (Some (Text t)) None p q = refl
-  field_eq_bytes (Some (Blob t)) None p q = refl
   field_eq_bytes (Some b) (Some a) p q = sym (eq_by_bytes b a p q)
+  field_eq_bytes b a p q = grind arith
 
   pub over_none : (below : RecordFields A) → together.record_over below [] ≡ []
   over_none [] = refl
@@ -45,8 +34,7 @@ module _ {A : Type 0} where
 
   pub over_self : (fields : RecordFields A) → together.record_over fields fields ≡ fields
   over_self [] = refl
-  over_self (None ∷ fields) = ap (λ (l : RecordFields A). None ∷ l) (over_self fields)
-  over_self (Some v ∷ fields) = ap (λ (l : RecordFields A). Some v ∷ l) (over_self fields)
+  over_self (field ∷ fields) = grind (arith, over_self fields)
 
   -- the field of a column, in the old record or in the new one
   piece_is : (old key : Bool) (b a : Option (Value A)) → field_bytes (together.field_of old key b a)
@@ -69,19 +57,16 @@ module _ {A : Type 0} where
       rw (or_assoc some modified _, modified_here) (rw (drop_more flags i false within, begins.1, begins'.1) at differ_so_far),
     )
 
-  none_before : (flags : List Bool) (after : RecordFields A) → together.differ flags [] after ≡ false
-  none_before [] after = refl
-  none_before (key ∷ flags) after = refl
-
-  none_after : (flags : List Bool) (before : RecordFields A) → together.differ flags before [] ≡ false
-  none_after [] before = refl
-  none_after (key ∷ flags) [] = refl
-  none_after (key ∷ flags) (b ∷ before) = refl
+  no_column : {Y : Type 0} (f : Bool → Option (Value A) → Option (Value A) → Y) (flags : List Bool) (before after : RecordFields A) → (before ≡ []) ⊎ (after ≡ []) → by_column f flags before after ≡ []
+  no_column f (key ∷ flags) (b ∷ before) (a ∷ after) (inl none) = cc
+  no_column f (key ∷ flags) (b ∷ before) (a ∷ after) (inr none) = cc
+  no_column f flags before after ends = grind arith
 
   -- one of the records ends
-  pub differ_ends : (flags : List Bool) (before after : RecordFields A) (some all : Bool) → (before ≡ []) ⊎ (after ≡ []) → (some || together.differ flags before after) ≡ all → some ≡ all
-  differ_ends flags before after some all (inl none) so_far = rw (none, none_before flags after, or-false) at so_far
-  differ_ends flags before after some all (inr none) so_far = rw (none, none_after flags before, or-false) at so_far
+  pub columns_end : (old : Bool) (flags : List Bool) (before after : RecordFields A) (out all : List ℕ) (some whole : Bool) → (before ≡ []) ⊎ (after ≡ []) →
+      out ++ record_bytes (by_column (together.field_of old) flags before after) ≡ all → (some || together.differ flags before after) ≡ whole → (out ≡ all) × (some ≡ whole)
+  columns_end old flags before after out all some whole ends put differs =
+      (rw (no_column (together.field_of old) flags before after ends, append-nil) at put, rw (no_column together.is_modified flags before after ends, or-false) at differs)
 
   -- the update is put, where a column differs
   pub update_put : (flags : List Bool) (indirect : Bool) (before after : RecordFields A) (out mid next new : List ℕ) → together.differ flags before after ≡ true → mid ≡ out ++ 0x17 ∷ flag_byte indirect ∷ [] →

@@ -1,14 +1,15 @@
 -- What two changes of one row are together fits their table, and is of that row.
-use Rattle.std.proofs.Common.{◌≡◌, List, [], ◌∷◌, Bool, true, false, not, ◌&&◌, Option, Some, None, cond, refl, subst, ◌∙◌}
-use Rattle.std.specs.Prelude.{IfSome, IsTrue}
-use Rattle.std.specs.List.{cons_option}
+use Rattle.std.proofs.Common.{◌≡◌, List, [], ◌∷◌, Bool, true, false, ◌&&◌, Option, Some, None, cond, refl, subst, ◌∙◌, arith}
+use Rattle.std.specs.Prelude.{IfSome, IsTrue, is_some}
+use Rattle.std.specs.Bool.{beq}
 use Rattle.std.proofs.lemmas.Bool.{and_parts, and_from}
 use Rattle.std.proofs.lemmas.Option.{IfSome_then}
 use Rattle.cap_value.specs.declared.value.Value.{Value}
-use Rattle.cap_value.specs.Value.{value_eq}
 use Rattle.cap_changes.specs.Column.{by_column}
 use Rattle.cap_changes.specs.FieldRecord.{RecordFields}
-use Rattle.cap_changes.specs.Requirements.{requirements, requirement_of, new_requirements, new_requirement, satisfies, satisfy}
+use Rattle.cap_changes.specs.HasValues.{AreValues, HasValues, PatchHasValues}
+use Rattle.cap_changes.specs.Record.{AreFields}
+use Rattle.cap_changes.specs.Requirements.{requirements, requirement_of, new_requirements, satisfies, satisfy}
 use Rattle.cap_changes.specs.Fits.{change_fits, patch_fits}
 use Rattle.cap_changes.specs.declared.row_change.RowChange.{RowChange}
 use Rattle.cap_changes.specs.declared.row_change.RowChange.TheVariants as changed
@@ -16,177 +17,137 @@ use Rattle.cap_changes.specs.declared.patch.Patch.{Patch}
 use Rattle.cap_changes.specs.declared.patch.Patch.TheVariants as patched
 use Rattle.cap_changes.specs.declared.record_kind.RecordKind.{RecordKind}
 use Rattle.cap_changes.specs.declared.record_kind.RecordKind.TheVariants.{Full, Keyed}
-use Rattle.cap_changes.proofs.FitLemmas.{full_keyed}
-use Rattle.cap_row.specs.Fields.{Fields}
 use Rattle.cap_changes.specs.declared.field_requirement.FieldRequirement.TheVariants as required
+use Rattle.cap_changes.proofs.FitLemmas.{full_keyed}
+use Rattle.cap_changes.proofs.ValueLemmas.{each_of, values_of}
+use Rattle.cap_row.specs.Fields.{Fields}
 use Rattle.cap_group.specs.ChangeKey.{change_key, key_values, patch_key}
-use Rattle.cap_group.specs.Record.{field_over, record_over, old_field, new_field, differ, update_between}
+use Rattle.cap_group.specs.Record.{record_over, differ, field_of, old_field, new_field, update_between}
 use Rattle.cap_group.specs.Combined.{KeepsKey, combined, patches_combined}
 
-pub if_some : {X : Type 0} (P : X → Type 0) (b : Bool) (x : X) → P x → IfSome (cond b (Some x) None) P
+-- what two changes are together fits their table, is of their row, and has values where both have
+pub record Stands {A X : Type 0} (fits : List Bool → X → Bool) (key : List Bool → X → Fields A) (Values : X → Type 0) (flags : List Bool) (present added change : X) : Type 0 where
+  pub fit : fits flags change ≡ true
+  pub keyed : key flags added ≡ key flags present → key flags change ≡ key flags present
+  pub values : Values present → Values added → Values change
+
+if_some : {X : Type 0} (P : X → Type 0) (b : Bool) (x : X) → P x → IfSome (cond b (Some x) None) P
 if_some P true x p = p
 if_some P false x p = tt
 
 module _ {A : Type 0} where
-  -- a column fits, and has the field of another in the key
-  abbrev Fits : RecordKind → Bool → Option (Value A) → Type 0
-  Fits kind key field = satisfies (requirement_of kind key) field ≡ true
+  abbrev Fit : RecordKind → List Bool → RecordFields A → Type 0
+  Fit kind flags fields = satisfy (requirements kind flags) fields ≡ true
 
-  abbrev FitsNew : Bool → Option (Value A) → Option (Value A) → Type 0
-  FitsNew key old new = satisfies (new_requirement (key, old)) new ≡ true
+  abbrev FitNew : List Bool → RecordFields A → RecordFields A → Type 0
+  FitNew flags old new = satisfy (new_requirements flags old) new ≡ true
 
-  abbrev SameKey : Bool → Option (Value A) → Option (Value A) → Type 0
-  SameKey key one other = cond key one None ≡ cond key other None
+  -- ---- a record over another
 
-  -- the same of all columns
-  abbrev FitsRecord : RecordKind → List Bool → RecordFields A → Type 0
-  FitsRecord kind flags fields = satisfy (requirements kind flags) fields ≡ true
+  over_fits : (kind : RecordKind) → ((value : Value A) → satisfies (requirement_of kind false) (Some value) ≡ true) → (flags : List Bool) (below above : RecordFields A) → Fit kind flags below → Fit Keyed flags above → Fit kind flags (record_over below above)
+  over_fits kind takes (key ∷ flags) (b ∷ below) (a ∷ above) fit fit' = grind (arith, takes, over_fits kind takes flags below above)
+  over_fits kind takes flags below above fit fit' = grind arith
 
-  abbrev FitsNewRecord : List Bool → RecordFields A → RecordFields A → Type 0
-  FitsNewRecord flags old new = satisfy (new_requirements flags old) new ≡ true
-
-  abbrev HaveSameKey : List Bool → RecordFields A → RecordFields A → Type 0
-  HaveSameKey flags one other = key_values flags one ≡ key_values flags other
-
-  -- A record over one with the fields of this kind
-  over_one : (kind : RecordKind) → ((value : Value A) → Fits kind false (Some value)) → (key : Bool) (below above : Option (Value A)) → Fits kind key below → Fits Keyed key above →
-      Fits kind key (field_over below above) × SameKey key (field_over below above) above
-  over_one kind takes true below (Some value) fit fit' = (fit', refl)
-  over_one kind takes true below None fit fit' = cc
-  over_one kind takes false below None fit fit' = (fit, refl)
-  over_one kind takes false below (Some value) fit fit' = (takes value, refl)
-
-  over : (kind : RecordKind) → ((value : Value A) → Fits kind false (Some value)) → (flags : List Bool) (below above : RecordFields A) → FitsRecord kind flags below → FitsRecord Keyed flags above →
-      FitsRecord kind flags (record_over below above) × HaveSameKey flags (record_over below above) above
-  over kind takes [] [] [] fit fit' = (refl, refl)
-  over kind takes (key ∷ flags) (b ∷ below) (a ∷ above) fit fit' =
-      let parts = and_parts _ _ fit in
-      let parts' = and_parts _ _ fit' in
-      let one = over_one kind takes key b a parts.0 parts'.0 in
-      let others = over kind takes flags below above parts.1 parts'.1 in
-      (and_from _ _ one.0 others.0, λ i. cons_option (one.1 i) (others.1 i))
-  over kind takes flags below above fit fit' = cc
+  over_key : (kind : RecordKind) (flags : List Bool) (below above : RecordFields A) → Fit kind flags below → Fit Keyed flags above → key_values flags (record_over below above) ≡ key_values flags above
+  over_key kind (key ∷ flags) (b ∷ below) (a ∷ above) fit fit' = grind (arith, over_key kind flags below above)
+  over_key kind flags below above fit fit' = grind arith
 
   -- the new record of an UPDATE over a row
-  new_over_one : (key : Bool) (below old above : Option (Value A)) → Fits Full key below → FitsNew key old above → Fits Full key (field_over below above) × SameKey key (field_over below above) below
-  new_over_one true below old None fit new = (fit, refl)
-  new_over_one true below old (Some value) fit new = cc
-  new_over_one false below old None fit new = (fit, refl)
-  new_over_one false below old (Some value) fit new = (refl, refl)
+  new_fits : (flags : List Bool) (below old above : RecordFields A) → Fit Full flags below → Fit Keyed flags old → FitNew flags old above → Fit Full flags (record_over below above)
+  new_fits (key ∷ flags) (b ∷ below) (o ∷ old) (a ∷ above) fit old_fit new = grind (arith, new_fits flags below old above)
+  new_fits flags below old above fit old_fit new = grind arith
 
-  new_over : (flags : List Bool) (below old above : RecordFields A) → FitsRecord Full flags below → FitsRecord Keyed flags old → FitsNewRecord flags old above →
-      FitsRecord Full flags (record_over below above) × HaveSameKey flags (record_over below above) below
-  new_over [] [] [] [] fit old_fit new = (refl, refl)
-  new_over (key ∷ flags) (b ∷ below) (o ∷ old) (a ∷ above) fit old_fit new =
-      let parts = and_parts _ _ fit in
-      let parts' = and_parts _ _ new in
-      let one = new_over_one key b o a parts.0 parts'.0 in
-      let others = new_over flags below old above parts.1 (and_parts _ _ old_fit).1 parts'.1 in
-      (and_from _ _ one.0 others.0, λ i. cons_option (one.1 i) (others.1 i))
-  new_over flags below old above fit old_fit new = cc
+  new_key : (flags : List Bool) (below old above : RecordFields A) → Fit Full flags below → Fit Keyed flags old → FitNew flags old above → key_values flags (record_over below above) ≡ key_values flags below
+  new_key (key ∷ flags) (b ∷ below) (o ∷ old) (a ∷ above) fit old_fit new = grind (arith, new_key flags below old above)
+  new_key flags below old above fit old_fit new = grind arith
 
-  -- the fields of two states of a row: a key field, or one that is defined in both or in neither
-  abbrev pub alike : Bool → Option (Value A) → Option (Value A) → Bool
-  alike true before after = satisfies required.Key before
-  alike false None None = true
-  alike false (Some before) (Some after) = true
-  alike false before after = false
+  over_each : (below above : RecordFields A) → AreFields below → AreFields above → AreFields (record_over below above)
+  over_each (b ∷ below) (a ∷ above) p q = grind (arith, over_each below above)
+  over_each below above p q = tt
 
-  abbrev pub are_alike : List Bool → RecordFields A → RecordFields A → Bool
+  over_values : (below above : RecordFields A) → AreValues below → AreValues above → AreValues (record_over below above)
+  over_values below above p q = values_of (record_over below above) (over_each below above (each_of below p) (each_of above q))
+
+  -- ---- the UPDATE from one state of a row to another
+
+  -- a field is defined in both states or in neither, and those of the key have a value
+  abbrev are_alike : List Bool → RecordFields A → RecordFields A → Bool
   are_alike [] [] [] = true
-  are_alike (key ∷ flags) (before ∷ befores) (after ∷ afters) = alike key before after && are_alike flags befores afters
-  are_alike flags befores afters = false
+  are_alike (key ∷ flags) (b ∷ before) (a ∷ after) = cond key (satisfies required.Key b) (beq (is_some b) (is_some a)) && are_alike flags before after
+  are_alike flags before after = false
 
-  rows_alike_one : (key : Bool) (before after : Option (Value A)) → Fits Full key before → Fits Full key after → alike key before after ≡ true
-  rows_alike_one true before after fit fit' = fit
-  rows_alike_one false (Some before) (Some after) fit fit' = refl
-  rows_alike_one false before after fit fit' = cc
+  rows_alike : (flags : List Bool) (before after : RecordFields A) → Fit Full flags before → Fit Full flags after → are_alike flags before after ≡ true
+  rows_alike (key ∷ flags) (b ∷ before) (a ∷ after) fit fit' = grind (arith, rows_alike flags before after)
+  rows_alike flags before after fit fit' = grind arith
 
-  rows_alike : (flags : List Bool) (befores afters : RecordFields A) → FitsRecord Full flags befores → FitsRecord Full flags afters → are_alike flags befores afters ≡ true
-  rows_alike [] [] [] fit fit' = refl
-  rows_alike (key ∷ flags) (before ∷ befores) (after ∷ afters) fit fit' =
-      let parts = and_parts _ _ fit in
-      let parts' = and_parts _ _ fit' in
-      and_from _ _ (rows_alike_one key before after parts.0 parts'.0) (rows_alike flags befores afters parts.1 parts'.1)
-  rows_alike flags befores afters fit fit' = cc
+  updates_alike : (flags : List Bool) (old new old' new' : RecordFields A) → Fit Keyed flags old → FitNew flags old new → Fit Keyed flags old' → FitNew flags old' new' → are_alike flags (record_over old' old) (record_over new new') ≡ true
+  updates_alike (key ∷ flags) (o ∷ old) (n ∷ new) (o' ∷ old') (n' ∷ new') fit fits fit' fits' = grind (arith, updates_alike flags old new old' new')
+  updates_alike flags old new old' new' fit fits fit' fits' = grind arith
 
-  updates_alike_one : (key : Bool) (old new old' new' : Option (Value A)) → Fits Keyed key old → FitsNew key old new → Fits Keyed key old' → FitsNew key old' new' →
-      (alike key (field_over old' old) (field_over new new') ≡ true) × SameKey key (field_over old' old) old
-  updates_alike_one true (Some old) new old' new' fit fits fit' fits' = (fit, refl)
-  updates_alike_one false None None None None fit fits fit' fits' = (refl, refl)
-  updates_alike_one false None None (Some c) (Some d) fit fits fit' fits' = (refl, refl)
-  updates_alike_one false (Some a) (Some b) None None fit fits fit' fits' = (refl, refl)
-  updates_alike_one false (Some a) (Some b) (Some c) (Some d) fit fits fit' fits' = (refl, refl)
-  updates_alike_one key old new old' new' fit fits fit' fits' = cc
+  between_fits : (flags : List Bool) (before after : RecordFields A) → are_alike flags before after ≡ true → Fit Keyed flags (by_column old_field flags before after)
+  between_fits (key ∷ flags) (b ∷ before) (a ∷ after) alike = grind (arith, between_fits flags before after)
+  between_fits flags before after alike = grind arith
 
-  updates_alike : (flags : List Bool) (old new old' new' : RecordFields A) → FitsRecord Keyed flags old → FitsNewRecord flags old new → FitsRecord Keyed flags old' → FitsNewRecord flags old' new' →
-      (are_alike flags (record_over old' old) (record_over new new') ≡ true) × HaveSameKey flags (record_over old' old) old
-  updates_alike [] [] [] [] [] fit fits fit' fits' = (refl, refl)
-  updates_alike (key ∷ flags) (o ∷ old) (n ∷ new) (o' ∷ old') (n' ∷ new') fit fits fit' fits' =
-      let one = updates_alike_one key o n o' n' (and_parts _ _ fit).0 (and_parts _ _ fits).0 (and_parts _ _ fit').0 (and_parts _ _ fits').0 in
-      let others = updates_alike flags old new old' new' (and_parts _ _ fit).1 (and_parts _ _ fits).1 (and_parts _ _ fit').1 (and_parts _ _ fits').1 in
-      (and_from _ _ one.0 others.0, λ i. cons_option (one.1 i) (others.1 i))
-  updates_alike flags old new old' new' fit fits fit' fits' = cc
+  between_new : (flags : List Bool) (before after : RecordFields A) → are_alike flags before after ≡ true → FitNew flags (by_column old_field flags before after) (by_column new_field flags before after)
+  between_new (key ∷ flags) (b ∷ before) (a ∷ after) alike = grind (arith, between_new flags before after)
+  between_new flags before after alike = grind arith
 
-  between_one : (key : Bool) (before after : Option (Value A)) → alike key before after ≡ true →
-      Fits Keyed key (old_field key before after) × FitsNew key (old_field key before after) (new_field key before after) × SameKey key (old_field key before after) before
-  between_one true before after fit = (fit, refl, refl)
-  between_one false None None fit = (refl, refl, refl)
-  between_one false (Some before) (Some after) fit =
-      elim (value_eq before after) as (λ same. let old : Option (Value A) = cond (not same) (Some before) None in Fits Keyed false old × FitsNew false old (cond (not same) (Some after) None) × SameKey false old (Some before)) [
-        | true ↦ (refl, refl, refl)
-        | false ↦ (refl, refl, refl)
-      ]
-  between_one key before after fit = cc
+  between_key : (flags : List Bool) (before after : RecordFields A) → are_alike flags before after ≡ true → key_values flags (by_column old_field flags before after) ≡ key_values flags before
+  between_key (key ∷ flags) (b ∷ before) (a ∷ after) alike = grind (arith, between_key flags before after)
+  between_key flags before after alike = grind arith
 
-  -- the UPDATE from one state of a row to another
-  between : (flags : List Bool) (befores afters : RecordFields A) → are_alike flags befores afters ≡ true →
-      let old = by_column old_field flags befores afters in FitsRecord Keyed flags old × FitsNewRecord flags old (by_column new_field flags befores afters) × HaveSameKey flags old befores
-  between [] [] [] fit = (refl, refl, refl)
-  between (key ∷ flags) (before ∷ befores) (after ∷ afters) fit =
-      let one = between_one key before after (and_parts _ _ fit).0 in
-      let others = between flags befores afters (and_parts _ _ fit).1 in
-      (and_from _ _ one.0 others.0, and_from _ _ one.1 others.1, λ i. cons_option (one.2 i) (others.2 i))
-  between flags befores afters fit = cc
+  side_each : (old : Bool) (flags : List Bool) (before after : RecordFields A) → AreFields before → AreFields after → AreFields (by_column (field_of old) flags before after)
+  side_each old (key ∷ flags) (b ∷ before) (a ∷ after) p q = grind (arith, side_each old flags before after)
+  side_each old flags before after p q = tt
 
-  -- a change fits, and is of the row with this key
-  abbrev pub IsOf : List Bool → Fields A → RowChange A → Type 0
-  IsOf flags key change = IsTrue (change_fits flags change) × (change_key flags change ≡ key)
+  abbrev StandsChange : List Bool → RowChange A → RowChange A → RowChange A → Type 0
+  StandsChange = Stands change_fits change_key HasValues
 
-  update_is_of : (flags : List Bool) (indirect : Bool) (befores afters : RecordFields A) → are_alike flags befores afters ≡ true → IfSome (update_between flags indirect befores afters) (IsOf flags (key_values flags befores))
-  update_is_of flags indirect befores afters fit =
-      let all = between flags befores afters fit in
-      if_some (IsOf flags (key_values flags befores)) (differ flags befores afters) _ (and_from _ _ all.0 all.1, all.2)
+  update_stands : (flags : List Bool) (indirect : Bool) (before after : RecordFields A) (present added : RowChange A) → are_alike flags before after ≡ true → key_values flags before ≡ change_key flags present →
+      (HasValues present → HasValues added → AreValues before × AreValues after) → IfSome (update_between flags indirect before after) (StandsChange flags present added)
+  update_stands flags indirect before after present added alike of values =
+      let side = λ (old : Bool) (p : AreValues before) (q : AreValues after). values_of _ (side_each old flags before after (each_of before p) (each_of after q)) in
+      if_some (StandsChange flags present added) (differ flags before after) _ (record {
+        fit = and_from _ _ (between_fits flags before after alike) (between_new flags before after alike);
+        keyed = λ same. between_key flags before after alike ∙ of;
+        values = λ p q. let v = values p q in (side true v.0 v.1, side false v.0 v.1);
+      })
 
-  pub combined_is_of : (flags : List Bool) (present added : RowChange A) → change_fits flags present ≡ true → change_fits flags added ≡ true → IfSome (combined flags present added) (IsOf flags (change_key flags present))
-  combined_is_of flags (changed.Insert indirect new) (changed.Update indirect' old' new') fit fit' = let parts = and_parts _ _ fit' in new_over flags new old' new' fit parts.0 parts.1
-  combined_is_of flags (changed.Insert indirect new) (changed.Delete indirect' old') fit fit' = tt
-  combined_is_of flags (changed.Update indirect old new) (changed.Update indirect' old' new') fit fit' =
-      let parts = and_parts _ _ fit in
-      let parts' = and_parts _ _ fit' in
-      let all = updates_alike flags old new old' new' parts.0 parts.1 parts'.0 parts'.1 in
-      subst (λ key. IfSome (update_between flags (indirect && indirect') (record_over old' old) (record_over new new')) (IsOf flags key)) all.1
-      (update_is_of flags (indirect && indirect') (record_over old' old) (record_over new new') all.0)
-  combined_is_of flags (changed.Update indirect old new) (changed.Delete indirect' old') fit fit' = over Full (λ value. refl) flags old' old fit' (and_parts _ _ fit).0
-  combined_is_of flags (changed.Delete indirect old) (changed.Insert indirect' new') fit fit' = update_is_of flags (indirect && indirect') old new' (rows_alike flags old new' fit fit')
-  combined_is_of flags present added fit fit' = (fit, refl)
+  -- ---- all changes
 
-  pub patches_combined_is_of : (flags : List Bool) (present added : Patch A) → patch_fits flags present ≡ true → patch_fits flags added ≡ true →
-      IfSome (patches_combined present added) (λ one. IsTrue (patch_fits flags one) × (patch_key flags added ≡ patch_key flags present → patch_key flags one ≡ patch_key flags present))
-  patches_combined_is_of flags (patched.Insert indirect new) (patched.Update indirect' new') fit fit' = let all = over Full (λ value. refl) flags new new' fit fit' in (all.0, λ same. all.1 ∙ same)
-  patches_combined_is_of flags (patched.Insert indirect new) (patched.Delete indirect' key') fit fit' = tt
-  patches_combined_is_of flags (patched.Update indirect new) (patched.Update indirect' new') fit fit' = let all = over Keyed (λ value. refl) flags new new' fit fit' in (all.0, λ same. all.1 ∙ same)
-  patches_combined_is_of flags (patched.Update indirect new) (patched.Delete indirect' key') fit fit' = (fit', λ same. same)
-  patches_combined_is_of flags (patched.Delete indirect key) (patched.Insert indirect' new') fit fit' = (full_keyed flags new' fit', λ same. same)
-  patches_combined_is_of flags present added fit fit' = (fit, λ same. refl)
+  pub combined_stand : (flags : List Bool) (present added : RowChange A) → change_fits flags present ≡ true → change_fits flags added ≡ true → IfSome (combined flags present added) (StandsChange flags present added)
+  combined_stand flags (changed.Insert indirect new) (changed.Update indirect' old' new') fit fit' =
+      let both = and_parts _ _ fit' in
+      record { fit = new_fits flags new old' new' fit both.0 both.1; keyed = λ same. new_key flags new old' new' fit both.0 both.1; values = λ p q. over_values new new' p q.1 }
+  combined_stand flags (changed.Insert indirect new) (changed.Delete indirect' old') fit fit' = tt
+  combined_stand flags (changed.Update indirect old new) (changed.Update indirect' old' new') fit fit' =
+      let both = and_parts _ _ fit in
+      let both' = and_parts _ _ fit' in
+      update_stands flags (indirect && indirect') (record_over old' old) (record_over new new') _ _ (updates_alike flags old new old' new' both.0 both.1 both'.0 both'.1) (over_key Keyed flags old' old both'.0 both.0)
+      (λ p q. (over_values old' old q.0 p.0, over_values new new' p.1 q.1))
+  combined_stand flags (changed.Update indirect old new) (changed.Delete indirect' old') fit fit' =
+      let keyed = (and_parts _ _ fit).0 in
+      record { fit = over_fits Full (λ value. refl) flags old' old fit' keyed; keyed = λ same. over_key Full flags old' old fit' keyed; values = λ p q. over_values old' old q p.0 }
+  combined_stand flags (changed.Delete indirect old) (changed.Insert indirect' new') fit fit' =
+      update_stands flags (indirect && indirect') old new' _ _ (rows_alike flags old new' fit fit') refl (λ p q. (p, q))
+  combined_stand flags present added fit fit' = record { fit = fit; keyed = λ same. refl; values = λ p q. p }
+
+  pub patches_stand : (flags : List Bool) (present added : Patch A) → patch_fits flags present ≡ true → patch_fits flags added ≡ true → IfSome (patches_combined present added) (Stands patch_fits patch_key PatchHasValues flags present added)
+  patches_stand flags (patched.Insert indirect new) (patched.Update indirect' new') fit fit' =
+      record { fit = over_fits Full (λ value. refl) flags new new' fit fit'; keyed = λ same. over_key Full flags new new' fit fit' ∙ same; values = over_values new new' }
+  patches_stand flags (patched.Insert indirect new) (patched.Delete indirect' key') fit fit' = tt
+  patches_stand flags (patched.Update indirect new) (patched.Update indirect' new') fit fit' =
+      record { fit = over_fits Keyed (λ value. refl) flags new new' fit fit'; keyed = λ same. over_key Keyed flags new new' fit fit' ∙ same; values = over_values new new' }
+  patches_stand flags (patched.Update indirect new) (patched.Delete indirect' key') fit fit' = record { fit = fit'; keyed = λ same. same; values = λ p q. q }
+  patches_stand flags (patched.Delete indirect key) (patched.Insert indirect' new') fit fit' = record { fit = full_keyed flags new' fit'; keyed = λ same. same; values = λ p q. q }
+  patches_stand flags present added fit fit' = record { fit = fit; keyed = λ same. refl; values = λ p q. p }
 
   pub changes_keep : KeepsKey change_fits change_key (combined {A = A})
-  changes_keep flags present added change fit fit' same made = subst (λ one. IfSome one (IsOf flags (change_key flags present))) made (combined_is_of flags present added fit fit')
+  changes_keep flags present added change fit fit' same made = let is = subst (λ one. IfSome one (StandsChange flags present added)) made (combined_stand flags present added fit fit') in (is.fit, is.keyed same)
 
   pub patches_keep : KeepsKey patch_fits patch_key (λ flags. patches_combined {A = A})
   patches_keep flags present added patch fit fit' same made =
-      let all = subst (λ one. IfSome one (λ patch. IsTrue (patch_fits flags patch) × (patch_key flags added ≡ patch_key flags present → patch_key flags patch ≡ patch_key flags present))) made (patches_combined_is_of flags present added fit fit') in
-      (all.0, all.1 same)
+      let is = subst (λ one. IfSome one (Stands patch_fits patch_key PatchHasValues flags present added)) made (patches_stand flags present added fit fit') in (is.fit, is.keyed same)
 
   pub combined-fits : (flags : List Bool) (present added : RowChange A) → change_fits flags present ≡ true → change_fits flags added ≡ true → IfSome (combined flags present added) (λ one. IsTrue (change_fits flags one))
-  combined-fits flags present added fit fit' = IfSome_then (combined flags present added) (combined_is_of flags present added fit fit') (λ one is. is.0)
+  combined-fits flags present added fit fit' = IfSome_then (combined flags present added) (combined_stand flags present added fit fit') (λ one is. is.fit)

@@ -72,10 +72,6 @@ module _ {A X : Type 0} (key : List Bool → X → Fields A) (combine : List Boo
         let rest = nowhere us d (λ k below. before (suc k) (omega arith)) in
         (rw (named_is u, other) rest.0, λ t same. rw (ap (bytes_eq (keyed u).table) same ∙ named_is u ∙ other) (ap (λ l. keyed u ∷ l) (rest.1 t same)))
 
-  -- changes that are appended are added
-  keyed_more : (group : TableEntries X) (more : List X) → keyed (record { table = group.table; schema = group.schema; changes = group.changes ++ more }) ≡ with_changes key combine (keyed group) more
-  keyed_more group more = fold-append (with_change key combine) (no_changes group.table group.schema) group.changes more
-
   -- a group is appended to the table at the place, or refused
   pub group_put : (place : ℕ) (tables : List (TableEntries X)) (i : ℕ) (d made group : TableEntries X) → position (named group.table) tables ≡ Some i → flags_eq (get_or tables i d).schema group.schema ≡ true →
       made ≡ record { table = (get_or tables i d).table; schema = (get_or tables i d).schema; changes = (get_or tables i d).changes ++ group.changes } →
@@ -86,7 +82,7 @@ module _ {A X : Type 0} (key : List Bool → X → Fields A) (combine : List Boo
       let here = at_place group.table tables i d found.0 found.1 found.2 in
       let table : (with_changes key combine (keyed first) group.changes).table ≡ group.table =
       kept_table (keyed first) group.changes ∙ kept_table (no_changes first.table first.schema) first.changes ∙ (bytes_eq-Decides first.table group.table).0 found.1 in
-      rw (here.0, kept_schema, same, here.1 (with_changes key combine (keyed first) group.changes) table, map-set) (ap (λ t. Ok (set (map keyed tables) i t)) (sym (ap keyed is ∙ keyed_more first group.changes)))
+      rw (here.0, kept_schema, same, here.1 (with_changes key combine (keyed first) group.changes) table, map-set) (ap (λ t. Ok (set (map keyed tables) i t)) (sym (ap keyed is ∙ fold-append (with_change key combine) (no_changes first.table first.schema) first.changes group.changes)))
 
   pub group_refused_at : (place : ℕ) (tables : List (TableEntries X)) (i : ℕ) (d group : TableEntries X) → position (named group.table) tables ≡ Some i → flags_eq (get_or tables i d).schema group.schema ≡ false →
       with_group key combine place (map keyed tables) group ≡ Err (OtherColumns place)
@@ -95,17 +91,11 @@ module _ {A X : Type 0} (key : List Bool → X → Fields A) (combine : List Boo
       rw ((at_place group.table tables i d found.0 found.1 found.2).0, kept_schema, other) refl
 
   -- the group of a table that is not there yet
-  pub group_new : (place : ℕ) (tables : List (KeyedChanges A X)) (group : TableEntries X) (after : KeyedChanges A X) → table_at tables group.table ≡ None → after ≡ with_changes key combine (no_changes group.table group.schema) group.changes →
-      ((t : KeyedChanges A X) → t.table ≡ group.table → with_table tables t ≡ tables ++ t ∷ []) → with_group key combine place tables group ≡ Ok (tables ++ after ∷ [])
-  group_new place tables group after at made push =
-      let none = no_changes group.table group.schema in
-      rw (at, flags_self, push (with_changes key combine none group.changes) (kept_table none group.changes), made) refl
-
   pub group_copied : (place : ℕ) (tables : List (TableEntries X)) (group : TableEntries X) → position (named group.table) tables ≡ None → with_group key combine place (map keyed tables) group ≡ Ok (map keyed (tables ++ group ∷ []))
   group_copied place tables group at =
       let all = ltb-false _ _ (only_none _ _ at) in
-      let none = nowhere group.table tables group (λ k within. fails_before_first (named group.table) tables k group (omega (arith, all))) in
-      rw map-append (group_new place (map keyed tables) group (keyed group) none.0 refl none.1)
+      let absent = nowhere group.table tables group (λ k within. fails_before_first (named group.table) tables k group (omega (arith, all))) in
+      rw (map-append, absent.0, flags_self, absent.1 (keyed group) (kept_table (no_changes group.table group.schema) group.changes)) refl
 
 -- the tables that have changes, with one more
 pub groups_more : {A X : Type 0} (f : TableEntries X → KeyedChanges A X) (tables : List (TableEntries X)) (i : ℕ) (t made : TableEntries X) → i < length tables → t ≡ get_or tables i t → made ≡ entries_of (f t) →

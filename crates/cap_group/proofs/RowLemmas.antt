@@ -1,5 +1,5 @@
 -- The change at each key of a table is what the changes of that key make together.
-use Rattle.std.proofs.Common.{◌≡◌, ℕ, Bool, true, false, cond, List, [], ◌∷◌, Option, Some, None, refl, ap, ◌∙◌}
+use Rattle.std.proofs.Common.{◌≡◌, arith, ℕ, Bool, cond, List, [], ◌∷◌, Option, Some, None, refl, ap, ◌∙◌}
 use Rattle.std.specs.Prelude.{fold}
 use Rattle.cap_row.specs.Fields.{Fields}
 use Rattle.cap_row.specs.Key.{fields_cmp, fields_cmp_total, fields_eq, fields_eq_decides}
@@ -24,14 +24,8 @@ module _ {A X : Type 0} (key : List Bool → X → Fields A) (combine : List Boo
       fold (change_after combine keyed.schema) (get fields_cmp (with_change key combine keyed x).changes q) later
       ≡ fold (change_after combine keyed.schema) (get fields_cmp keyed.changes q) (cond (fields_eq (key keyed.schema x) q) (x ∷ later) later)
   one_more keyed s q x later =
-      let k = key keyed.schema x in
-      let made = change_after combine keyed.schema (get fields_cmp keyed.changes k) x in
-      ap (λ o. fold (change_after combine keyed.schema) o later) (set_at keyed.changes s k q made)
-      ∙ elim (fields_eq k q) as (λ b. fields_eq k q ≡ b → fold (change_after combine keyed.schema) (cond b made (get fields_cmp keyed.changes q)) later
-      ≡ fold (change_after combine keyed.schema) (get fields_cmp keyed.changes q) (cond b (x ∷ later) later)) [
-        | true ↦ λ same. ap (λ (at : Fields A). fold (change_after combine keyed.schema) (change_after combine keyed.schema (get fields_cmp keyed.changes at) x) later) ((fields_eq_decides k q).0 same)
-        | false ↦ λ other. refl
-      ] refl
+      rw (set_at keyed.changes s (key keyed.schema x) q (change_after combine keyed.schema (get fields_cmp keyed.changes (key keyed.schema x)) x))
+      (grind (arith, fields_eq_decides (key keyed.schema x) q))
 
   row_from : (changes : List X) (keyed : KeyedChanges A X) → IsOrdered fields_cmp keyed.changes → (q : Fields A) →
       get fields_cmp (with_changes key combine keyed changes).changes q

@@ -25,9 +25,7 @@ use Rattle.cap_group.proofs.SortLemmas.{all_ordered}
 
 -- neither equal nor the other way round
 rises : (r : Ordering) → is_lt (ordering_reverse r) ≡ false → is_eq r ≡ false → r ≡ Less
-rises Less ordered other = refl
-rises Equal ordered other = cc
-rises Greater ordered other = cc
+rises r ordered other = grind arith
 
 module _ {A X : Type 0} where
   -- what the changes of a row are together, under its key

@@ -1,14 +1,15 @@
 -- Changes in the order of their keys make the table that they make in any order that keeps those of one row.
-use Rattle.std.proofs.Common.{◌≡◌, ℕ, Bool, true, false, not, ◌&&◌, cond, List, [], ◌∷◌, map, refl, ap, sym, ◌∙◌}
+use Rattle.std.proofs.Common.{◌≡◌, ℕ, Bool, true, false, not, ◌&&◌, cond, List, [], ◌∷◌, map, refl, ap, sym, ◌∙◌, arith}
 use Rattle.std.specs.Prelude.{Option, All, filter}
 use Rattle.std.specs.List.{AllByRecursion}
 use Rattle.std.specs.List.Sorted.{IsPermutation, IsStable, ties}
 use Rattle.std.specs.Ordering.{is_eq, is_lt, ordering_reverse}
 use Rattle.std.specs.declared.cmp.Ordering.{Ordering}
 use Rattle.std.specs.declared.cmp.Ordering.TheVariants.{Less, Equal, Greater}
-use Rattle.std.proofs.lemmas.List.{nil_from_length}
+use Rattle.std.proofs.lemmas.List.{map-id, nil_from_length}
 use Rattle.std.proofs.lemmas.List.Elements.{All-map, filter_agree, recursion_from_All}
 use Rattle.std.proofs.lemmas.List.Sorted.{All-permutation, length_permutation}
+use Rattle.std.proofs.lemmas.Simd.{map-map}
 use Rattle.cap_row.specs.Fields.{Fields}
 use Rattle.cap_row.specs.Key.{fields_cmp, fields_cmp_total, fields_cmp-Equal, fields_eq}
 use Rattle.cap_tree.specs.Tree.{IsOrdered, get}
@@ -23,13 +24,10 @@ use Rattle.cap_group.proofs.SameLemmas.{same_by_get}
 
 -- neither below the other: equal
 tie_is : (r : Ordering) → (not (is_lt (ordering_reverse r)) && not (is_lt r)) ≡ is_eq r
-tie_is Less = refl
-tie_is Equal = refl
-tie_is Greater = refl
+tie_is r = grind arith
 
 chosen : {X Y : Type 0} (f : X → Y) (b : Bool) (x : X) (xs : List X) → cond b (f x ∷ map f xs) (map f xs) ≡ map f (cond b (x ∷ xs) xs)
-chosen f true x xs = refl
-chosen f false x xs = refl
+chosen f b x xs = grind arith
 
 module _ {A X : Type 0} (key : List Bool → X → Fields A) where
   abbrev changes_at : List (Place A X) → List X
@@ -48,8 +46,7 @@ module _ {A X : Type 0} (key : List Bool → X → Fields A) where
       All-permutation (IsPlace key fits flags) _ ys (rw is at perm) (All-map (IsPlace key fits flags) (place_of key flags) changes (λ i d within. record { keyed = refl; fit = fit i d within }))
 
   places_back : (flags : List Bool) (changes : List X) → changes_at (map (place_of key flags) changes) ≡ changes
-  places_back flags [] = refl
-  places_back flags (x ∷ xs) = ap (λ l. x ∷ l) (places_back flags xs)
+  places_back flags changes = rw (map-map, map-id) refl
 
   row_of : (p : Place A X) (zs : List (Place A X)) →
       filter (ties (λ a b. is_lt (place_cmp a b)) p) zs ≡ filter (λ (z : Place A X). fields_eq z.key p.key) zs

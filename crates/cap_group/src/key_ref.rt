@@ -87,6 +87,7 @@ impl<'a, A: AllocHandle> KeyRef<'a, A> {
 }
 
 // The key flags up to the last column of the key.
+#[tactic(auto, using(crate::proofs::FieldLemmas::outside_key))]
 #[inline(always)]
 fn key_columns<A: AllocHandle>(flags: &[bool]) -> &[bool]
     ensures { (fields : RecordFields A) → key_values result.now fields ≡ key_values flags.now fields }

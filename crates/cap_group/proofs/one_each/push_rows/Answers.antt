@@ -15,7 +15,6 @@ loop-number-init g c =
     let p = c.index-places-0 in
     let lt : 0 < length c.args.places.now = grind (arith, nat_tests, c.is_empty.ensures, c.if-is_empty.false) in
     record {
-      some = omega arith;
       table = refl;
       schema = c.requires.columns;
       flags = rw (c.in_ok-add.ensures, c.new-row.ensures) refl;
@@ -33,16 +32,14 @@ loop-number-preserved g c =
     let tested : c.is_eq.result ≡ place_eq q.result p.result = c.is_eq.ensures ∙ ap is_eq c.order.ensures in
     elim c.if-not-is_eq.branch [
       | then-not-is_eq+in_ok-finish w ↦ rw (c.in_ok-add-2.ensures, w.group-is, w.row-is, w.in_ok-finish.ensures.group, w.in_ok-finish.ensures.row, c.change-in-loop-number.ensures) (record {
-        some = omega arith;
         table = c.loop-number.invariant.table;
         schema = c.loop-number.invariant.schema;
         flags = c.loop-number.invariant.flags;
         put = λ d. rw (less, get_or_default c.args.places.now n d p.result c.loop-number-test.true, ← p.is)
             (put_other g.C.Entry.fits_in g.C.Combine.key g.C.Combine.combined c.args.group.now.table c.args.flags.now c.args.places.now c.keeps_key.ensures c.requires.each n p.result c.loop-number-test.true p.is
-            q.result c.loop-number.group.changes c.loop-number.row.change q.is (omega (arith, c.loop-number.invariant.some)) c.requires.sorted (sym tested ∙ grind (arith, w.if-not-is_eq.true)) before);
+            q.result c.loop-number.group.changes c.loop-number.row.change q.is (omega (arith, c.loop-number.auto.number)) c.requires.sorted (sym tested ∙ grind (arith, w.if-not-is_eq.true)) before);
       })
       | else-not-is_eq w ↦ rw (c.in_ok-add-2.ensures, w.group-is, w.row-is, c.change-in-loop-number.ensures, c.loop-number.invariant.flags) (record {
-        some = omega arith;
         table = c.loop-number.invariant.table;
         schema = c.loop-number.invariant.schema;
         flags = refl;

@@ -1,11 +1,10 @@
-use Rattle.std.proofs.Common.{◌≡◌, ◌≤◌, ◌-◌, get_or}
+use Rattle.std.proofs.Common.{◌≡◌, ◌-◌, get_or}
 use Rattle.cap_group.specs.Place.{Place}
 use Rattle.cap_group.proofs.RunLemmas.{IsPut}
 use Rattle.cap_group.proofs.one_each.push_rows.Given as goal
 
 abbrev pub invariant-loop-number : goal.invariant-loop-number
 invariant-loop-number g l = record {
-  some : 1 ≤ l.number;
   table : l.group.table ≡ l.fn.group.table;
   schema : l.group.schema ≡ l.flags;
   flags : l.row.flags ≡ l.flags;

@@ -1,20 +1,18 @@
 use Rattle.std.proofs.Common.{drop, inl, inr}
-use Rattle.cap_changes.proofs.PutLemmas.{first_ends, second_ends}
-use Rattle.cap_group.specs.Record.{field_of}
-use Rattle.cap_group.proofs.FieldLemmas.{column_put, differ_ends}
+use Rattle.cap_group.proofs.FieldLemmas.{column_put, columns_end}
 use Rattle.cap_group.proofs.record.push_fields.Goals as goal
 
 pub returns-in_default : goal.returns-in_default
-returns-in_default g c = record {
-  bytes = second_ends (field_of c.args.old) (drop c.loop-key.key-index c.args.flags.now) c.loop-key.before c.loop-key.after c.loop-key.out.items _ c.in_default.ensures'.0 c.loop-key.invariant.bytes;
-  some = differ_ends (drop c.loop-key.key-index c.args.flags.now) c.loop-key.before c.loop-key.after c.loop-key.some _ (inr c.in_default.ensures'.0) c.loop-key.invariant.some;
-}
+returns-in_default g c =
+    let i = c.loop-key.invariant in
+    let ends = columns_end c.args.old (drop c.loop-key.key-index c.args.flags.now) c.loop-key.before c.loop-key.after c.loop-key.out.items _ c.loop-key.some _ (inr c.in_default.ensures'.0) i.bytes i.some in
+    record { bytes = ends.0; some = ends.1 }
 
 pub returns-in_default-2 : goal.returns-in_default-2
-returns-in_default-2 g c = record {
-  bytes = first_ends (field_of c.args.old) (drop c.loop-key.key-index c.args.flags.now) c.loop-key.before c.loop-key.after c.loop-key.out.items _ c.in_default.ensures.0 c.loop-key.invariant.bytes;
-  some = differ_ends (drop c.loop-key.key-index c.args.flags.now) c.loop-key.before c.loop-key.after c.loop-key.some _ (inl c.in_default.ensures.0) c.loop-key.invariant.some;
-}
+returns-in_default-2 g c =
+    let i = c.loop-key.invariant in
+    let ends = columns_end c.args.old (drop c.loop-key.key-index c.args.flags.now) c.loop-key.before c.loop-key.after c.loop-key.out.items _ c.loop-key.some _ (inl c.in_default.ensures.0) i.bytes i.some in
+    record { bytes = ends.0; some = ends.1 }
 
 pub loop-key-preserved : goal.loop-key-preserved
 loop-key-preserved g c =
