@@ -1,14 +1,13 @@
 -- Two changes of one row, each between two of its states, are together the change from the first to the last.
-use Rattle.std.proofs.Common.{◌≡◌, List, [], ◌∷◌, length, map, Bool, true, false, not, ◌&&◌, ◌||◌, Option, Some, None, cond, ◌⊎◌, inl, inr, refl, ap, sym, subst, ◌∙◌}
+use Rattle.std.proofs.Common.{◌≡◌, List, [], ◌∷◌, length, map, Bool, true, false, not, ◌&&◌, Option, Some, None, cond, ◌⊎◌, inl, inr, refl, ap, sym, subst, ◌∙◌, arith}
 use Rattle.std.specs.Prelude.{fold}
 use Rattle.std.specs.List.{AllByRecursion, list_any}
-use Rattle.std.specs.Cmp.{tied_then}
 use Rattle.std.proofs.lemmas.Bool.{cases_Bool}
 use Rattle.std.proofs.lemmas.Simd.{map-map}
 use Rattle.cap_value.specs.declared.value.Value.{Value}
-use Rattle.cap_value.specs.Value.{value_cmp, value_eq, value_eq_decides}
+use Rattle.cap_value.specs.Value.{value_eq_decides}
 use Rattle.cap_row.specs.Fields.{Fields}
-use Rattle.cap_row.specs.Key.{fields_cmp, fields_eq, fields_eq_decides, key_fields}
+use Rattle.cap_row.specs.Key.{fields_eq, fields_eq_decides, key_fields}
 use Rattle.cap_changes.specs.Column.{by_column}
 use Rattle.cap_changes.specs.Change as touched
 use Rattle.cap_changes.specs.Change.{change_of, full_record}
@@ -16,31 +15,19 @@ use Rattle.cap_changes.specs.FieldRecord.{RecordFields}
 use Rattle.cap_changes.specs.declared.row_change.RowChange.{RowChange}
 use Rattle.cap_changes.specs.declared.row_change.RowChange.TheVariants.{Insert, Update, Delete}
 use Rattle.std.specs.Option.{ForSome}
-use Rattle.cap_changes.proofs.ChangeLemmas.{same_first}
 use Rattle.cap_group.specs.Combined.{combined}
 use Rattle.cap_group.specs.Rows.{Follow, IsRowUnder, is_indirect, together}
 use Rattle.cap_group.specs.KeyedChanges.{change_after}
-use Rattle.cap_group.specs.Record.{record_over, field_over, old_field, new_field, is_modified, update_between}
-
-not_both : (x y : Bool) → (not x || not y) ≡ not (x && y)
-not_both true y = refl
-not_both false y = refl
+use Rattle.cap_group.specs.Record.{record_over, old_field, new_field, is_modified, update_between}
 
 chosen : {X : Type 0} (same : Bool) (x : X) → cond (not same) (Some x) None ≡ cond same None (Some x)
-chosen true x = refl
-chosen false x = refl
+chosen same x = grind arith
 
 -- the old field of a column, the new one, and whether it is modified
 abbrev Column : Type 0 → Type 0
 Column A = Option (Value A) × Option (Value A) × Bool
 
 module _ {A : Type 0} where
-  value_same : (a b : Value A) → a ≡ b → value_eq a b ≡ true
-  value_same a b e = (value_eq_decides a b).1 e
-
-  value_is : (a b : Value A) → value_eq a b ≡ true → a ≡ b
-  value_is a b e = (value_eq_decides a b).0 e
-
   -- ---- an UPDATE, column by column
 
   -- by the fields of two records, and by the values of two rows
@@ -53,23 +40,11 @@ module _ {A : Type 0} where
   abbrev update_of : Bool → List (Column A) → Option (RowChange A)
   update_of indirect columns = cond (list_any (λ b. b) (map (λ (c : Column A). c.2) columns)) (Some (Update indirect (map (λ (c : Column A). c.0) columns) (map (λ (c : Column A). c.1) columns))) None
 
-  -- a column outside the key, with its values in three states
-  two_updates : (a b c : Value A) (x y : Bool) → value_eq a b ≡ x → value_eq b c ≡ y →
-      of_fields false (field_over (cond (not y) (Some b) None) (cond (not x) (Some a) None)) (field_over (cond (not x) (Some b) None) (cond (not y) (Some c) None)) ≡ of_values false a c
-  two_updates a b c true true p q = rw (value_same a c (value_is a b p ∙ value_is b c q)) refl
-  two_updates a b c true false p q = ap (λ (v : Value A). of_values false v c) (sym (value_is a b p))
-  two_updates a b c false true p q = ap (λ (v : Value A). of_values false a v) (value_is b c q)
-  two_updates a b c false false p q = refl
-
   -- rows of one key differ where a column is modified
   differs : (flags : List Bool) (image now : Fields A) → length image ≡ length flags → length now ≡ length flags → key_fields flags image ≡ key_fields flags now →
       list_any (λ b. b) (by_column touched.is_modified flags image now) ≡ not (fields_eq image now)
   differs [] [] [] wide wide' keys = refl
-  differs (true ∷ flags) (a ∷ image) (c ∷ now) wide wide' keys =
-      let firsts : (a ≡ c) × (key_fields flags image ≡ key_fields flags now) = same_first keys in
-      rw (← tied_then (value_cmp a c) (fields_cmp image now), value_same a c firsts.0) (differs flags image now (cc) (cc) firsts.1)
-  differs (false ∷ flags) (a ∷ image) (c ∷ now) wide wide' keys =
-      rw (← tied_then (value_cmp a c) (fields_cmp image now), differs flags image now (cc) (cc) keys) (not_both (value_eq a c) (fields_eq image now))
+  differs (key ∷ flags) (a ∷ image) (c ∷ now) wide wide' keys = grind (arith, value_eq_decides a c, differs flags image now)
   differs flags image now wide wide' keys = cc
 
   -- what two records say of the step from one row to another
@@ -81,44 +56,28 @@ module _ {A : Type 0} where
 
   -- a DELETE and an INSERT
   delete_insert : (flags : List Bool) (image now : Fields A) → by_column of_fields flags (full_record image) (full_record now) ≡ by_column of_values flags image now
-  delete_insert [] image now = refl
-  delete_insert (key ∷ flags) [] now = refl
-  delete_insert (key ∷ flags) (a ∷ image) [] = refl
   delete_insert (key ∷ flags) (a ∷ image) (c ∷ now) = ap (λ (l : List (Column A)). of_values key a c ∷ l) (delete_insert flags image now)
+  delete_insert flags image now = grind arith
 
   -- two UPDATEs
   update_update : (flags : List Bool) (image row now : Fields A) → length image ≡ length flags → length row ≡ length flags → length now ≡ length flags →
       by_column of_fields flags (record_over (by_column touched.old_field flags row now) (by_column touched.old_field flags image row))
       (record_over (by_column touched.new_field flags image row) (by_column touched.new_field flags row now)) ≡ by_column of_values flags image now
-  update_update [] [] [] [] w w' w'' = refl
-  update_update (true ∷ flags) (a ∷ image) (b ∷ row) (c ∷ now) w w' w'' = ap (λ (l : List (Column A)). of_values true a c ∷ l) (update_update flags image row now (cc) (cc) (cc))
-  update_update (false ∷ flags) (a ∷ image) (b ∷ row) (c ∷ now) w w' w'' =
-      λ i. two_updates a b c (value_eq a b) (value_eq b c) refl refl i ∷ update_update flags image row now (cc) (cc) (cc) i
-  update_update flags image row now w w' w'' = cc
-
-  -- a field that is defined where it differs, over the value below it
-  over_same : (b c : Value A) (same : Bool) → (same ≡ true → b ≡ c) → field_over (Some b) (cond (not same) (Some c) None) ≡ Some c
-  over_same b c true is = ap Some (is refl)
-  over_same b c false is = refl
+  update_update (key ∷ flags) (a ∷ image) (b ∷ row) (c ∷ now) w w' w'' = grind (arith, value_eq_decides a b, value_eq_decides b c, value_eq_decides a c, update_update flags image row now)
+  update_update flags image row now w w' w'' = grind arith
 
   -- an UPDATE over a row
   insert_update : (flags : List Bool) (row now : Fields A) → length row ≡ length flags → length now ≡ length flags → key_fields flags row ≡ key_fields flags now →
       record_over (full_record row) (by_column touched.new_field flags row now) ≡ full_record now
   insert_update [] [] [] wide wide' keys = refl
-  insert_update (true ∷ flags) (b ∷ row) (c ∷ now) wide wide' keys =
-      let firsts : (b ≡ c) × (key_fields flags row ≡ key_fields flags now) = same_first keys in
-      λ i. Some (firsts.0 i) ∷ insert_update flags row now (cc) (cc) firsts.1 i
-  insert_update (false ∷ flags) (b ∷ row) (c ∷ now) wide wide' keys =
-      λ i. over_same b c (value_eq b c) (value_is b c) i ∷ insert_update flags row now (cc) (cc) keys i
+  insert_update (key ∷ flags) (b ∷ row) (c ∷ now) wide wide' keys = grind (arith, value_eq_decides b c, insert_update flags row now)
   insert_update flags row now wide wide' keys = cc
 
   -- the old values of an UPDATE over the row that is deleted
   update_delete : (flags : List Bool) (image row : Fields A) → length image ≡ length flags → length row ≡ length flags →
       record_over (full_record row) (by_column touched.old_field flags image row) ≡ full_record image
   update_delete [] [] [] wide wide' = refl
-  update_delete (true ∷ flags) (a ∷ image) (b ∷ row) wide wide' = ap (λ (r : RecordFields A). Some a ∷ r) (update_delete flags image row (cc) (cc))
-  update_delete (false ∷ flags) (a ∷ image) (b ∷ row) wide wide' =
-      λ i. over_same b a (value_eq a b) (λ e. sym (value_is a b e)) i ∷ update_delete flags image row (cc) (cc) i
+  update_delete (key ∷ flags) (a ∷ image) (b ∷ row) wide wide' = grind (arith, value_eq_decides a b, update_delete flags image row)
   update_delete flags image row wide wide' = cc
 
   -- ---- one change after another
@@ -142,9 +101,7 @@ module _ {A : Type 0} where
     flag_of_both m m' (Some present) = m && m'
 
     same_flag : (m m' : Bool) (o : Option (RowChange A)) → m' ≡ m → flag_of_both m m' o ≡ m
-    same_flag m m' None same = same
-    same_flag true m' (Some present) same = same
-    same_flag false m' (Some present) same = refl
+    same_flag m m' o same = grind arith
 
     module _ (m m' : Bool) (key : Fields A) (added : RowChange A) where
       step : (first next last : Option (Fields A)) → ForSome first (IsRowUnder flags key) → ForSome next (IsRowUnder flags key) → ForSome last (IsRowUnder flags key) → change_of flags m' next last ≡ Some added →
