@@ -41,13 +41,6 @@ before_rest bytes front rest parts = subst (λ (all : List ℕ). take (length al
 pub no_more_behind : (bytes front rest : List ℕ) → bytes ≡ front ++ rest → length rest ≤ length bytes
 no_more_behind bytes front rest parts = omega (arith, ap length parts, length-append front rest)
 
--- how many elements there are, by what is left behind so many
-pub counted : {X : Type 0} (xs rest : List X) (i : ℕ) → rest ≡ drop i xs → i ≤ length xs → rest ≡ [] → i ≡ length xs
-counted xs rest i left le none = let e : length (drop i xs) ≡ 0 = ap length (sym left ∙ none) in omega (arith, e, length-drop i xs)
-
-pub one_more : {X : Type 0} (xs rest ys : List X) (x : X) (i : ℕ) → rest ≡ drop i xs → rest ≡ x ∷ ys → i + 1 ≤ length xs
-one_more xs rest ys x i left first = let e : length (drop i xs) ≡ suc (length ys) = ap length (sym left ∙ first) in omega (arith, e, length-drop i xs)
-
 module _ {A : Type 0} where
   pub some_bytes : (value : Value A) → 0 < length (value_bytes value)
   some_bytes Null = omega arith
