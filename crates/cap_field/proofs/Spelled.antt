@@ -9,7 +9,7 @@ use Rattle.std.proofs.lemmas.Bool.Decides.{nat_tests}
 use Rattle.std.proofs.lemmas.Int.{of_z-to_z}
 use Rattle.std.proofs.lemmas.List.{length-take-le}
 use Rattle.std.proofs.lemmas.Nat.{be_bytes_8}
-use Rattle.std.proofs.lemmas.Str.{IsUtf8-from_is_utf8}
+use Rattle.std.proofs.lemmas.Str.{IsUtf8-from_is_utf8, is_utf8-from_IsUtf8}
 use Rattle.byteorder.specs.Endian.{big_bytes}
 use borrow.Author.Gap.{read_sfits}
 use Rattle.cap_value.specs.Bytes.{AreBytes}
@@ -127,6 +127,8 @@ number_spelled total bytes x low e =
     (read_sfits w64 (from_be_bytes w64 read.0.0), parts.0 ∙ ap (λ (r : List ℕ). r ++ read.0.1) (sym (number_is_of read.0.0 parts.1 low')))
 
 -- ---- texts and blobs
+
+pub ruleset utf8 = (IsUtf8-from_is_utf8, is_utf8-from_IsUtf8)
 
 -- at most so many bytes, of a text or a blob
 abbrev IsSized : List ℕ → List ℕ × List ℕ → Type 0

@@ -85,6 +85,7 @@ fn take_groups(total: usize, bytes: &[u8]) -> Result<(usize, &[u8]), BlobFault>
 }
 
 /// The bytes as a text, `None` where they are not UTF-8.
+#[tactic(auto, using(crate::proofs::Spelled::utf8))]
 pub fn text_in(bytes: &[u8]) -> Option<&str>
     ensures { option_map (λ text. text.now) result ≡ text_of bytes.now }
 {

@@ -31,7 +31,7 @@ fn stored_sized(bytes: &[u8]) -> (&[u8], &[u8])
     rest.split_at(count)
 }
 
-#[tactic(auto, unfolding(crate::specs::FieldReading::text_at))]
+#[tactic(auto, using(crate::proofs::Spelled::utf8), unfolding(crate::specs::FieldReading::text_at))]
 #[inline(always)]
 fn stored_text(bytes: &[u8]) -> (&str, &[u8])
     requires { IsOk (text_at 0 0 bytes.now) }
