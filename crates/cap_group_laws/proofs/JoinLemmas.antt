@@ -83,18 +83,6 @@ module _ {A : Type 0} where
   -- ---- one change after another
 
   module _ (flags : List Bool) where
-    abbrev update_from : Bool → Fields A → Fields A → RowChange A
-    update_from indirect image now = Update indirect (by_column touched.old_field flags image now) (by_column touched.new_field flags image now)
-
-    -- the rows are the same, or their change is an UPDATE
-    same_or_update : (indirect : Bool) (image now : Fields A) →
-        ((image ≡ now) × (change_of flags indirect (Some image) (Some now) ≡ None)) ⊎ (change_of flags indirect (Some image) (Some now) ≡ Some (update_from indirect image now))
-    same_or_update indirect image now =
-        elim (cases_Bool (fields_eq image now)) [
-          | inl same ↦ inl ((fields_eq_decides image now).0 same, rw same refl)
-          | inr other ↦ inr (rw other refl)
-        ]
-
     -- the flag of two changes, where the first step has a change or has none
     abbrev flag_of_both : Bool → Bool → Option (RowChange A) → Bool
     flag_of_both m m' None = m'
@@ -108,36 +96,19 @@ module _ {A : Type 0} where
           change_after combined flags (change_of flags m first next) added ≡ change_of flags (flag_of_both m m' (change_of flags m first next)) first last
       step first None None f h h' is = absurd cc
       step None None (Some now) f h h' is = sym is
-      step None (Some row) None f h h' is = let is : added ≡ Delete m' (full_record row) = cc in rw is refl
+      step None (Some row) None f h h' is = grind arith
       step None (Some row) (Some now) f h h' is =
-          elim (same_or_update m' row now) [
-            | inl same ↦ absurd (cc (same.1, is))
-            | inr update ↦
-                let is : added ≡ update_from m' row now = cc (update, is) in
-                rw (is, insert_update flags row now (h row refl).wide (h' now refl).wide ((h row refl).under ∙ sym (h' now refl).under)) refl
-          ]
+          let over = insert_update flags row now (h row refl).wide (h' now refl).wide ((h row refl).under ∙ sym (h' now refl).under) in grind (arith, over)
       step (Some image) None (Some now) f h h' is =
-          let is : added ≡ Insert m' (full_record now) = cc in
-          rw is (said flags (m && m') _ _ image now (f image refl).wide (h' now refl).wide ((f image refl).under ∙ sym (h' now refl).under) (delete_insert flags image now))
-      step (Some image) (Some row) last f h h' is =
-          elim (same_or_update m image row) [
-            | inl same ↦ rw (same.1, same.0) (sym is)
-            | inr update ↦ rw update (from_update image row last (f image refl) (h row refl) h' is)
-          ]
-        where
-          from_update : (image row : Fields A) (last : Option (Fields A)) → IsRowUnder flags key image → IsRowUnder flags key row → ForSome last (IsRowUnder flags key) → change_of flags m' (Some row) last ≡ Some added →
-              combined flags (update_from m image row) added ≡ change_of flags (m && m') (Some image) last
-          from_update image row None f h h' is =
-              let is : added ≡ Delete m' (full_record row) = cc in
-              rw (is, update_delete flags image row f.wide h.wide) refl
-          from_update image row (Some now) f h h' is =
-              elim (same_or_update m' row now) [
-                | inl same ↦ absurd (cc (same.1, is))
-                | inr update ↦
-                    let is : added ≡ update_from m' row now = cc (update, is) in
-                    let end = h' now refl in
-                    rw is (said flags (m && m') _ _ image now f.wide end.wide (f.under ∙ sym end.under) (update_update flags image row now f.wide h.wide end.wide))
-              ]
+          let whole = said flags (m && m') (full_record image) (full_record now) image now (f image refl).wide (h' now refl).wide ((f image refl).under ∙ sym (h' now refl).under) (delete_insert flags image now) in
+          grind (arith, whole)
+      step (Some image) (Some row) None f h h' is =
+          let over = update_delete flags image row (f image refl).wide (h row refl).wide in grind (arith, over, fields_eq_decides image row)
+      step (Some image) (Some row) (Some now) f h h' is =
+          let old : RecordFields A = record_over (by_column touched.old_field flags row now) (by_column touched.old_field flags image row) in
+          let new : RecordFields A = record_over (by_column touched.new_field flags image row) (by_column touched.new_field flags row now) in
+          let whole = said flags (m && m') old new image now (f image refl).wide (h' now refl).wide ((f image refl).under ∙ sym (h' now refl).under) (update_update flags image row now (f image refl).wide (h row refl).wide (h' now refl).wide) in
+          grind (arith, whole, fields_eq_decides image row)
 
   none_yet : (flags : List Bool) (m : Bool) (row : Option (Fields A)) → change_of flags m row row ≡ None
   none_yet flags m None = refl
