@@ -1,5 +1,5 @@
 -- Two records of one row, field by field, by the bytes of their fields.
-use Rattle.std.proofs.Common.{◌≡◌, ℕ, ◌+◌, ◌<◌, List, [], ◌∷◌, ◌++◌, Bool, true, false, not, ◌&&◌, ◌||◌, cond, length, drop, get_or, Option, Some, None, IfSome, ◌⊎◌, inl, inr, refl, sym, ap, ◌∙◌, append_assoc, append-nil, arith}
+use Rattle.std.proofs.Common.{◌≡◌, ℕ, ◌+◌, ◌<◌, List, [], ◌∷◌, ◌++◌, Bool, true, false, not, ◌&&◌, ◌||◌, cond, length, drop, get_or, Option, Some, IfSome, ◌⊎◌, inl, inr, refl, sym, ap, ◌∙◌, append_assoc, append-nil, arith}
 use Rattle.std.proofs.Math.Bool.{or_assoc, or-false}
 use Rattle.std.proofs.lemmas.List.{drop_more}
 use Rattle.cap_value.specs.Bytes.{bytes_eq}
@@ -39,8 +39,7 @@ module _ {A : Type 0} where
   -- the field of a column, in the old record or in the new one
   piece_is : (old key : Bool) (b a : Option (Value A)) → field_bytes (together.field_of old key b a)
       ≡ cond ((old && key) || together.is_modified key b a) (cond old (field_bytes b) (field_bytes a)) (0 ∷ [])
-  piece_is true key b a = sym (choose (key || together.is_modified key b a) b)
-  piece_is false key b a = sym (choose (together.is_modified key b a) a)
+  piece_is old key b a = grind arith
 
   module _ (old : Bool) (flags : List Bool) (i : ℕ) (before befores after afters : RecordFields A) (was is : List ℕ) (modified : Bool) (within : i < length flags)
       (begins : BeginsWithField before was befores) (begins' : BeginsWithField after is afters) (test : modified ≡ (not (get_or flags i false) && not (bytes_eq was is))) where

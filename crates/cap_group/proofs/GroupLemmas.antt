@@ -29,8 +29,7 @@ flags_self : (a : List Bool) → flags_eq a a ≡ true
 flags_self a = (slice_eq-Decides booleans_Decides a a (flags_eq a a) refl).1 refl
 
 only_none : {X : Type 0} (b : Bool) (x : X) → cond b (Some x) None ≡ None → b ≡ false
-only_none true x e = cc
-only_none false x e = refl
+only_none b x e = grind arith
 
 module _ {A X : Type 0} (key : List Bool → X → Fields A) (combine : List Bool → X → X → Option X) where
   pub kept_names : (keyed : KeyedChanges A X) (changes : List X) → with_changes key combine keyed changes ≡ record keyed { changes = (with_changes key combine keyed changes).changes }
@@ -107,9 +106,7 @@ groups_more f tables i t made within is made_is =
 -- what follows from a call that left this
 pub leaves_then : {X Y E : Type 0} (result : Result (Unit {0}) (Fault E)) (answer : Result X E) (x : X) (f : X → Y) → LeavesUnlessMemory result answer x →
     LeavesUnlessMemory result (and_then answer (λ t. Ok (f t))) (f x)
-leaves_then (Ok u) answer x f is = ap (λ (r : Result _ _). and_then r (λ t. Ok (f t))) is
-leaves_then (Err (Refused why)) answer x f is = ap (λ (r : Result _ _). and_then r (λ t. Ok (f t))) is
-leaves_then (Err OutOfMemory) answer x f is = tt
+leaves_then result answer x f is = grind arith
 
 -- what comes first was refused, and the whole is then, or memory is out
 pub leaves_whole : {X E : Type 0} (fault : Fault E) (one whole : Result X E) (x y : X) → LeavesUnlessMemory {X = Unit {0}} (Err fault) one x →

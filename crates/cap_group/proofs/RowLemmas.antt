@@ -1,5 +1,5 @@
 -- The change at each key of a table is what the changes of that key make together.
-use Rattle.std.proofs.Common.{◌≡◌, arith, ℕ, Bool, cond, List, [], ◌∷◌, Option, Some, None, refl, ap, ◌∙◌}
+use Rattle.std.proofs.Common.{◌≡◌, arith, ℕ, Bool, cond, List, [], ◌∷◌, Option, Some, None, refl, ◌∙◌}
 use Rattle.std.specs.Prelude.{fold}
 use Rattle.cap_row.specs.Fields.{Fields}
 use Rattle.cap_row.specs.Key.{fields_cmp, fields_cmp_total, fields_eq, fields_eq_decides}
