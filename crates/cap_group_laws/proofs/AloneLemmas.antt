@@ -60,20 +60,17 @@ module _ {A X : Type 0} (key : List Bool → X → Fields A) (combine : List Boo
   unfolding IsDistinct
   taken place [] done others apart = ap (λ gs. Ok (map alone gs)) (sym (append-nil done))
   taken place (g ∷ gs) done others apart =
-      elim (cases_Bool (has_some g.changes)) [
-        | inl some_here ↦
-            rw (some_here, group_copied key combine place done g others.0)
-            (taken (place + 1) gs (done ++ g ∷ []) (apart_more done g gs others.1 apart.0) apart.1 ∙ ap (λ ts. Ok (map alone ts)) (append_assoc done (g ∷ []) (some gs)))
-        | inr none ↦ rw none (taken (place + 1) gs done others.1 apart.1)
-      ]
+      let copied = group_copied key combine place done g others.0 in
+      let with_it = taken (place + 1) gs (done ++ g ∷ []) (apart_more done g gs others.1 apart.0) apart.1 in
+      let without = taken (place + 1) gs done others.1 apart.1 in
+      grind (arith, append_assoc, copied, with_it, without)
 
   back : (groups : List (TableEntries X)) → AllByRecursion (λ group. IsStrictlySortedBy fields_cmp (map (key group.schema) group.changes)) groups → groups_of (map alone (some groups)) ≡ some groups
   back [] rise = refl
   back (g ∷ gs) rise =
-      elim (cases_Bool (has_some g.changes)) [
-        | inl is ↦ rw is (ap (λ (e : TableEntries X). some (e ∷ map entries_of (map alone (some gs)))) (alone_is g rise.0) ∙ rw (is, back gs rise.1) refl)
-        | inr none ↦ rw none (back gs rise.1)
-      ]
+      let here = alone_is g rise.0 in
+      let others = back gs rise.1 in
+      grind (arith, here, others)
 
   module _ (groups : List (TableEntries X)) (one : HasOneForEachRow key groups) where
     pub taken_alone : with_groups key combine 0 [] groups ≡ Ok (map alone (some groups))

@@ -20,9 +20,6 @@ use Rattle.cap_group.specs.Rows.{Follow, IsRowUnder, is_indirect, together}
 use Rattle.cap_group.specs.KeyedChanges.{change_after}
 use Rattle.cap_group.specs.Record.{record_over, old_field, new_field, is_modified, update_between}
 
-chosen : {X : Type 0} (same : Bool) (x : X) → cond (not same) (Some x) None ≡ cond same None (Some x)
-chosen same x = grind arith
-
 -- the old field of a column, the new one, and whether it is modified
 abbrev Column : Type 0 → Type 0
 Column A = Option (Value A) × Option (Value A) × Bool
@@ -52,7 +49,7 @@ module _ {A : Type 0} where
       by_column of_fields flags before after ≡ by_column of_values flags image now → update_between flags indirect before after ≡ change_of flags indirect (Some image) (Some now)
   said flags indirect before after image now wide wide' keys says =
       (simp map-map at (ap (update_of indirect) says))
-      ∙ rw (differs flags image now wide wide' keys) (chosen (fields_eq image now) (Update indirect (by_column touched.old_field flags image now) (by_column touched.new_field flags image now)))
+      ∙ rw (differs flags image now wide wide' keys) (grind arith)
 
   -- a DELETE and an INSERT
   delete_insert : (flags : List Bool) (image now : Fields A) → by_column of_fields flags (full_record image) (full_record now) ≡ by_column of_values flags image now
@@ -88,9 +85,6 @@ module _ {A : Type 0} where
     flag_of_both m m' None = m'
     flag_of_both m m' (Some present) = m && m'
 
-    same_flag : (m m' : Bool) (o : Option (RowChange A)) → m' ≡ m → flag_of_both m m' o ≡ m
-    same_flag m m' o same = grind arith
-
     module _ (m m' : Bool) (key : Fields A) (added : RowChange A) where
       step : (first next last : Option (Fields A)) → ForSome first (IsRowUnder flags key) → ForSome next (IsRowUnder flags key) → ForSome last (IsRowUnder flags key) → change_of flags m' next last ≡ Some added →
           change_after combined flags (change_of flags m first next) added ≡ change_of flags (flag_of_both m m' (change_of flags m first next)) first last
@@ -125,7 +119,7 @@ module _ {A : Type 0} where
       let so = follow_from flags key (flag_of_both flags m (is_indirect change) o) first row changes last f under more in (
         so.0,
         ap (λ (o : Option (RowChange A)). fold (change_after combined flags) o changes) (step flags m (is_indirect change) key change first next row f h under is) ∙ so.1,
-        λ same. let one = same_flag flags m (is_indirect change) o same.0 in so.2 (subst (λ (i : Bool). AllByRecursion (λ change. is_indirect change ≡ i) changes) (sym one) same.1) ∙ one,
+        λ same. let one : flag_of_both flags m (is_indirect change) o ≡ m = grind (arith, same.0) in so.2 (subst (λ (i : Bool). AllByRecursion (λ change. is_indirect change ≡ i) changes) (sym one) same.1) ∙ one,
       )
 
   -- the same from no change on
