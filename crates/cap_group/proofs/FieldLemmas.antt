@@ -71,8 +71,4 @@ module _ {A : Type 0} where
   pub update_put : (flags : List Bool) (indirect : Bool) (before after : RecordFields A) (out mid next new : List ℕ) → together.differ flags before after ≡ true → mid ≡ out ++ 0x17 ∷ flag_byte indirect ∷ [] →
       next ≡ mid ++ record_bytes (by_column together.old_field flags before after) → new ≡ next ++ record_bytes (by_column together.new_field flags before after) → IsPut true out new (together.update_between flags indirect before after)
   update_put flags indirect before after out mid next new differs head old_put new_put =
-      rw differs (
-        new_put ∙ ap (λ (b : List ℕ). b ++ record_bytes (by_column together.new_field flags before after)) (old_put ∙ ap (λ (b : List ℕ). b ++ record_bytes (by_column together.old_field flags before after)) head)
-            ∙ simp (append_assoc, append-nil),
-        refl,
-      )
+      rw differs (rw (new_put, old_put, head) (simp (append_assoc, append-nil)), refl)

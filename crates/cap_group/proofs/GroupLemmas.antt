@@ -111,8 +111,7 @@ leaves_then result answer x f is = grind arith
 -- what comes first was refused, and the whole is then, or memory is out
 pub leaves_whole : {X E : Type 0} (fault : Fault E) (one whole : Result X E) (x y : X) → LeavesUnlessMemory {X = Unit {0}} (Err fault) one x →
     ((why : E) → one ≡ Err why → whole ≡ Err why) → LeavesUnlessMemory {X = Unit {0}} (Err fault) whole y
-leaves_whole (Refused why) one whole x y is then = then why is
-leaves_whole OutOfMemory one whole x y is then = tt
+leaves_whole fault one whole x y is then = grind (arith, then)
 
 -- whether a group has changes, by how many there are
 pub some_is : {X : Type 0} (xs : List X) → has_some xs ≡ not (length xs == 0)

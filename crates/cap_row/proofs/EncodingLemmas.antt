@@ -4,7 +4,6 @@ use Rattle.std.specs.Prelude.{OnOk, OnErr}
 use Rattle.std.specs.Option.{option_map}
 use Rattle.std.specs.Map.Iter.{TakesFirst}
 use Rattle.cap_value.specs.declared.value.Value.{Value}
-use Rattle.cap_value.specs.declared.value.Value.TheVariants.{Null, Int, Text, Blob}
 use Rattle.cap_value.specs.Value.{IsValue}
 use Rattle.cap_field.specs.Field.{value_bytes, values_bytes}
 use Rattle.cap_field.specs.FieldReading.{value_at}
@@ -43,10 +42,7 @@ no_more_behind bytes front rest parts = omega (arith, ap length parts, length-ap
 
 module _ {A : Type 0} where
   pub some_bytes : (value : Value A) → 0 < length (value_bytes value)
-  some_bytes Null = omega arith
-  some_bytes (Int n) = omega arith
-  some_bytes (Text t) = omega arith
-  some_bytes (Blob b) = omega arith
+  some_bytes value = grind arith
 
   from_bytes : (most : ℕ) (values : List (Value A)) → AreValues values → length (values_bytes values) ≤ most → fields_from most (values_bytes values) ≡ values
   unfolding fields_from value_at

@@ -48,9 +48,7 @@ module _ {A : Type 0} where
       absurd (omega (arith, none, lt, length-drop i row))
   put_more changes row before (value ∷ others) rest' out new i found lt is so one put_is =
       record {
-        put_so_far =
-            rw (put_is, one, append_assoc out (unwrap_or found value ∷ []) (row_from changes (i + 1) others))
-            (ap (λ (v : Value A). out ++ (v ∷ row_from changes (i + 1) others)) (sym (is value)) ∙ so.put_so_far);
+        put_so_far = grind (arith, append_assoc, is value, so.put_so_far);
         left = one ∙ passed row i value (value ∷ others) others so.left refl;
       }
 
