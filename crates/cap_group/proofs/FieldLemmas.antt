@@ -1,5 +1,5 @@
 -- Two records of one row, field by field, by the bytes of their fields.
-use Rattle.std.proofs.Common.{◌≡◌, ℕ, ◌+◌, ◌<◌, List, [], ◌∷◌, ◌++◌, Bool, true, false, not, ◌&&◌, ◌||◌, cond, length, drop, get_or, Option, Some, IfSome, ◌⊎◌, inl, inr, refl, sym, ap, ◌∙◌, append_assoc, append-nil, arith}
+use Rattle.std.proofs.Common.{◌≡◌, ℕ, ◌+◌, ◌<◌, List, [], ◌∷◌, ◌++◌, Bool, true, false, not, ◌&&◌, ◌||◌, cond, length, drop, get_or, Option, Some, IfSome, ◌⊎◌, inl, inr, refl, sym, append_assoc, append-nil, arith}
 use Rattle.std.proofs.Math.Bool.{or_assoc, or-false}
 use Rattle.std.proofs.lemmas.List.{drop_more}
 use Rattle.cap_value.specs.Bytes.{bytes_eq}
@@ -11,7 +11,7 @@ use Rattle.cap_changes.specs.Field.{record_bytes, field_bytes}
 use Rattle.cap_changes.specs.FieldRecord.{RecordFields}
 use Rattle.cap_changes.specs.Record.{BeginsWithField}
 use Rattle.cap_changes.proofs.PutLemmas.{goes_on}
-use Rattle.cap_changes.proofs.TouchedLemmas.{choose, eq_by_bytes}
+use Rattle.cap_changes.proofs.TouchedLemmas.{eq_by_bytes}
 use Rattle.cap_group.specs.ChangeKey.{key_values}
 use Rattle.cap_group.specs.Put.{IsPut}
 use Rattle.cap_group.specs.Record as together

@@ -12,7 +12,6 @@ use Rattle.std.proofs.lemmas.List.Quantifiers.{position-Some}
 use Rattle.std.proofs.lemmas.List.Sums.{fails_before_first, fold-append}
 use Rattle.cap_value.specs.Bytes.{bytes_eq}
 use Rattle.cap_value.specs.declared.memory.Fault.{Fault}
-use Rattle.cap_value.specs.declared.memory.Fault.TheVariants.{Refused, OutOfMemory}
 use Rattle.cap_value.specs.Memory.{LeavesUnlessMemory}
 use Rattle.cap_row.specs.Fields.{Fields}
 use Rattle.cap_row.specs.Schema.{flags_eq}

@@ -1,10 +1,9 @@
 -- A list with one change for each row, added to an empty changegroup, is what it was without its empty groups.
-use Rattle.std.proofs.Common.{◌≡◌, ℕ, ◌+◌, Bool, false, cond, List, [], ◌∷◌, ◌++◌, Option, None, Ok, inl, inr, refl, ap, sym, ◌∙◌, arith}
+use Rattle.std.proofs.Common.{◌≡◌, ℕ, ◌+◌, Bool, false, cond, List, [], ◌∷◌, ◌++◌, Option, None, Ok, refl, ap, sym, ◌∙◌, arith}
 use Rattle.std.specs.Prelude.{map, filter, position}
 use Rattle.std.specs.List.{AllByRecursion, IsDistinct}
 use Rattle.std.specs.List.Sorted.{IsStrictlySortedBy}
 use Rattle.std.proofs.Math.Bool.{and-false}
-use Rattle.std.proofs.lemmas.Bool.{cases_Bool}
 use Rattle.std.proofs.lemmas.Grind.{common_steps}
 use Rattle.std.proofs.lemmas.List.{append-nil, append_assoc, map-id}
 use Rattle.std.proofs.lemmas.List.Elements.{recursion_from_All}
@@ -81,8 +80,7 @@ module _ {A X : Type 0} (key : List Bool → X → Fields A) (combine : List Boo
 
 module _ {A : Type 0} where
   of_some : (groups : List (TableEntries (Patch A))) → cond (has_some groups) (Patches groups) (Changes []) ≡ of_patches groups
-  of_some [] = refl
-  of_some (g ∷ gs) = refl
+  of_some groups = grind arith
 
   pub one_blob : (blob : Contents A) → BlobHasOneForEachRow blob → concat_of (blob ∷ []) ≡ Ok (with_some blob)
   one_blob (Changes groups) one = rw (and-false (has_changes groups), taken_alone change_key combined groups one, back_alone change_key combined groups one) refl

@@ -1,8 +1,7 @@
 -- Two changes of one row, each between two of its states, are together the change from the first to the last.
-use Rattle.std.proofs.Common.{◌≡◌, List, [], ◌∷◌, length, map, Bool, true, false, not, ◌&&◌, Option, Some, None, cond, ◌⊎◌, inl, inr, refl, ap, sym, subst, ◌∙◌, arith}
+use Rattle.std.proofs.Common.{◌≡◌, List, [], ◌∷◌, length, map, Bool, false, not, ◌&&◌, Option, Some, None, cond, refl, ap, sym, subst, ◌∙◌, arith}
 use Rattle.std.specs.Prelude.{fold}
 use Rattle.std.specs.List.{AllByRecursion, list_any}
-use Rattle.std.proofs.lemmas.Bool.{cases_Bool}
 use Rattle.std.proofs.lemmas.Simd.{map-map}
 use Rattle.cap_value.specs.declared.value.Value.{Value}
 use Rattle.cap_value.specs.Value.{value_eq_decides}
@@ -13,7 +12,7 @@ use Rattle.cap_changes.specs.Change as touched
 use Rattle.cap_changes.specs.Change.{change_of, full_record}
 use Rattle.cap_changes.specs.FieldRecord.{RecordFields}
 use Rattle.cap_changes.specs.declared.row_change.RowChange.{RowChange}
-use Rattle.cap_changes.specs.declared.row_change.RowChange.TheVariants.{Insert, Update, Delete}
+use Rattle.cap_changes.specs.declared.row_change.RowChange.TheVariants.{Update}
 use Rattle.std.specs.Option.{ForSome}
 use Rattle.cap_group.specs.Combined.{combined}
 use Rattle.cap_group.specs.Rows.{Follow, IsRowUnder, is_indirect, together}

@@ -1,4 +1,4 @@
-use Rattle.std.proofs.Common.{true, false, sym, ◌∙◌}
+use Rattle.std.proofs.Common.{sym, ◌∙◌}
 use Rattle.std.proofs.lemmas.Result.{err_from_is_err_and}
 use Rattle.cap_changes.proofs.LeftLemmas.{drop_here}
 use Rattle.cap_group.proofs.GroupLemmas.{leaves_whole}
