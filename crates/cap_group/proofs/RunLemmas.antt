@@ -5,8 +5,7 @@ use Rattle.std.specs.Option.{option_to_list}
 use Rattle.std.proofs.Math.Seq.{drop-length}
 use Rattle.std.specs.Prelude.{All, IfSome, IsTrue}
 use Rattle.std.specs.List.Sorted.{IsSorted}
-use Rattle.std.specs.Ordering.{is_eq, is_lt, ordering_reverse}
-use Rattle.std.specs.declared.cmp.Ordering.{Ordering}
+use Rattle.std.specs.Ordering.{is_lt}
 use Rattle.std.specs.declared.cmp.Ordering.TheVariants.{Less, Greater}
 use Rattle.std.specs.Cmp.{tied_itself}
 use Rattle.std.proofs.lemmas.List.{get_or_default, map-append, map-id}
@@ -22,10 +21,6 @@ use Rattle.cap_group.specs.KeyedChanges.{KeyedChanges, change_after, entries_of,
 use Rattle.cap_group.specs.Place.{IsPlace, Place, place_cmp, place_eq}
 use Rattle.cap_group.proofs.RisingLemmas.{behind_nil, rising, under_keys}
 use Rattle.cap_group.proofs.SortLemmas.{all_ordered}
-
--- neither equal nor the other way round
-rises : (r : Ordering) → is_lt (ordering_reverse r) ≡ false → is_eq r ≡ false → r ≡ Less
-rises r ordered other = grind arith
 
 module _ {A X : Type 0} where
   -- what the changes of a row are together, under its key
@@ -109,7 +104,8 @@ module _ {A X : Type 0} (fits : List Bool → X → Bool) (key : List Bool → X
       put_other q xs o q_is some sorted other before =
           let n : (i - 1) + 1 ≡ i = omega arith in
           let ordered : is_lt (fields_cmp p.key q.key) ≡ false = rw (n, get_or_default all i q p within, ← is, ← q_is) at (sorted (i - 1) q (omega arith) (omega arith)) in
-          let rise = rises (fields_cmp q.key p.key) (rw (fields_cmp_total.antisymm p.key q.key) at ordered) other in
+          let turned = rw (fields_cmp_total.antisymm p.key q.key) at ordered in
+          let rise : fields_cmp q.key p.key ≡ Less = grind (arith, turned, other) in
           put_same p.key (xs ++ option_to_list o) None refl (record { past = all_past q.key p.key rise xs o before.past before.own; own = tt; left = rw append-nil before.left })
 
     -- all are put

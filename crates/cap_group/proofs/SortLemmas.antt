@@ -1,10 +1,9 @@
 -- Changes in the order of their keys make the table that they make in any order that keeps those of one row.
-use Rattle.std.proofs.Common.{◌≡◌, ℕ, Bool, not, ◌&&◌, cond, List, [], ◌∷◌, map, refl, ap, sym, ◌∙◌, arith}
+use Rattle.std.proofs.Common.{◌≡◌, ℕ, Bool, List, [], ◌∷◌, map, refl, ap, sym, ◌∙◌, arith}
 use Rattle.std.specs.Prelude.{Option, All, filter}
 use Rattle.std.specs.List.{AllByRecursion}
 use Rattle.std.specs.List.Sorted.{IsPermutation, IsStable, ties}
-use Rattle.std.specs.Ordering.{is_eq, is_lt, ordering_reverse}
-use Rattle.std.specs.declared.cmp.Ordering.{Ordering}
+use Rattle.std.specs.Ordering.{is_lt}
 use Rattle.std.proofs.lemmas.List.{map-id, nil_from_length}
 use Rattle.std.proofs.lemmas.List.Elements.{All-map, filter_agree, recursion_from_All}
 use Rattle.std.proofs.lemmas.List.Sorted.{All-permutation, length_permutation}
@@ -21,13 +20,6 @@ use Rattle.cap_group.proofs.GroupLemmas.{kept_names}
 use Rattle.cap_group.proofs.RowLemmas.{row_alone, set_ordered}
 use Rattle.cap_group.proofs.SameLemmas.{same_by_get}
 
--- neither below the other: equal
-tie_is : (r : Ordering) → (not (is_lt (ordering_reverse r)) && not (is_lt r)) ≡ is_eq r
-tie_is r = grind arith
-
-chosen : {X Y : Type 0} (f : X → Y) (b : Bool) (x : X) (xs : List X) → cond b (f x ∷ map f xs) (map f xs) ≡ map f (cond b (x ∷ xs) xs)
-chosen f b x xs = grind arith
-
 module _ {A X : Type 0} (key : List Bool → X → Fields A) where
   abbrev changes_at : List (Place A X) → List X
   changes_at ys = map (λ p. p.change) ys
@@ -36,7 +28,7 @@ module _ {A X : Type 0} (key : List Bool → X → Fields A) where
   of_row : (flags : List Bool) (q : Fields A) (ys : List (Place A X)) → AllByRecursion (λ p. p.key ≡ key flags p.change) ys →
       changes_of_row key flags q (changes_at ys) ≡ changes_at (filter (λ (p : Place A X). fields_eq p.key q) ys)
   of_row flags q [] keyed = refl
-  of_row flags q (y ∷ ys) keyed = rw (← keyed.0, of_row flags q ys keyed.1) (chosen (λ (p : Place A X). p.change) (fields_eq y.key q) y (filter (λ p. fields_eq p.key q) ys))
+  of_row flags q (y ∷ ys) keyed = rw (← keyed.0, of_row flags q ys keyed.1) (grind arith)
 
   -- places of changes that fit, in any order
   pub places_fit : (flags : List Bool) (fits : List Bool → X → Bool) (changes : List X) (places ys : List (Place A X)) → places ≡ map (place_of key flags) changes → IsPermutation places ys → AllFit fits flags changes →
@@ -49,7 +41,7 @@ module _ {A X : Type 0} (key : List Bool → X → Fields A) where
 
   row_of : (p : Place A X) (zs : List (Place A X)) →
       filter (ties (λ a b. is_lt (place_cmp a b)) p) zs ≡ filter (λ (z : Place A X). fields_eq z.key p.key) zs
-  row_of p zs = filter_agree _ _ (λ z. rw (fields_cmp_total.antisymm p.key z.key) (tie_is (fields_cmp z.key p.key))) zs
+  row_of p zs = filter_agree _ _ (λ z. rw (fields_cmp_total.antisymm p.key z.key) (grind arith)) zs
 
   -- a sort keeps the changes of a row
   rows_kept : (flags : List Bool) (q : Fields A) (places ys : List (Place A X)) → IsPermutation places ys → IsStable place_cmp places ys → All (λ p. p.key ≡ key flags p.change) places →
