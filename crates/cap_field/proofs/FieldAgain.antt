@@ -1,5 +1,5 @@
 -- What was written for a number and a value is read again, whatever follows it.
-use Rattle.std.proofs.Common.{◌≡◌, ℕ, zero, suc, ℤ, pos, negsuc, ◌+◌, ◌*◌, ◌-◌, ◌/◌, ◌%◌, ◌^◌, ◌<◌, ◌≤◌, false, nat_lt, ◌==◌, ◌&&◌, List, ◌∷◌, ◌++◌, length, Result, Ok, refl, ap, ◌∙◌, inl, inr, append_assoc, arith, w64, to_z-of_z, length-append, take_at, drop_at, le-ltb, lt-ltb, ne_eqb, pow-suc, FitsSigned, IsUtf8}
+use Rattle.std.proofs.Common.{◌≡◌, ℕ, zero, suc, ℤ, pos, negsuc, ◌+◌, ◌*◌, ◌/◌, ◌%◌, ◌^◌, ◌<◌, ◌≤◌, false, nat_lt, ◌==◌, ◌&&◌, List, ◌∷◌, ◌++◌, length, Result, Ok, refl, ap, ◌∙◌, inl, inr, append_assoc, arith, w64, to_z-of_z, length-append, take_at, drop_at, le-ltb, lt-ltb, pow-suc, FitsSigned, IsUtf8}
 use Rattle.std.specs.Int.{from_be_bytes, cast_signed, cast_unsigned}
 use Rattle.std.proofs.Math.Nat.{pow-le-pow_right}
 use Rattle.std.proofs.lemmas.Bool.{cases_lt}
@@ -22,11 +22,7 @@ use Rattle.cap_field.proofs.Spelled.{groups, groups_more, groups_last}
 -- a group of seven bits that is not the last
 goes_on : (total at read high m : ℕ) (rest : List ℕ) → read < 4 → ((read == 0) && ((128 + m % 128) == 128)) ≡ false → high * 128 + m % 128 ≡ m
     → varint_from total at read high ((128 + m % 128) ∷ rest) ≡ varint_from total at (read + 1) m rest
-goes_on total at read high m rest early shortest whole =
-    let more : nat_lt (128 + m % 128) 128 ≡ false = le-ltb _ _ (omega arith) in
-    let not_last : (read == 4) ≡ false = ne_eqb read 4 (λ e. omega arith) in
-    let made : high * 128 + (128 + m % 128 - 128) ≡ m = omega arith in
-    rw (more, not_last, shortest, made) refl
+goes_on total at read high m rest early shortest whole = grind (arith, nat_tests)
 
 -- the last group
 ends : (total at read high n : ℕ) (rest : List ℕ) → high * 128 + n % 128 ≡ n → varint_from total at read high (n % 128 ∷ rest) ≡ Ok (n, rest)
@@ -63,9 +59,7 @@ varint_again total n rest lt =
     ap (varint_from total at 0 0) (groups_last n (n / 128) (n % 128) rest (omega arith) (omega arith)) ∙ is ∙ ends total at read (n / 128) n rest (omega arith)
 
 pub bytes_again : (total count : ℕ) (bytes rest : List ℕ) → length bytes ≡ count → bytes_at total count (bytes ++ rest) ≡ Ok (bytes, rest)
-bytes_again total count bytes rest len =
-    let long : nat_lt (length (bytes ++ rest)) count ≡ false = le-ltb _ _ (omega (arith, length-append bytes rest)) in
-    rw (long, take_at bytes rest count len, drop_at bytes rest count len) refl
+bytes_again total count bytes rest len = grind (arith, nat_tests, length-append, take_at, drop_at)
 
 below_64 : (n : ℤ) → FitsSigned w64 n → cast_unsigned w64 n < 2 ^ 64
 below_64 (pos n) fits = omega (arith, fits.sfits)
