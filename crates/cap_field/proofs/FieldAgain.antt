@@ -1,5 +1,5 @@
 -- What was written for a number and a value is read again, whatever follows it.
-use Rattle.std.proofs.Common.{◌≡◌, ℕ, zero, suc, ℤ, pos, negsuc, ◌+◌, ◌*◌, ◌/◌, ◌%◌, ◌^◌, ◌<◌, ◌≤◌, false, nat_lt, ◌==◌, ◌&&◌, List, ◌∷◌, ◌++◌, length, Result, Ok, refl, ap, ◌∙◌, inl, inr, append_assoc, arith, w64, to_z-of_z, length-append, take_at, drop_at, le-ltb, lt-ltb, pow-suc, FitsSigned, IsUtf8}
+use Rattle.std.proofs.Common.{◌≡◌, ℕ, zero, suc, ℤ, pos, negsuc, ◌+◌, ◌*◌, ◌/◌, ◌%◌, ◌^◌, ◌<◌, ◌≤◌, false, ◌==◌, ◌&&◌, List, ◌∷◌, ◌++◌, length, Result, Ok, refl, ap, ◌∙◌, inl, inr, append_assoc, arith, w64, to_z-of_z, length-append, take_at, drop_at, lt-ltb, pow-suc, FitsSigned, IsUtf8}
 use Rattle.std.specs.Int.{from_be_bytes, cast_signed, cast_unsigned}
 use Rattle.std.proofs.Math.Nat.{pow-le-pow_right}
 use Rattle.std.proofs.lemmas.Bool.{cases_lt}
@@ -77,10 +77,7 @@ number_again total n rest fits =
 
 pub sized_again : (total at : ℕ) (bytes rest : List ℕ) → length bytes ≤ 1000000000 → sized_at total at (sized_bytes bytes ++ rest) ≡ Ok (bytes, rest)
 unfolding sized_at
-sized_again total at bytes rest fits =
-    let small : nat_lt 1000000000 (length bytes) ≡ false = le-ltb _ _ fits in
-    ap (sized_at total at) (append_assoc (varint_bytes (length bytes)) bytes rest)
-    ∙ rw (varint_again total (length bytes) (bytes ++ rest) (omega arith), small) (bytes_again total (length bytes) bytes rest refl)
+sized_again total at bytes rest fits = grind (arith, nat_tests, append_assoc, varint_again total (length bytes) (bytes ++ rest), bytes_again total (length bytes) bytes rest)
 
 pub text_again : (total at : ℕ) (text rest : List ℕ) → IsUtf8 text → length text ≤ 1000000000 → text_at total at (sized_bytes text ++ rest) ≡ Ok (text, rest)
 unfolding text_at
