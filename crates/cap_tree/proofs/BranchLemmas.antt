@@ -1,17 +1,100 @@
--- The branches of a node, cut where some of them change: those in front, those that change, and those behind.
-use Rattle.std.proofs.Common.{◌≡◌, ℕ, zero, suc, ◌+◌, ◌<◌, ◌≢◌, List, [], ◌∷◌, ◌++◌, length, take, drop, get_or, set, refl, sym, ap, ap₂, ◌∙◌, arith, add-one, length-append, inl, inr}
+-- The branches of a node: into which of them a key belongs, and they cut where some of them change.
+use Rattle.std.proofs.Common.{◌≡◌, ℕ, zero, suc, ◌+◌, ◌<◌, ◌≢◌, List, [], ◌∷◌, ◌++◌, length, take, drop, get_or, set, refl, sym, ap, ap₂, ◌∙◌, arith, add-one, length-append, inl, inr, ◌≤◌}
 use Rattle.std.specs.Prelude.{◌⊎◌}
 use Rattle.std.specs.declared.cmp.Ordering.{Ordering}
-use Rattle.std.specs.declared.cmp.Ordering.TheVariants.{Less, Greater}
+use Rattle.std.specs.declared.cmp.Ordering.TheVariants.{Less, Greater, Equal}
 use Rattle.std.specs.List.{AllByRecursion, insert, remove}
-use Rattle.std.specs.Cmp.{IsTotalOrder}
+use Rattle.std.specs.Cmp.{IsTotalOrder, alike_right}
 use Rattle.std.specs.Map.{keys_of}
-use Rattle.std.proofs.lemmas.List.{append_assoc, append-nil, take-append-drop, take_more_set, drop-set-lt}
+use Rattle.std.proofs.lemmas.List.{append_assoc, take-append-drop, take_more_set, drop-set-lt}
 use Rattle.std.proofs.Math.Seq.{drop-cons}
 use Rattle.cap_tree.specs.Subtree.{Subtree, Branch}
-use Rattle.cap_tree.specs.Shape.{entries_of, IsChild, NoneBelow, EachBelow, AreChildren, place}
-use Rattle.cap_tree.proofs.EntryLemmas.{Each, each_turn}
-use Rattle.cap_tree.proofs.PlaceLemmas.{all_turn, keys_append, above_all_of, below_children, below_entries, place_zero, place_step, step_up, least_below, above_upper, less_not_greater, not_greater_self, not_less_self}
+use Rattle.cap_tree.specs.Shape.{entries_of, NoneBelow, EachBelow, AreChildren, AreFit, place}
+use Rattle.cap_tree.specs.Siblings.{IsRearrangement}
+use Rattle.cap_tree.proofs.EntryLemmas.{Each, each_front, each_turn, reversed}
+
+-- what holds of each element holds by what follows from it
+pub all_turn : {X : Type 0} (P Q : X → Type 0) → ((x : X) → P x → Q x) → (xs : List X) → AllByRecursion P xs → AllByRecursion Q xs
+all_turn P Q f [] h = tt
+all_turn P Q f (x ∷ xs) h = (f x h.0, all_turn P Q f xs h.1)
+
+-- and by what follows from two facts
+pub all_both : {X : Type 0} (P Q R : X → Type 0) → ((x : X) → P x → Q x → R x) → (xs : List X) → AllByRecursion P xs → AllByRecursion Q xs → AllByRecursion R xs
+all_both P Q R f [] a b = tt
+all_both P Q R f (x ∷ xs) a b = (f x a.0 b.0, all_both P Q R f xs a.1 b.1)
+
+-- an answer that is not Less
+pub is_not_less : (r : Ordering) → (r ≡ Equal) ⊎ (r ≡ Greater) → r ≢ Less
+is_not_less r (inl e) h = cc
+is_not_less r (inr e) h = cc
+
+module _ {K : Type 0} (cmp : K → K → Ordering) (o : IsTotalOrder cmp) where
+  pub turn_not_less : (k a : K) → cmp k a ≢ Less → cmp a k ≢ Greater
+  turn_not_less k a not above = not (reversed o a k Greater above)
+
+  pub not_less_self : (k : K) → cmp k k ≢ Less
+  not_less_self k h = cc (reversed o k k Less h)
+
+  pub not_greater_self : (k : K) → cmp k k ≢ Greater
+  not_greater_self k h = cc (reversed o k k Greater h)
+
+  pub less_not_greater : (a b : K) → cmp a b ≡ Less → cmp a b ≢ Greater
+  less_not_greater a b h e = cc
+
+  -- k < a and a ≤ y
+  pub below_least : (k a y : K) → cmp k a ≡ Less → cmp a y ≢ Greater → cmp k y ≡ Less
+  below_least k a y h not = grind (arith, o.antisymm y a, o.trans k a y h, alike_right o a y k)
+
+  -- l ≤ e and e < s
+  pub least_below : (l e s : K) → cmp l e ≢ Greater → cmp s e ≡ Greater → cmp l s ≡ Less
+  least_below l e s not above = grind (arith, o.antisymm e l, o.trans l e s, o.congr l e s, reversed o s e Greater above)
+
+  -- y < l and l ≤ s
+  pub above_upper : (l s y : K) → cmp l s ≢ Greater → cmp l y ≡ Greater → cmp s y ≡ Greater
+  above_upper l s y not above = reversed o y s Less (below_least y l s (reversed o l y Greater above) not)
+
+  -- q ≤ k and y < q
+  pub above_all_of : (k q y : K) → cmp k q ≢ Less → cmp q y ≡ Greater → cmp k y ≡ Greater
+  above_all_of k q y not = above_upper q k y (turn_not_less k q not)
+
+module _ {K V : Type 0} where
+  pub keys_append : (P : K → Type 0) (xs ys : List (K × V)) → AllByRecursion P (keys_of xs) → AllByRecursion P (keys_of ys) → AllByRecursion P (keys_of (xs ++ ys))
+  keys_append P [] ys h k = k
+  keys_append P (x ∷ xs) ys h k = (h.0, keys_append P xs ys h.1 k)
+
+  module _ (cmp : K → K → Ordering) (o : IsTotalOrder cmp) where
+    place_none : (k : K) (p : Branch K V) (ps : List (Branch K V)) → place cmp k (p ∷ ps) ≡ 0 → cmp k p.0 ≡ Less
+    place_none k p ps h = grind arith
+
+    pub place_step : (k : K) (p : Branch K V) (ps : List (Branch K V)) (j : ℕ) → place cmp k (p ∷ ps) ≡ j + 1 → (place cmp k ps ≡ j) × (cmp k p.0 ≢ Less)
+    place_step k p ps j h = (grind arith, λ less. grind arith)
+
+    -- the least key of a branch is below those that follow
+    pub leasts_below : (l : K) (es : List (K × V)) (ps : List (Branch K V)) → 0 < length es → NoneBelow cmp l es → AllByRecursion (λ q. EachBelow cmp q.0 es) ps → AllByRecursion (λ q. cmp l q.0 ≡ Less) ps
+    leasts_below l [] ps fed not each = absurd (omega arith)
+    leasts_below l (e ∷ es) ps fed not each = all_turn (λ q. EachBelow cmp q.0 (e ∷ es)) (λ q. cmp l q.0 ≡ Less) (λ q a. least_below cmp o l e.0 q.0 not.0 a.0) ps each
+
+    -- k is below every child
+    pub below_children : (k : K) (height : ℕ) (ps : List (Branch K V)) → AreChildren cmp height ps → place cmp k ps ≡ 0 → AllByRecursion (λ q. cmp k q.0 ≡ Less) ps
+    below_children k height [] h none = tt
+    below_children k height (p ∷ ps) h none =
+        let here = place_none k p ps none in
+        (here, all_turn (λ q. cmp p.0 q.0 ≡ Less) (λ q. cmp k q.0 ≡ Less) (λ q. o.trans k p.0 q.0 here) ps (leasts_below p.0 p.1.entries ps h.0.1 h.1 h.2))
+
+    pub below_entries : (k : K) (height : ℕ) (ps : List (Branch K V)) → AreChildren cmp height ps → AllByRecursion (λ q. cmp k q.0 ≡ Less) ps → Each cmp Less k (entries_of ps)
+    below_entries k height [] h b = tt
+    below_entries k height (p ∷ ps) h b = keys_append (λ y. cmp k y ≡ Less) p.1.entries (entries_of ps) (each_turn cmp (λ y. cmp p.0 y ≢ Greater) (λ y. cmp k y ≡ Less) (λ y not. below_least cmp o k p.0 y b.0 not) p.1.entries h.1) (below_entries k height ps h.3 b.1)
+
+    pub place_within : (k : K) (ps : List (Branch K V)) → place cmp k ps ≤ length ps
+    place_within k [] = omega arith
+    place_within k (p ∷ ps) = grind (arith, place_within k ps)
+
+    pub step_up : (k : K) (p : Branch K V) (ps : List (Branch K V)) → cmp k p.0 ≢ Less → place cmp k (p ∷ ps) ≡ place cmp k ps + 1
+    step_up k p ps not = grind arith
+
+    pub place_zero : (k : K) (ps : List (Branch K V)) → AllByRecursion (λ q. cmp k q.0 ≡ Less) ps → place cmp k ps ≡ 0
+    place_zero k [] h = refl
+    place_zero k (p ∷ ps) h = rw h.0 refl
 
 module _ {X : Type 0} where
   -- ---- the items around one that changes, and around two
@@ -75,10 +158,6 @@ module _ {X : Type 0} where
   all_right P (x ∷ xs) ys h = all_right P xs ys h.1
 
 module _ {K V : Type 0} where
-  pub keys_front : (P : K → Type 0) (xs ys : List (K × V)) → AllByRecursion P (keys_of (xs ++ ys)) → AllByRecursion P (keys_of xs)
-  keys_front P [] ys h = tt
-  keys_front P (x ∷ xs) ys h = (h.0, keys_front P xs ys h.1)
-
   pub keys_back : (P : K → Type 0) (xs ys : List (K × V)) → AllByRecursion P (keys_of (xs ++ ys)) → AllByRecursion P (keys_of ys)
   keys_back P [] ys h = h
   keys_back P (x ∷ xs) ys h = keys_back P xs ys h.1
@@ -96,7 +175,7 @@ module _ {K V : Type 0} where
     pub children_append : (height : ℕ) (xs ys : List (Branch K V)) → AreChildren cmp height xs → AreChildren cmp height ys → AllByRecursion (λ q. EachBelow cmp q.0 (entries_of xs)) ys → AreChildren cmp height (xs ++ ys)
     children_append height [] ys hx hy over = hy
     children_append height (x ∷ xs) ys hx hy over =
-        (hx.0, hx.1, all_append (λ q. EachBelow cmp q.0 x.1.entries) xs ys hx.2 (all_turn (λ q. EachBelow cmp q.0 (x.1.entries ++ entries_of xs)) (λ q. EachBelow cmp q.0 x.1.entries) (λ q. keys_front (λ y. cmp q.0 y ≡ Greater) x.1.entries (entries_of xs)) ys over), children_append height xs ys hx.3 hy (all_turn (λ q. EachBelow cmp q.0 (x.1.entries ++ entries_of xs)) (λ q. EachBelow cmp q.0 (entries_of xs)) (λ q. keys_back (λ y. cmp q.0 y ≡ Greater) x.1.entries (entries_of xs)) ys over))
+        (hx.0, hx.1, all_append (λ q. EachBelow cmp q.0 x.1.entries) xs ys hx.2 (all_turn (λ q. EachBelow cmp q.0 (x.1.entries ++ entries_of xs)) (λ q. EachBelow cmp q.0 x.1.entries) (λ q. each_front cmp (λ y. cmp q.0 y ≡ Greater) x.1.entries (entries_of xs)) ys over), children_append height xs ys hx.3 hy (all_turn (λ q. EachBelow cmp q.0 (x.1.entries ++ entries_of xs)) (λ q. EachBelow cmp q.0 (entries_of xs)) (λ q. keys_back (λ y. cmp q.0 y ≡ Greater) x.1.entries (entries_of xs)) ys over))
 
     pub children_left : (height : ℕ) (xs ys : List (Branch K V)) → AreChildren cmp height (xs ++ ys) → AreChildren cmp height xs
     children_left height [] ys h = tt
@@ -109,11 +188,7 @@ module _ {K V : Type 0} where
     pub children_over : (height : ℕ) (xs ys : List (Branch K V)) → AreChildren cmp height (xs ++ ys) → AllByRecursion (λ q. EachBelow cmp q.0 (entries_of xs)) ys
     children_over height [] [] h = tt
     children_over height [] (y ∷ ys) h = (tt, children_over height [] ys h.3)
-    children_over height (x ∷ xs) ys h = both ys (all_right (λ q. EachBelow cmp q.0 x.1.entries) xs ys h.2) (children_over height xs ys h.3)
-      where
-        both : (zs : List (Branch K V)) → AllByRecursion (λ q. EachBelow cmp q.0 x.1.entries) zs → AllByRecursion (λ q. EachBelow cmp q.0 (entries_of xs)) zs → AllByRecursion (λ q. EachBelow cmp q.0 (x.1.entries ++ entries_of xs)) zs
-        both [] a b = tt
-        both (z ∷ zs) a b = (keys_append (λ y. cmp z.0 y ≡ Greater) x.1.entries (entries_of xs) a.0 b.0, both zs a.1 b.1)
+    children_over height (x ∷ xs) ys h = all_both (λ q. EachBelow cmp q.0 x.1.entries) (λ q. EachBelow cmp q.0 (entries_of xs)) (λ q. EachBelow cmp q.0 (x.1.entries ++ entries_of xs)) (λ q a b. keys_append (λ y. cmp q.0 y ≡ Greater) x.1.entries (entries_of xs) a b) ys (all_right (λ q. EachBelow cmp q.0 x.1.entries) xs ys h.2) (children_over height xs ys h.3)
 
     -- k is not below the branches in front, nor below the least key l that follows, and below those behind
     pub record IsGap (k : K) (front : List (Branch K V)) (l : K) (back : List (Branch K V)) : Type 0 where
@@ -122,61 +197,13 @@ module _ {K V : Type 0} where
       pub none : place cmp k back ≡ 0
 
     module _ (o : IsTotalOrder cmp) where
-      -- the least key of a branch is below those that follow
-      pub leasts_below : (l : K) (es : List (K × V)) (ps : List (Branch K V)) → 0 < length es → NoneBelow cmp l es → AllByRecursion (λ q. EachBelow cmp q.0 es) ps → AllByRecursion (λ q. cmp l q.0 ≡ Less) ps
-      leasts_below l [] ps fed not each = absurd (omega arith)
-      leasts_below l (e ∷ es) ps fed not each = all_turn (λ q. EachBelow cmp q.0 (e ∷ es)) (λ q. cmp l q.0 ≡ Less) (λ q a. least_below cmp o l e.0 q.0 not.0 a.0) ps each
-
       -- no entry from a branch on is below its least key
       pub least_of : (height : ℕ) (p : Branch K V) (ps : List (Branch K V)) → AreChildren cmp height (p ∷ ps) → NoneBelow cmp p.0 (entries_of (p ∷ ps))
-      least_of height p ps h = keys_append (λ y. cmp p.0 y ≢ Greater) p.1.entries (entries_of ps) h.1 (each_turn cmp (λ y. cmp p.0 y ≡ Less) (λ y. cmp p.0 y ≢ Greater) (λ y. less_not_greater cmp o p.0 y) (entries_of ps) (below_entries cmp o p.0 height ps h.3 (leasts_below p.0 p.1.entries ps h.0.1 h.1 h.2)))
+      least_of height p ps h = keys_append (λ y. cmp p.0 y ≢ Greater) p.1.entries (entries_of ps) h.1 (each_turn cmp (λ y. cmp p.0 y ≡ Less) (λ y. cmp p.0 y ≢ Greater) (λ y. less_not_greater cmp o p.0 y) (entries_of ps) (below_entries cmp o p.0 height ps h.3 (leasts_below cmp o p.0 p.1.entries ps h.0.1 h.1 h.2)))
 
       pub first_is : (l s : K) (es : List (K × V)) → 0 < length es → NoneBelow cmp l es → EachBelow cmp s es → cmp l s ≡ Less
       first_is l s [] fed not each = absurd (omega arith)
       first_is l s (e ∷ es) fed not each = least_below cmp o l e.0 s not.0 each.0
-
-      -- ---- p and the branches that follow it, up to the last ones, become others with their entries
-
-      module _ (height : ℕ) (front : List (Branch K V)) (p : Branch K V) (rest back : List (Branch K V)) (h : AreChildren cmp height (front ++ p ∷ (rest ++ back))) where
-        middle : AreChildren cmp height (p ∷ (rest ++ back))
-        middle = children_right height front (p ∷ (rest ++ back)) h
-
-        over : AllByRecursion (λ q. EachBelow cmp q.0 (entries_of front)) (p ∷ (rest ++ back))
-        over = children_over height front (p ∷ (rest ++ back)) h
-
-        low : NoneBelow cmp p.0 (entries_of (p ∷ rest))
-        low = least_of height p rest (children_left height (p ∷ rest) back middle)
-
-        pub new_entries : (new : List (Branch K V)) → entries_of new ≡ entries_of (p ∷ rest) → entries_of (front ++ (new ++ back)) ≡ entries_of (front ++ p ∷ (rest ++ back))
-        new_entries new same = entries_append front (new ++ back) ∙ ap (λ t. entries_of front ++ t) (entries_append new back ∙ ap (λ t. t ++ entries_of back) same ∙ sym (entries_append (p ∷ rest) back)) ∙ sym (entries_append front (p ∷ (rest ++ back)))
-
-        new_children : (new : List (Branch K V)) → entries_of new ≡ entries_of (p ∷ rest) → AreChildren cmp height new → AllByRecursion (λ q. EachBelow cmp q.0 (entries_of front)) new → AreChildren cmp height (front ++ (new ++ back))
-        new_children new same hn above = children_append height front (new ++ back) (children_left height front (p ∷ (rest ++ back)) h) (children_append height new back hn (children_right height (p ∷ rest) back middle) (rw same (children_over height (p ∷ rest) back middle))) (all_append (λ q. EachBelow cmp q.0 (entries_of front)) new back above (all_right (λ q. EachBelow cmp q.0 (entries_of front)) (p ∷ rest) back over))
-
-        -- one with them all
-        module _ (c : Subtree K V) (subtree : IsChild height c) (same : c.entries ≡ entries_of (p ∷ rest)) where
-          alone : entries_of ((p.0, c) ∷ []) ≡ entries_of (p ∷ rest)
-          alone = append-nil c.entries ∙ same
-
-          pub one_entries : entries_of (front ++ (p.0, c) ∷ back) ≡ entries_of (front ++ p ∷ (rest ++ back))
-          one_entries = new_entries ((p.0, c) ∷ []) alone
-
-          pub one_children : AreChildren cmp height (front ++ (p.0, c) ∷ back)
-          one_children = new_children ((p.0, c) ∷ []) alone (subtree, rw same low, tt, tt) (over.0, tt)
-
-        -- two, of which the second begins at s
-        module _ (s : K) (a b : Subtree K V) (child_a : IsChild height a) (child_b : IsChild height b) (below : EachBelow cmp s a.entries) (not_below : NoneBelow cmp s b.entries) (same : a.entries ++ b.entries ≡ entries_of (p ∷ rest)) where
-          both : entries_of ((p.0, a) ∷ (s, b) ∷ []) ≡ entries_of (p ∷ rest)
-          both = ap (λ t. a.entries ++ t) (append-nil b.entries) ∙ same
-
-          low_a : NoneBelow cmp p.0 a.entries
-          low_a = keys_front (λ y. cmp p.0 y ≢ Greater) a.entries b.entries (rw same low)
-
-          pub two_entries : entries_of (front ++ (p.0, a) ∷ (s, b) ∷ back) ≡ entries_of (front ++ p ∷ (rest ++ back))
-          two_entries = new_entries ((p.0, a) ∷ (s, b) ∷ []) both
-
-          pub two_children : AreChildren cmp height (front ++ (p.0, a) ∷ (s, b) ∷ back)
-          two_children = new_children ((p.0, a) ∷ (s, b) ∷ []) both (child_a, low_a, (below, tt), (child_b, not_below, tt, tt)) (over.0, (each_turn cmp (λ y. cmp p.0 y ≡ Greater) (λ y. cmp s y ≡ Greater) (λ y above. above_upper cmp o p.0 s y (less_not_greater cmp o p.0 s (first_is p.0 s a.entries child_a.1 low_a below)) above) (entries_of front) over.0, tt))
 
       -- ---- the place of a key
 
@@ -227,19 +254,14 @@ module _ {K V : Type 0} where
 
   -- ---- the first branch gets another least key
 
-  pub entries_renamed : (k : K) (ps : List (Branch K V)) (d : Branch K V) → entries_of (set ps 0 (k, (get_or ps 0 d).1)) ≡ entries_of ps
-  entries_renamed k [] d = refl
-  entries_renamed k (p ∷ ps) d = refl
-
   module _ (cmp : K → K → Ordering) (o : IsTotalOrder cmp) (k : K) (height : ℕ) where
-    pub children_renamed : (ps : List (Branch K V)) (d : Branch K V) → AreChildren cmp height ps → NoneBelow cmp k (entries_of ps) → AreChildren cmp height (set ps 0 (k, (get_or ps 0 d).1))
-    children_renamed [] d h not = tt
-    children_renamed (p ∷ ps) d h not = (h.0, keys_front (λ y. cmp k y ≢ Greater) p.1.entries (entries_of ps) not, h.2, h.3)
-
-    pub leasts_renamed : (ps : List (Branch K V)) (d : Branch K V) → AreChildren cmp height ps → NoneBelow cmp k (entries_of ps) → AllByRecursion (λ q. cmp k q.0 ≢ Greater) (set ps 0 (k, (get_or ps 0 d).1))
-    leasts_renamed [] d h not = tt
-    leasts_renamed (p ∷ ps) d h not = (not_greater_self cmp o k, all_turn (λ q. cmp k q.0 ≡ Less) (λ q. cmp k q.0 ≢ Greater) (λ q. less_not_greater cmp o k q.0) ps (leasts_below cmp o k p.1.entries ps h.0.1 (keys_front (λ y. cmp k y ≢ Greater) p.1.entries (entries_of ps) not) h.2))
-
-    pub place_renamed : (ps : List (Branch K V)) (d : Branch K V) → 0 < length ps → AreChildren cmp height ps → NoneBelow cmp k (entries_of ps) → place cmp k (set ps 0 (k, (get_or ps 0 d).1)) ≡ 1
-    place_renamed [] d some h not = absurd (omega arith)
-    place_renamed (p ∷ ps) d some h not = step_up cmp o k (k, p.1) ps (not_less_self cmp o k) ∙ omega (arith, place_zero cmp o k ps (leasts_below cmp o k p.1.entries ps h.0.1 (keys_front (λ y. cmp k y ≢ Greater) p.1.entries (entries_of ps) not) h.2))
+    pub renamed : (ps new : List (Branch K V)) (d : Branch K V) → 0 < length ps → new ≡ set ps 0 (k, (get_or ps 0 d).1) → AreChildren cmp height ps → AreFit ps → NoneBelow cmp k (entries_of ps) → IsRearrangement cmp height ps new × (place cmp k new ≡ 1) × AllByRecursion (λ q. cmp k q.0 ≢ Greater) new
+    renamed [] new d some is h fit not = absurd (omega arith)
+    renamed (p ∷ ps) new d some is h fit not =
+        let low : NoneBelow cmp k p.1.entries = each_front cmp (λ y. cmp k y ≢ Greater) p.1.entries (entries_of ps) not in
+        let above = leasts_below cmp o k p.1.entries ps h.0.1 low h.2 in
+        rw is (
+          record { entries = refl; children = (h.0, low, h.2, h.3); fit = fit },
+          step_up cmp o k (k, p.1) ps (not_less_self cmp o k) ∙ omega (arith, place_zero cmp o k ps above),
+          (not_greater_self cmp o k, all_turn (λ q. cmp k q.0 ≡ Less) (λ q. cmp k q.0 ≢ Greater) (λ q. less_not_greater cmp o k q.0) ps above),
+        )

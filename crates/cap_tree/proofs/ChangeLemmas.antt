@@ -1,7 +1,6 @@
 -- One key is changed in a list of entries and below a child.
-use Rattle.std.proofs.Common.{◌≡◌, ℕ, ◌+◌, ◌≤◌, ◌≢◌, Bool, true, false, cond, List, [], ◌∷◌, ◌++◌, length, sym, ap, ◌∙◌, arith, inl, inr, Ok, Err, Result}
-use Rattle.std.specs.Prelude.{Option, Some, None, OnErr, ◌⊎◌}
-use Rattle.std.specs.Option.{is_some}
+use Rattle.std.proofs.Common.{◌≡◌, ℕ, ◌+◌, ◌≤◌, ◌≢◌, List, ◌∷◌, ◌++◌, length, sym, ap, ◌∙◌, arith, inl, inr, Ok, Err, Result}
+use Rattle.std.specs.Prelude.{Option, Some, None, ◌⊎◌}
 use Rattle.std.specs.declared.cmp.Ordering.{Ordering}
 use Rattle.std.specs.declared.cmp.Ordering.TheVariants.{Less, Greater}
 use Rattle.std.specs.List.{AllByRecursion}
@@ -15,16 +14,11 @@ use Rattle.cap_tree.specs.Tree.{IsOrdered, get}
 use Rattle.cap_tree.specs.Change.{gain, change_entry, Changes}
 use Rattle.cap_tree.specs.Shape.{entries_of, IsChild, EachBelow, AreChildren}
 use Rattle.cap_tree.proofs.EntryLemmas.{Each, reversed, put_entry-past, put_entry-before, take_entry-past, take_entry-before, get-past, get-before, entries_from-past, entries_from-before, each_put, each_take, ordered_put, ordered_take, length-put_entry, length-take_entry}
-use Rattle.cap_tree.proofs.PlaceLemmas.{turn_not_less, below_children}
-use Rattle.cap_tree.proofs.BranchLemmas.{entries_append, children_append, children_left, children_right, children_over, IsGap, above_front, below_back}
+use Rattle.cap_tree.proofs.BranchLemmas.{all_both, turn_not_less, below_children, entries_append, children_append, children_left, children_right, children_over, IsGap, above_front, below_back}
 
 pub either_way : {P : Type 0} → P ⊎ P → P
 either_way (inl p) = p
 either_way (inr p) = p
-
-pub at_err : {P A E : Type 0} (r : Result A E) (e : E) → r ≡ Err e → OnErr r P → P
-at_err (Ok a) e is h = cc
-at_err (Err x) e is h = h
 
 -- what holds of k and of each key before holds of each key after
 abbrev pub Keeps : {K V : Type 0} → K → List (K × V) → List (K × V) → Type 1
@@ -49,11 +43,7 @@ module _ {K V : Type 0} (cmp : K → K → Ordering) (k : K) where
     change_ordered None es s = ordered_take cmp o k es s
 
     change_length : (next : Option V) (es : List (K × V)) → IsOrdered cmp es → length (change_entry cmp es k next) ≤ length es + gain next
-    change_length (Some v) es s = omega (arith, length-put_entry cmp o k v es s, one (is_some (get cmp es k)))
-      where
-        one : (b : Bool) → cond b 0 1 ≤ 1
-        one true = omega arith
-        one false = omega arith
+    change_length (Some v) es s = grind (arith, length-put_entry cmp o k v es s)
     change_length None es s = omega (arith, length-take_entry cmp k es)
 
     -- ---- below the branch p, to which the key belongs
@@ -92,11 +82,7 @@ module _ {K V : Type 0} (cmp : K → K → Ordering) (k : K) where
         children_there c subtree keeps =
             let here = children_right cmp height front (p ∷ back) h in
             let over = children_over cmp height front (p ∷ back) h in
-            children_append cmp height front ((p.0, c) ∷ back) (children_left cmp height front (p ∷ back) h) (subtree, keeps (λ y. cmp p.0 y ≢ Greater) (turn_not_less cmp o k p.0 gap.here) here.1, high back here.2 (below_children cmp o k height back here.3 gap.none), here.3) over
-          where
-            high : (qs : List (Branch K V)) → AllByRecursion (λ q. EachBelow cmp q.0 p.1.entries) qs → AllByRecursion (λ q. cmp k q.0 ≡ Less) qs → AllByRecursion (λ q. EachBelow cmp q.0 c.entries) qs
-            high [] a b = tt
-            high (q ∷ qs) a b = (keeps (λ y. cmp q.0 y ≡ Greater) (reversed o k q.0 Less b.0) a.0, high qs a.1 b.1)
+            children_append cmp height front ((p.0, c) ∷ back) (children_left cmp height front (p ∷ back) h) (subtree, keeps (λ y. cmp p.0 y ≢ Greater) (turn_not_less cmp o k p.0 gap.here) here.1, all_both (λ q. EachBelow cmp q.0 p.1.entries) (λ q. cmp k q.0 ≡ Less) (λ q. EachBelow cmp q.0 c.entries) (λ q above less. keeps (λ y. cmp q.0 y ≡ Greater) (reversed o k q.0 Less less) above) back here.2 (below_children cmp o k height back here.3 gap.none), here.3) over
 
 -- ---- a change with a hook
 

@@ -14,8 +14,7 @@ use Rattle.cap_tree.specs.Shape.{branches, entries_of, AreChildren, AreFit, IsFi
 use Rattle.cap_tree.specs.Siblings.{IsRearrangement}
 use Rattle.cap_tree.specs.Cut.{IsCut, merged}
 use Rattle.cap_tree.proofs.EntryLemmas.{reversed, each_turn, below_middle, above_middle}
-use Rattle.cap_tree.proofs.PlaceLemmas.{all_turn, not_greater_self, less_not_greater, above_upper}
-use Rattle.cap_tree.proofs.BranchLemmas.{rest_at, around, all_left, all_right, all_append, entries_append, children_append, children_left, children_right, children_over, least_of}
+use Rattle.cap_tree.proofs.BranchLemmas.{all_turn, not_greater_self, less_not_greater, above_upper, rest_at, around, all_left, all_right, all_append, entries_append, children_append, children_left, children_right, children_over, least_of}
 
 module _ {K V : Type 0} (cmp : K → K → Ordering) (o : IsTotalOrder cmp) where
   -- entries in order, cut at d

@@ -1,11 +1,12 @@
 -- Entries in order, around one of them: what a look-up, a put and a take do on its side of it.
-use Rattle.std.proofs.Common.{◌≡◌, ◌+◌, suc, inl, inr, Bool, true, false, cond, List, [], ◌∷◌, ◌++◌, length, refl, ap, ◌∙◌, arith}
-use Rattle.std.specs.Prelude.{Option, Some, None, ◌⊎◌}
+use Rattle.std.proofs.Common.{◌≡◌, ◌+◌, inl, inr, cond, List, [], ◌∷◌, ◌++◌, length, refl, ap, ◌∙◌, arith}
+use Rattle.std.specs.Prelude.{Some, None, ◌⊎◌}
 use Rattle.std.specs.declared.cmp.Ordering.{Ordering}
 use Rattle.std.specs.declared.cmp.Ordering.TheVariants.{Less, Equal, Greater}
-use Rattle.std.specs.Ordering.{is_eq, is_le, is_gt, match_ordering, ordering_reverse}
+use Rattle.std.specs.Ordering.{is_eq, ordering_reverse}
 use Rattle.std.specs.Cmp.{IsTotalOrder, eq_by_cmp_equiv, alike_right, Equal-is}
 use Rattle.std.specs.Option.{is_some}
+use Rattle.std.proofs.lemmas.List.Elements.{filter-append}
 use Rattle.std.proofs.lemmas.Map.{lookup-remove_entry}
 use Rattle.std.proofs.lemmas.Map.Keys.{IsDistinct-from_sorted}
 use Rattle.std.specs.List.{All, AllByRecursion}
@@ -25,19 +26,10 @@ reversed o x y r h = o.antisymm y x ∙ ap ordering_reverse h
 same_test : {K : Type 0} {cmp : K → K → Ordering} → IsTotalOrder cmp → (q k : K) → is_eq (cmp q k) ≡ is_eq (cmp k q)
 same_test o q k = (eq_by_cmp_equiv o).symm q k
 
--- a key that is equal to e is not equal to one that is above it
-apart : {K : Type 0} {cmp : K → K → Ordering} → IsTotalOrder cmp → (q k e : K) → cmp k e ≡ Greater → is_eq (cmp q e) ≡ true → is_eq (cmp k q) ≡ false
-apart {cmp = cmp} o q k e h t = ap is_eq (alike_right o q e k ((Equal-is (cmp q e)).0 t)) ∙ ap is_eq h
-
 -- no keys are in order
 pub sorted_nil : {K : Type 0} (cmp : K → K → Ordering) → IsStrictlySortedBy cmp []
 unfolding IsStrictlySortedBy
 sorted_nil cmp = tt
-
--- where a test chooses twice
-cond_twice : {X : Type 0} (b : Bool) (x y z : X) → cond b x z ≡ cond b x (cond b y z)
-cond_twice true x y z = refl
-cond_twice false x y z = refl
 
 module _ {K V : Type 0} (cmp : K → K → Ordering) where
   -- each key of the entries compares so to k
@@ -67,12 +59,7 @@ module _ {K V : Type 0} (cmp : K → K → Ordering) where
   pub put_entry-before : (k : K) (v : V) (front back : List (K × V)) → Each Less k back → put_entry cmp (front ++ back) k v ≡ put_entry cmp front k v ++ back
   put_entry-before k v [] [] h = refl
   put_entry-before k v [] (b ∷ bs) h = rw h.0
-  put_entry-before k v (x ∷ xs) back h =
-      elim (cmp k x.0) as (λ r. match_ordering r ((k, v) ∷ x ∷ (xs ++ back)) ((k, v) ∷ (xs ++ back)) (x ∷ put_entry cmp (xs ++ back) k v) ≡ match_ordering r ((k, v) ∷ x ∷ xs) ((k, v) ∷ xs) (x ∷ put_entry cmp xs k v) ++ back) [
-        | Less ↦ refl
-        | Equal ↦ refl
-        | Greater ↦ ap (λ t. x ∷ t) (put_entry-before k v xs back h)
-      ]
+  put_entry-before k v (x ∷ xs) back h = grind (arith, put_entry-before k v xs back h)
 
   pub get-below : (k : K) (es : List (K × V)) → Each Less k es → get cmp es k ≡ None
   get-below k [] h = refl
@@ -82,33 +69,25 @@ module _ {K V : Type 0} (cmp : K → K → Ordering) where
   get-before k [] back h = get-below k back h
   get-before k (e ∷ es) back h = ap (λ t. cond (is_at (cmp k) e.0) (Some e.1) t) (get-before k es back h)
 
-  take_entry-below : (k : K) (es : List (K × V)) → Each Less k es → take_entry cmp es k ≡ es
-  take_entry-below k [] h = refl
-  take_entry-below k (e ∷ es) h = rw h.0 (ap (λ t. e ∷ t) (take_entry-below k es h.1))
+  -- nothing is taken where no key is equal
+  pub take_entry-absent : (k : K) (es : List (K × V)) → get cmp es k ≡ None → take_entry cmp es k ≡ es
+  take_entry-absent k [] h = refl
+  take_entry-absent k (e ∷ es) h = grind (arith, take_entry-absent k es)
 
   pub take_entry-before : (k : K) (front back : List (K × V)) → Each Less k back → take_entry cmp (front ++ back) k ≡ take_entry cmp front k ++ back
-  take_entry-before k [] back h = take_entry-below k back h
-  take_entry-before k (e ∷ es) back h =
-      elim (is_at (cmp k) e.0) as (λ b. cond b (es ++ back) (e ∷ take_entry cmp (es ++ back) k) ≡ cond b es (e ∷ take_entry cmp es k) ++ back) [
-        | true ↦ refl
-        | false ↦ ap (λ t. e ∷ t) (take_entry-before k es back h)
-      ]
+  take_entry-before k [] back h = take_entry-absent k back (get-below k back h)
+  take_entry-before k (e ∷ es) back h = grind (arith, take_entry-before k es back h)
 
   entries_from-below : (k : K) (es : List (K × V)) → Each Less k es → entries_from (cmp k) es ≡ es
   entries_from-below k [] h = refl
   entries_from-below k (e ∷ es) h = rw h.0 (ap (λ t. e ∷ t) (entries_from-below k es h.1))
 
   pub entries_from-before : (k : K) (front back : List (K × V)) → Each Less k back → entries_from (cmp k) (front ++ back) ≡ entries_from (cmp k) front ++ back
-  entries_from-before k [] back h = entries_from-below k back h
-  entries_from-before k (e ∷ es) back h =
-      elim (is_le (cmp k e.0)) as (λ b. cond b (e ∷ entries_from (cmp k) (es ++ back)) (entries_from (cmp k) (es ++ back)) ≡ cond b (e ∷ entries_from (cmp k) es) (entries_from (cmp k) es) ++ back) [
-        | true ↦ ap (λ t. e ∷ t) (entries_from-before k es back h)
-        | false ↦ entries_from-before k es back h
-      ]
+  entries_from-before k front back h = rw (filter-append, entries_from-below k back h) refl
 
   -- ---- parts of entries in order
 
-  each_front : (P : K → Type 0) (front back : List (K × V)) → AllByRecursion P (keys_of (front ++ back)) → AllByRecursion P (keys_of front)
+  pub each_front : (P : K → Type 0) (front back : List (K × V)) → AllByRecursion P (keys_of (front ++ back)) → AllByRecursion P (keys_of front)
   each_front P [] back h = tt
   each_front P (e ∷ es) back h = (h.0, each_front P es back h.1)
 
@@ -121,10 +100,14 @@ module _ {K V : Type 0} (cmp : K → K → Ordering) where
   ordered_front [] back s = tt
   ordered_front (e ∷ es) back s = (each_front (λ y. cmp e.0 y ≡ Less) es back s.0, ordered_front es back s.1)
 
+  pub ordered_rest : (front back : List (K × V)) → IsOrdered cmp (front ++ back) → IsOrdered cmp back
+  unfolding IsStrictlySortedBy
+  ordered_rest [] back s = s
+  ordered_rest (e ∷ es) back s = ordered_rest es back s.1
+
   pub ordered_back : (front : List (K × V)) (e : K × V) (back : List (K × V)) → IsOrdered cmp (front ++ e ∷ back) → IsOrdered cmp back
   unfolding IsStrictlySortedBy
-  ordered_back [] e back s = s.1
-  ordered_back (x ∷ xs) e back s = ordered_back xs e back s.1
+  ordered_back front e back s = (ordered_rest front (e ∷ back) s).1
 
   pub below_middle : (front : List (K × V)) (e : K × V) (back : List (K × V)) → IsOrdered cmp (front ++ e ∷ back) → AllByRecursion (λ y. cmp y e.0 ≡ Less) (keys_of front)
   unfolding IsStrictlySortedBy
@@ -133,8 +116,7 @@ module _ {K V : Type 0} (cmp : K → K → Ordering) where
 
   pub above_middle : (front : List (K × V)) (e : K × V) (back : List (K × V)) → IsOrdered cmp (front ++ e ∷ back) → AllByRecursion (λ y. cmp e.0 y ≡ Less) (keys_of back)
   unfolding IsStrictlySortedBy
-  above_middle [] e back s = s.0
-  above_middle (x ∷ xs) e back s = above_middle xs e back s.1
+  above_middle front e back s = (ordered_rest front (e ∷ back) s).0
 
   pub each_turn : (P Q : K → Type 0) → ((y : K) → P y → Q y) → (es : List (K × V)) → AllByRecursion P (keys_of es) → AllByRecursion Q (keys_of es)
   each_turn P Q f [] h = tt
@@ -158,65 +140,30 @@ module _ {K V : Type 0} (cmp : K → K → Ordering) where
 
     pub each_put : (P : K → Type 0) (k : K) (v : V) (es : List (K × V)) → P k → AllByRecursion P (keys_of es) → AllByRecursion P (keys_of (put_entry cmp es k v))
     each_put P k v [] p h = (p, tt)
-    each_put P k v (e ∷ es) p h =
-        elim (cmp k e.0) as (λ r. AllByRecursion P (keys_of (match_ordering r ((k, v) ∷ e ∷ es) ((k, v) ∷ es) (e ∷ put_entry cmp es k v)))) [
-          | Less ↦ (p, h)
-          | Equal ↦ (p, h.1)
-          | Greater ↦ (h.0, each_put P k v es p h.1)
-        ]
+    each_put P k v (e ∷ es) p h = grind (arith, each_put P k v es p h.1, p, h.0, h.1)
 
     pub ordered_put : (k : K) (v : V) (es : List (K × V)) → IsOrdered cmp es → IsOrdered cmp (put_entry cmp es k v)
     unfolding IsStrictlySortedBy
     ordered_put k v [] s = (tt, tt)
-    ordered_put k v (e ∷ es) s =
-        elim (cmp k e.0) as (λ r. cmp k e.0 ≡ r → IsStrictlySortedBy cmp (keys_of (match_ordering r ((k, v) ∷ e ∷ es) ((k, v) ∷ es) (e ∷ put_entry cmp es k v)))) [
-          | Less ↦ λ h. ((h, less_than_back k [] e es s h), s)
-          | Equal ↦ λ h. (equal_before_back k [] e es s h, s.1)
-          | Greater ↦ λ h. (each_put (λ y. cmp e.0 y ≡ Less) k v es (reversed o k e.0 Greater h) s.0, ordered_put k v es s.1)
-        ] refl
+    ordered_put k v (e ∷ es) s = grind (arith, less_than_back k [] e es s, equal_before_back k [] e es s, each_put (λ y. cmp e.0 y ≡ Less) k v es, reversed o k e.0 Greater, ordered_put k v es s.1, s.0, s.1)
 
     pub each_take : (P : K → Type 0) (k : K) (es : List (K × V)) → AllByRecursion P (keys_of es) → AllByRecursion P (keys_of (take_entry cmp es k))
     each_take P k [] h = tt
-    each_take P k (e ∷ es) h =
-        elim (is_at (cmp k) e.0) as (λ b. AllByRecursion P (keys_of (cond b es (e ∷ take_entry cmp es k)))) [
-          | true ↦ h.1
-          | false ↦ (h.0, each_take P k es h.1)
-        ]
+    each_take P k (e ∷ es) h = grind (arith, each_take P k es h.1, h.0, h.1)
 
     pub ordered_take : (k : K) (es : List (K × V)) → IsOrdered cmp es → IsOrdered cmp (take_entry cmp es k)
     unfolding IsStrictlySortedBy
     ordered_take k [] s = tt
-    ordered_take k (e ∷ es) s =
-        elim (is_at (cmp k) e.0) as (λ b. IsStrictlySortedBy cmp (keys_of (cond b es (e ∷ take_entry cmp es k)))) [
-          | true ↦ s.1
-          | false ↦ (each_take (λ y. cmp e.0 y ≡ Less) k es s.0, ordered_take k es s.1)
-        ]
+    ordered_take k (e ∷ es) s = grind (arith, each_take (λ y. cmp e.0 y ≡ Less) k es s.0, ordered_take k es s.1, s.1)
 
     pub length-put_entry : (k : K) (v : V) (es : List (K × V)) → IsOrdered cmp es → length (put_entry cmp es k v) ≡ length es + cond (is_some (get cmp es k)) 0 1
     unfolding IsStrictlySortedBy
     length-put_entry k v [] s = refl
-    length-put_entry k v (e ∷ es) s =
-        elim (cmp k e.0) as (λ r. cmp k e.0 ≡ r → length (match_ordering r ((k, v) ∷ e ∷ es) ((k, v) ∷ es) (e ∷ put_entry cmp es k v)) ≡ suc (length es) + cond (is_some (cond (is_eq r) (Some e.1) (get cmp es k))) 0 1) [
-          | Less ↦ λ h. rw (get-below k es (less_than_back k [] e es s h)) (omega arith)
-          | Equal ↦ λ h. omega arith
-          | Greater ↦ λ h. omega (arith, length-put_entry k v es s.1)
-        ] refl
-
-    updates_step : (k q : K) (v w : V) (e : K) (a b : Option V) → cmp k e ≡ Greater → a ≡ cond (is_eq (cmp k q)) (Some v) b → cond (is_eq (cmp q e)) (Some w) a ≡ cond (is_eq (cmp k q)) (Some v) (cond (is_eq (cmp q e)) (Some w) b)
-    updates_step k q v w e a b h same =
-        elim (is_eq (cmp q e)) as (λ t. is_eq (cmp q e) ≡ t → cond t (Some w) a ≡ cond (is_eq (cmp k q)) (Some v) (cond t (Some w) b)) [
-          | true ↦ λ t. rw (apart o q k e h t)
-          | false ↦ λ t. same
-        ] refl
+    length-put_entry k v (e ∷ es) s = grind (arith, get-below k es, less_than_back k [] e es s, length-put_entry k v es s.1)
 
     pub put_entry-Updates : (k : K) (v : V) (es : List (K × V)) → Updates cmp es (put_entry cmp es k v) k (Some v)
     put_entry-Updates k v [] q = rw (same_test o q k)
-    put_entry-Updates k v (e ∷ es) q =
-        elim (cmp k e.0) as (λ r. cmp k e.0 ≡ r → get cmp (match_ordering r ((k, v) ∷ e ∷ es) ((k, v) ∷ es) (e ∷ put_entry cmp es k v)) q ≡ cond (is_eq (cmp k q)) (Some v) (get cmp (e ∷ es) q)) [
-          | Less ↦ λ h. rw (same_test o q k)
-          | Equal ↦ λ h. rw (← alike_right o k e.0 q h, same_test o q k) (cond_twice (is_eq (cmp k q)) (Some v) (Some e.1) (get cmp es q))
-          | Greater ↦ λ h. updates_step k q v e.1 e.0 _ _ h (put_entry-Updates k v es q)
-        ] refl
+    put_entry-Updates k v (e ∷ es) q = grind (arith, same_test o q k, alike_right o k e.0 q, alike_right o q e.0 k, put_entry-Updates k v es q)
 
     pub take_entry-Updates : (k : K) (es : List (K × V)) → IsOrdered cmp es → Updates cmp es (take_entry cmp es k) k None
     take_entry-Updates k es s q = lookup-remove_entry (eq_by_cmp_equiv o) (is_at (cmp k)) (λ x y t. ap is_eq (o.congr k x y ((Equal-is (cmp k x)).0 t))) q es (IsDistinct-from_sorted cmp (keys_of es) s)
@@ -225,40 +172,17 @@ module _ {K V : Type 0} (cmp : K → K → Ordering) where
     pub each_found : (es : List (K × V)) → IsOrdered cmp es → All (λ e. get cmp es e.0 ≡ Some e.1) es
     each_found es s i d below = lookup_from_place (eq_by_cmp_equiv o) es i _ _ (IsDistinct-from_sorted cmp (keys_of es) s) (slice_get-get_or es i d below)
 
-  -- nothing is taken where no key is equal
-  pub take_entry-absent : (k : K) (es : List (K × V)) → get cmp es k ≡ None → take_entry cmp es k ≡ es
-  take_entry-absent k [] h = refl
-  take_entry-absent k (e ∷ es) h = absent_step (is_at (cmp k) e.0) h (take_entry-absent k es)
-    where
-      absent_step : (b : Bool) → cond b (Some e.1) (get cmp es k) ≡ None → (get cmp es k ≡ None → take_entry cmp es k ≡ es) → cond b es (e ∷ take_entry cmp es k) ≡ e ∷ es
-      absent_step true h f = cc
-      absent_step false h f = ap (λ t. e ∷ t) (f h)
-
   pub length-take_entry : (k : K) (es : List (K × V)) → length (take_entry cmp es k) + cond (is_some (get cmp es k)) 1 0 ≡ length es
   length-take_entry k [] = refl
-  length-take_entry k (e ∷ es) =
-      elim (is_at (cmp k) e.0) as (λ b. length (cond b es (e ∷ take_entry cmp es k)) + cond (is_some (cond b (Some e.1) (get cmp es k))) 1 0 ≡ suc (length es)) [
-        | true ↦ omega arith
-        | false ↦ omega (arith, length-take_entry k es)
-      ]
+  length-take_entry k (e ∷ es) = grind (arith, length-take_entry k es)
 
   entries_below-none : (k : K) (es : List (K × V)) → Each Less k es → entries_below (cmp k) es ≡ []
   entries_below-none k [] h = refl
   entries_below-none k (e ∷ es) h = rw h.0 (entries_below-none k es h.1)
-
-  pub ordered_rest : (front back : List (K × V)) → IsOrdered cmp (front ++ back) → IsOrdered cmp back
-  unfolding IsStrictlySortedBy
-  ordered_rest [] back s = s
-  ordered_rest (e ∷ es) back s = ordered_rest es back s.1
 
   module _ (o : IsTotalOrder cmp) where
     -- the entries below a key stand before the others
     pub children_at : (k : K) (es : List (K × V)) → IsOrdered cmp es → es ≡ entries_below (cmp k) es ++ entries_from (cmp k) es
     unfolding IsStrictlySortedBy
     children_at k [] s = refl
-    children_at k (e ∷ es) s =
-        elim (cmp k e.0) as (λ r. cmp k e.0 ≡ r → e ∷ es ≡ cond (is_gt r) (e ∷ entries_below (cmp k) es) (entries_below (cmp k) es) ++ cond (is_le r) (e ∷ entries_from (cmp k) es) (entries_from (cmp k) es)) [
-          | Less ↦ λ h. let later = less_than_back o k [] e es s h in rw (entries_below-none k es later, entries_from-below k es later)
-          | Equal ↦ λ h. let later = equal_before_back o k [] e es s h in rw (entries_below-none k es later, entries_from-below k es later)
-          | Greater ↦ λ h. ap (λ t. e ∷ t) (children_at k es s.1)
-        ] refl
+    children_at k (e ∷ es) s = grind (arith, entries_below-none k es, entries_from-below k es, less_than_back o k [] e es s, equal_before_back o k [] e es s, children_at k es s.1)

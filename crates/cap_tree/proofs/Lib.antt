@@ -5,9 +5,5 @@ pub mod Crossing
 pub mod EntryLemmas
 mod HeightLemmas
 pub mod LeafLemmas
-mod ChildLemmas
 mod PathLemmas
-mod PlaceLemmas
-mod RootLemmas
 mod SiblingLemmas
-mod WayLemmas

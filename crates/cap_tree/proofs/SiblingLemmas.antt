@@ -1,22 +1,56 @@
--- The children of a node, around one that is looked at or changed, or around two neighbours.
-use Rattle.std.proofs.Common.{◌≡◌, ℕ, zero, suc, ◌+◌, ◌<◌, ◌≤◌, List, [], ◌∷◌, ◌++◌, length, take, drop, get_or, set, refl, sym, ap, subst, ◌∙◌, arith, length-append, inl, inr}
-use Rattle.std.specs.Prelude.{◌≢◌, Some}
+-- The children of a node as it sees them, around one that is looked at or changed, or around two neighbours.
+use Rattle.std.proofs.Common.{◌≡◌, ℕ, zero, suc, ◌+◌, ◌<◌, ◌≤◌, List, [], ◌∷◌, ◌++◌, length, vec_len, take, drop, get_or, set, refl, sym, ap, subst, ◌∙◌, arith, length-append, inl, inr, ◌-◌}
+use Rattle.std.specs.Prelude.{◌≢◌, Some, slice_get}
+use Rattle.std.specs.declared.vec.Vec.{Vec}
 use Rattle.std.specs.declared.cmp.Ordering.{Ordering}
 use Rattle.std.specs.declared.cmp.Ordering.TheVariants.{Less, Equal, Greater}
 use Rattle.std.specs.Cmp.{IsTotalOrder}
-use Rattle.std.specs.List.{insert, remove}
-use Rattle.std.proofs.lemmas.List.{append_assoc, map-append, length-map, length-take-le, set_split}
+use Rattle.std.specs.List.{AllByRecursion, insert, remove}
+use Rattle.std.proofs.lemmas.List.{append_assoc, append-nil, map-append, length-map, length-take-le, set_split, take_more, map-set, get_or-map}
 use Rattle.cap_tree.specs.declared.node.Child.{Child}
 use Rattle.cap_tree.specs.Subtree.{Subtree, Branch}
 use Rattle.cap_tree.specs.Tree.{IsOrdered}
-use Rattle.cap_tree.specs.Shape.{branches, entries_of, items_at, IsChild, AreChildren, IsFit, AreFit, place}
+use Rattle.cap_tree.specs.Shape.{branches, entries_of, items_at, IsChild, EachBelow, NoneBelow, AreChildren, IsFit, AreFit, place}
 use Rattle.cap_tree.specs.Siblings.{AreSiblings, IsRearrangement, HasItems, IsReady}
 use Rattle.cap_tree.specs.Cut.{AreNeighbours, IsCut}
-use Rattle.cap_tree.proofs.EntryLemmas.{ordered_front, ordered_rest}
-use Rattle.cap_tree.proofs.BranchLemmas.{around, insert_around, two_around, remove_around, redo_around, read_at, all_left, all_right, all_append, entries_append, count_append, children_right, IsGap, gap_at, one_entries, one_children, two_entries, two_children, place_first, place_second}
-use Rattle.cap_tree.proofs.PlaceLemmas.{is_not_less, place_within}
+use Rattle.cap_tree.proofs.EntryLemmas.{each_front, each_turn, ordered_front, ordered_rest}
+use Rattle.cap_tree.proofs.BranchLemmas.{around, insert_around, two_around, remove_around, redo_around, read_at, all_left, all_right, all_append, entries_append, count_append, children_right, IsGap, gap_at, children_append, children_left, children_over, least_of, first_is, place_first, place_second, above_upper, is_not_less, less_not_greater, place_within, leasts_below, place_step, step_up}
 use Rattle.cap_tree.proofs.HeightLemmas.{fed}
-use Rattle.cap_tree.proofs.ChildLemmas.{length_branches}
+
+module _ {K V Z : Type 0} where
+  -- one more child that is seen as the child at i
+  pub branches_push : (copies : List (Child K V Z)) (new : Child K V Z) (children : List (Child K V Z)) (i : ℕ) (d : Child K V Z) → i < length children → branches copies ≡ take i (branches children) → d ≡ get_or children i d → new.least ≡ d.least → new.node.value ≡ d.node.value → branches (copies ++ new ∷ []) ≡ take (i + 1) (branches children)
+  branches_push copies new children i d within so_far is least value =
+      let at = get_or-map {Y = Branch K V} (λ (p : Child K V Z). (p.least, p.node.value)) children i d (d.least, d.node.value) within in
+      let same : (new.least, new.node.value) ≡ get_or (branches children) i (d.least, d.node.value) = rw (at, ← is, least, value) in
+      let more = take_more (branches children) i (d.least, d.node.value) (rw length-map within) in
+      rw (map-append, so_far, more, same)
+
+  -- a child as its parent sees it
+  pub at_branches : (children : List (Child K V Z)) (j : ℕ) (d : Child K V Z) → j < length children → d ≡ get_or children j d → get_or (branches children) j (d.least, d.node.value) ≡ (d.least, d.node.value)
+  at_branches children j d within is =
+      let at = get_or-map {Y = Branch K V} (λ (p : Child K V Z). (p.least, p.node.value)) children j d (d.least, d.node.value) within in
+      rw (at, ← is)
+
+  pub branches_set : (children : List (Child K V Z)) (j : ℕ) (x : Child K V Z) → branches (set children j x) ≡ set (branches children) j (x.least, x.node.value)
+  branches_set children j x = map-set (λ (p : Child K V Z). (p.least, p.node.value)) children j x
+
+  pub length_branches : (children : List (Child K V Z)) → length (branches children) ≡ length children
+  length_branches children = rw length-map refl
+
+  -- the first child gets another least key
+  pub lowered : (children : List (Child K V Z)) (d x : Child K V Z) (k : K) → 0 < length children → d ≡ get_or children 0 d → x.least ≡ k → x.node.value ≡ d.node.value → branches (set children 0 x) ≡ set (branches children) 0 (k, (get_or (branches children) 0 (d.least, d.node.value)).1)
+  lowered children d x k some is least node = rw (branches_set, at_branches children 0 d some is, least, node)
+
+  -- a key that is not below the last child's least key is below no child's
+  pub last_place : (cmp : K → K → Ordering) → IsTotalOrder cmp → (k : K) (height : ℕ) (children : List (Child K V Z)) (x : Child K V Z) → AreChildren cmp height (branches children) → slice_get children (length children - 1) ≡ Some x → cmp k x.least ≢ Less → place cmp k (branches children) ≡ length children
+  last_place cmp o k height [] x h is not = refl
+  last_place cmp o k height (p ∷ []) x h is not = let same : p ≡ x = cc in step_up cmp o k (p.least, p.node.value) [] (rw same not)
+  last_place cmp o k height (p ∷ q ∷ qs) x h is not =
+      let less : suc (suc (length qs)) - 1 ≡ suc (suc (length qs) - 1) = omega arith in
+      let rest = last_place cmp o k height (q ∷ qs) x h.3 (rw less at is) not in
+      let up = (place_step cmp o k (q.least, q.node.value) (branches qs) (length qs) (rest ∙ omega arith)).1 in
+      step_up cmp o k (p.least, p.node.value) (branches (q ∷ qs)) (λ less. up (o.trans k p.least q.least less (leasts_below cmp o p.least p.node.value.entries (branches (q ∷ qs)) h.0.1 h.1 h.2).0)) ∙ omega (arith, rest)
 
 module _ {K V Z : Type 0} where
   pub cut : (whole front rest : List (Child K V Z)) → whole ≡ front ++ rest → branches whole ≡ branches front ++ branches rest
@@ -37,17 +71,20 @@ module _ {K V Z : Type 0} where
     cut_insert y within = rw (← least) (cut (insert (set xs j x) (j + 1) y) (take j xs) (x ∷ y ∷ drop (suc j) xs) (insert_around xs j x y within))
 
   -- d and e stand one behind the other, and e is taken out
-  module _ (xs : List (Child K V Z)) (j : ℕ) (d e : Child K V Z) (within : j + 1 < length xs) (is_d : d ≡ get_or (remove xs (j + 1)) j d) (is_e : e ≡ get_or xs (j + 1) e) where
-    pub cut_two : branches xs ≡ branches (take j xs) ++ (d.least, d.node.value) ∷ (e.least, e.node.value) ∷ branches (drop (suc (suc j)) xs)
-    cut_two = cut xs (take j xs) (d ∷ e ∷ drop (suc (suc j)) xs) (two_around xs j d e within is_d is_e)
+  module _ (xs : Vec (Child K V Z) Z) (left : List (Child K V Z)) (j : ℕ) (d e : Child K V Z) (some : j + 1 < vec_len xs) (is : left ≡ remove xs.items (j + 1)) (is_d : d ≡ get_or left j d) (is_e : e ≡ get_or xs.items (j + 1) e) where
+    within : j + 1 < length xs.items
+    within = omega (arith, some, xs.ok.0)
+
+    pub cut_two : branches xs.items ≡ branches (take j xs.items) ++ (d.least, d.node.value) ∷ (e.least, e.node.value) ∷ branches (drop (suc (suc j)) xs.items)
+    cut_two = cut xs.items (take j xs.items) (d ∷ e ∷ drop (suc (suc j)) xs.items) (two_around xs.items j d e within (rw is at is_d) is_e)
 
     module _ (x : Child K V Z) (least : x.least ≡ d.least) where
-      pub cut_remove : branches (set (remove xs (j + 1)) j x) ≡ branches (take j xs) ++ (d.least, x.node.value) ∷ branches (drop (suc (suc j)) xs)
-      cut_remove = rw (← least) (cut (set (remove xs (j + 1)) j x) (take j xs) (x ∷ drop (suc (suc j)) xs) (remove_around xs j x within))
+      pub cut_remove : branches (set left j x) ≡ branches (take j xs.items) ++ (d.least, x.node.value) ∷ branches (drop (suc (suc j)) xs.items)
+      cut_remove = rw (← least, is) (cut (set (remove xs.items (j + 1)) j x) (take j xs.items) (x ∷ drop (suc (suc j)) xs.items) (remove_around xs.items j x within))
 
       -- and y stands in its place
-      pub cut_redo : (y : Child K V Z) → branches (insert (set (remove xs (j + 1)) j x) (j + 1) y) ≡ branches (take j xs) ++ (d.least, x.node.value) ∷ (y.least, y.node.value) ∷ branches (drop (suc (suc j)) xs)
-      cut_redo y = rw (← least) (cut (insert (set (remove xs (j + 1)) j x) (j + 1) y) (take j xs) (x ∷ y ∷ drop (suc (suc j)) xs) (redo_around xs j x y within))
+      pub cut_redo : (y : Child K V Z) → branches (insert (set left j x) (j + 1) y) ≡ branches (take j xs.items) ++ (d.least, x.node.value) ∷ (y.least, y.node.value) ∷ branches (drop (suc (suc j)) xs.items)
+      cut_redo y = rw (← least, is) (cut (insert (set (remove xs.items (j + 1)) j x) (j + 1) y) (take j xs.items) (x ∷ y ∷ drop (suc (suc j)) xs.items) (redo_around xs.items j x y within))
 
 -- a branch that is neither too full nor too underfull stands in for another
 pub fit_set : {K V : Type 0} (front back : List (Branch K V)) (p : Branch K V) (c : Subtree K V) → AreFit (front ++ p ∷ back) → IsFit c → AreFit (front ++ (p.0, c) ∷ back)
@@ -99,12 +136,6 @@ module _ {K V : Type 0} (cmp : K → K → Ordering) where
           not_below = pair.3.1;
         }
 
-  -- ---- other children with the same entries
-
-  module _ (height : ℕ) (old new : List (Branch K V)) (same : IsRearrangement cmp height old new) where
-    pub still : AreSiblings cmp height old → AreSiblings cmp height new
-    still s = record { children = same.children; fit = same.fit; ordered = rw same.entries s.ordered; fits = rw same.entries s.fits }
-
   -- each child has at least four items, and at most sixteen
   pub fit_items : (P : ℕ → Type 0) → ((n : ℕ) → 4 ≤ n → n ≤ 16 → P n) → (ps : List (Branch K V)) (i : ℕ) → i < length ps → AreFit ps → HasItems P i ps
   fit_items P f [] i within h d = absurd (omega arith)
@@ -123,24 +154,28 @@ module _ {K V : Type 0} (cmp : K → K → Ordering) (o : IsTotalOrder cmp) (hei
   children : AreChildren cmp height (front ++ p ∷ (rest ++ back))
   children = subst (AreChildren cmp height) is s.children
 
+  middle : AreChildren cmp height (p ∷ (rest ++ back))
+  middle = children_right cmp height front (p ∷ (rest ++ back)) children
+
+  over : AllByRecursion (λ q. EachBelow cmp q.0 (entries_of front)) (p ∷ (rest ++ back))
+  over = children_over cmp height front (p ∷ (rest ++ back)) children
+
+  low : NoneBelow cmp p.0 (entries_of (p ∷ rest))
+  low = least_of cmp o height p rest (children_left cmp height (p ∷ rest) back middle)
+
   fit : AreFit (front ++ p ∷ (rest ++ back))
   fit = subst AreFit is s.fit
 
-  fit_front : AreFit front
-  fit_front = all_left (λ q. IsFit q.1) front (p ∷ (rest ++ back)) fit
-
-  fit_back : AreFit back
-  fit_back = all_right (λ q. IsFit q.1) rest back (all_right (λ q. IsFit q.1) front (p ∷ (rest ++ back)) fit).1
+  instead : (others new : List (Branch K V)) → new ≡ front ++ (others ++ back) → entries_of others ≡ entries_of (p ∷ rest) → AreChildren cmp height others → AllByRecursion (λ q. EachBelow cmp q.0 (entries_of front)) others → AreFit others → IsRearrangement cmp height old new
+  instead others new now same h above fit_others = rw (now, is) (record {
+    entries = entries_append front (others ++ back) ∙ ap (λ t. entries_of front ++ t) (entries_append others back ∙ ap (λ t. t ++ entries_of back) same ∙ sym (entries_append (p ∷ rest) back)) ∙ sym (entries_append front (p ∷ (rest ++ back)));
+    children = children_append cmp height front (others ++ back) (children_left cmp height front (p ∷ (rest ++ back)) children) (children_append cmp height others back h (children_right cmp height (p ∷ rest) back middle) (rw same (children_over cmp height (p ∷ rest) back middle))) (all_append (λ q. EachBelow cmp q.0 (entries_of front)) others back above (all_right (λ q. EachBelow cmp q.0 (entries_of front)) (p ∷ rest) back over));
+    fit = all_append (λ q. IsFit q.1) front (others ++ back) (all_left (λ q. IsFit q.1) front (p ∷ (rest ++ back)) fit) (all_append (λ q. IsFit q.1) others back fit_others (all_right (λ q. IsFit q.1) (p ∷ rest) back (all_right (λ q. IsFit q.1) front (p ∷ (rest ++ back)) fit)));
+  })
 
   -- one with all their entries
   pub one_instead : (c : Subtree K V) (new : List (Branch K V)) → new ≡ front ++ (p.0, c) ∷ back → c.height + 1 ≡ height → c.entries ≡ entries_of (p ∷ rest) → IsFit c → IsRearrangement cmp height old new
-  one_instead c new now level same fit_c =
-      let subtree : IsChild height c = (level, fed c (omega (arith, fit_c.0)) fit_c.2) in
-      rw (now, is) (record {
-        entries = one_entries cmp o height front p rest back children c subtree same;
-        children = one_children cmp o height front p rest back children c subtree same;
-        fit = all_append (λ q. IsFit q.1) front ((p.0, c) ∷ back) fit_front (fit_c, fit_back);
-      })
+  one_instead c new now level same fit_c = instead ((p.0, c) ∷ []) new now (append-nil c.entries ∙ same) ((level, fed c (omega (arith, fit_c.0)) fit_c.2), rw same low, tt, tt) (over.0, tt) (fit_c, tt)
 
   -- two, cut at k
   module _ (at : ℕ) (whole a b : Subtree K V) (k : K) (cut : IsCut cmp at whole a b (Some k)) (level : whole.height + 1 ≡ height) (same : whole.entries ≡ entries_of (p ∷ rest)) (fit_a : IsFit a) (fit_b : IsFit b) (new : List (Branch K V)) (now : new ≡ front ++ (p.0, a) ∷ (k, b) ∷ back) where
@@ -148,11 +183,10 @@ module _ {K V : Type 0} (cmp : K → K → Ordering) (o : IsTotalOrder cmp) (hei
     two_instead =
         let child_a : IsChild height a = (omega (arith, level, cut.height), fed a (omega (arith, fit_a.0)) fit_a.2) in
         let child_b : IsChild height b = (omega (arith, level, cut.back_height), fed b (omega (arith, fit_b.0)) fit_b.2) in
-        rw (now, is) (record {
-          entries = two_entries cmp o height front p rest back children k a b child_a child_b cut.parted.1 cut.parted.2 (sym cut.entries ∙ same);
-          children = two_children cmp o height front p rest back children k a b child_a child_b cut.parted.1 cut.parted.2 (sym cut.entries ∙ same);
-          fit = all_append (λ q. IsFit q.1) front ((p.0, a) ∷ (k, b) ∷ back) fit_front (fit_a, (fit_b, fit_back));
-        })
+        let both = sym cut.entries ∙ same in
+        let low_a : NoneBelow cmp p.0 a.entries = each_front cmp (λ y. cmp p.0 y ≢ Greater) a.entries b.entries (rw both low) in
+        let above : EachBelow cmp k (entries_of front) = each_turn cmp (λ y. cmp p.0 y ≡ Greater) (λ y. cmp k y ≡ Greater) (λ y. above_upper cmp o p.0 k y (less_not_greater cmp o p.0 k (first_is cmp o p.0 k a.entries child_a.1 low_a cut.parted.1))) (entries_of front) over.0 in
+        instead ((p.0, a) ∷ (k, b) ∷ []) new now (ap (λ t. a.entries ++ t) (append-nil b.entries) ∙ both) (child_a, low_a, (cut.parted.1, tt), (child_b, cut.parted.2, tt, tt)) (over.0, (above, tt)) (fit_a, (fit_b, tt))
 
     -- the key is below k, and belongs to the first of them, or it belongs to the second
     module _ (P : ℕ → Type 0) (j i : ℕ) (first : j ≡ length front) (key : K) (gap : IsGap cmp key front p.0 back) (less : cmp key k ≡ Less → i ≡ j) (not : cmp key k ≢ Less → i ≡ j + 1) (items_a : P a.items) (items_b : P b.items) where
@@ -175,18 +209,12 @@ pub record IsWay {K V : Type 0} (cmp : K → K → Ordering) (height : ℕ) (key
   pub has : P p.1.items
 
 pub way_to : {K V Z : Type 0} (cmp : K → K → Ordering) → IsTotalOrder cmp → (height : ℕ) (key : K) (P : ℕ → Type 0) (xs : List (Child K V Z)) (j : ℕ) (d : Child K V Z) → AreChildren cmp height (branches xs) → IsReady cmp key P (branches xs) j → d ≡ get_or xs j d → (j < length xs) × IsWay cmp height key P (branches xs) (branches (take j xs)) (d.least, d.node.value) (branches (drop (suc j) xs))
-way_to {K = K} {V = V} cmp o height key P xs j d h ready is =
+way_to cmp o height key P xs j d h ready is =
     let within : j < length xs = omega (arith, ready.within, length_branches xs) in
     let first = front_length xs j within in
-    let p : Branch K V = (d.least, d.node.value) in
-    let front = branches (take j xs) in
-    let back = branches (drop (suc j) xs) in
-    let whole = cut_at xs j d within is in (
-      within,
-      record {
-        is = whole;
-        children = subst (AreChildren cmp height) whole h;
-        gap = gap_at cmp o key front p back j (subst (λ l. place cmp key l ≡ j + 1) whole ready.place) first;
-        has = child_has cmp (branches xs) front back p whole P j first ready.items;
-      },
-    )
+    let whole = cut_at xs j d within is in
+    (within, record { is = whole; children = subst (AreChildren cmp height) whole h; gap = gap_at cmp o key _ _ _ j (subst (λ l. place cmp key l ≡ j + 1) whole ready.place) first; has = child_has cmp _ _ _ _ whole P j first ready.items })
+
+-- where the children are those of before
+pub way_in : {K V Z : Type 0} (cmp : K → K → Ordering) → IsTotalOrder cmp → (height : ℕ) (key : K) (P : ℕ → Type 0) (old xs : List (Child K V Z)) (j : ℕ) (d : Child K V Z) → xs ≡ old → AreSiblings cmp height (branches old) → IsReady cmp key P (branches old) j → d ≡ get_or xs j d → (j < length xs) × AreSiblings cmp height (branches xs) × IsWay cmp height key P (branches xs) (branches (take j xs)) (d.least, d.node.value) (branches (drop (suc j) xs))
+way_in cmp o height key P old xs j d same s ready is = let to = way_to cmp o height key P xs j d (rw same s.children) (rw same ready) is in (to.0, rw same s, to.1)

@@ -1,7 +1,7 @@
 use Rattle.std.proofs.Common.{◌≡◌, ◌+◌, ◌*◌, ◌<◌, ◌≤◌, ◌^◌, length, arith, rules, sym, ap, subst, ◌∙◌}
 use Rattle.cap_tree.specs.Tree.{IsOrdered, get}
 use Rattle.cap_tree.specs.Change.{gain, loss}
-use Rattle.cap_tree.specs.Shape.{branches, entries_of, AreFit, IsFit, IsChild}
+use Rattle.cap_tree.specs.Shape.{entries_of, AreFit, IsFit, IsChild}
 use Rattle.cap_tree.proofs.HeightLemmas.{fed}
 use Rattle.cap_tree.proofs.ChangeLemmas.{either_way, changes_of, changes_keeps, changes_length, changes_there, children_there, get_there}
 use Rattle.cap_tree.proofs.SiblingLemmas.{cut_set, child_is, child_fit, child_ordered, count_is, fit_set, way_to}
@@ -11,15 +11,13 @@ pub change_in_node-change_in_child-requires : goal.change_in_node-change_in_chil
 change_in_node-change_in_child-requires g t c =
     let n = rw c.in-Inner.is at c.node.invariant in
     let view = rw c.in-Inner.is at c.node.view_is in
-    let items = c.make_ready.new.children.items in
-    let at = c.in_ok-at-in-Inner.at in
     let key = g.C.Change.key_of c.args.change in
     let next = g.C.Change.next_of c.args.change in
     let child = c.index_mut.result.now in
     let e = c.make_ready.ensures in
-    let to = way_to g.K.Ord.cmp g.met.K.Ord.total c.in-Inner.height key (λ n. (n + gain next ≤ 16) × (4 + loss next ≤ n)) items at child e.same.children c.in_ok-at-in-Inner.ensures.ready c.index_mut.ensures.value in
+    let to = way_to g.K.Ord.cmp g.met.K.Ord.total c.in-Inner.height key (λ n. (n + gain next ≤ 16) × (4 + loss next ≤ n)) c.make_ready.new.children.items c.in_ok-at-in-Inner.at child e.same.children c.in_ok-at-in-Inner.ensures.ready c.index_mut.ensures.value in
     let way = to.1 in
-    let entries : entries_of (branches items) ≡ c.args.node.now.entries = e.same.entries ∙ ap (λ n. n.entries) view in
+    let entries = e.same.entries ∙ ap (λ n. n.entries) view in
     let found : get g.K.Ord.cmp c.args.node.now.entries key ≡ get g.K.Ord.cmp child.node.value.entries key = ap (λ l. get g.K.Ord.cmp l key) (sym entries ∙ ap entries_of way.is) ∙ get_there g.K.Ord.cmp key g.met.K.Ord.total c.in-Inner.height _ _ _ way.children way.gap in
     let can : g.H.Hook.can_ask c.args.hook.now (get g.K.Ord.cmp child.node.value.entries key) next = rw (← found) c.requires.can_ask in
     let ordered : IsOrdered g.K.Ord.cmp child.node.value.entries = child_ordered g.K.Ord.cmp _ _ _ _ way.is (rw entries c.requires.ordered) in
@@ -35,18 +33,15 @@ pub change_in_node-invariant_of-node-in-Inner : goal.change_in_node-invariant_of
 change_in_node-invariant_of-node-in-Inner g t c =
     let n = rw c.in-Inner.is at c.node.invariant in
     let view = rw c.in-Inner.is at c.node.view_is in
-    let items = c.make_ready.new.children.items in
-    let at = c.in_ok-at-in-Inner.at in
     let key = g.C.Change.key_of c.args.change in
     let next = g.C.Change.next_of c.args.change in
     let child = c.index_mut.result.now in
     let e = c.make_ready.ensures in
-    let to = way_to g.K.Ord.cmp g.met.K.Ord.total c.in-Inner.height key (λ n. (n + gain next ≤ 16) × (4 + loss next ≤ n)) items at child e.same.children c.in_ok-at-in-Inner.ensures.ready c.index_mut.ensures.value in
+    let to = way_to g.K.Ord.cmp g.met.K.Ord.total c.in-Inner.height key (λ n. (n + gain next ≤ 16) × (4 + loss next ≤ n)) c.make_ready.new.children.items c.in_ok-at-in-Inner.at child e.same.children c.in_ok-at-in-Inner.ensures.ready c.index_mut.ensures.value in
     let way = to.1 in
-    let entries : entries_of (branches items) ≡ c.args.node.now.entries = e.same.entries ∙ ap (λ n. n.entries) view in
     let x = c.change_in_child.new.child in
     let w = c.change_in_child.ensures in
-    let new = cut_set items at child x w.least to.0 in
+    let new = cut_set c.make_ready.new.children.items c.in_ok-at-in-Inner.at child x w.least to.0 in
     let level = (child_is g.K.Ord.cmp _ _ _ _ way.is c.in-Inner.height e.same.children).0 in
     let subtree : IsChild c.in-Inner.height x.node.value = (omega (arith, level, w.height), fed x.node.value (omega (arith, w.fit.0)) w.fit.2) in
     record {
@@ -60,20 +55,17 @@ change_in_node-invariant_of-node-in-Inner g t c =
 pub change_in_node-returns-in-Inner : goal.change_in_node-returns-in-Inner
 change_in_node-returns-in-Inner g t c =
     let view = rw c.in-Inner.is at c.node.view_is in
-    let items = c.make_ready.new.children.items in
-    let at = c.in_ok-at-in-Inner.at in
     let key = g.C.Change.key_of c.args.change in
     let next = g.C.Change.next_of c.args.change in
     let child = c.index_mut.result.now in
     let e = c.make_ready.ensures in
-    let to = way_to g.K.Ord.cmp g.met.K.Ord.total c.in-Inner.height key (λ n. (n + gain next ≤ 16) × (4 + loss next ≤ n)) items at child e.same.children c.in_ok-at-in-Inner.ensures.ready c.index_mut.ensures.value in
+    let to = way_to g.K.Ord.cmp g.met.K.Ord.total c.in-Inner.height key (λ n. (n + gain next ≤ 16) × (4 + loss next ≤ n)) c.make_ready.new.children.items c.in_ok-at-in-Inner.at child e.same.children c.in_ok-at-in-Inner.ensures.ready c.index_mut.ensures.value in
     let way = to.1 in
-    let entries : entries_of (branches items) ≡ c.args.node.now.entries = e.same.entries ∙ ap (λ n. n.entries) view in
     let x = c.change_in_child.new.child in
     let w = c.change_in_child.ensures in
-    let new = cut_set items at child x w.least to.0 in
+    let new = cut_set c.make_ready.new.children.items c.in_ok-at-in-Inner.at child x w.least to.0 in
     record {
-      changes = changes_of g.K.Ord.cmp g.H.Hook.gives key next c.args.hook.now c.change_in_child.new.hook c.change_in_child.result _ _ _ _ (ap entries_of (sym way.is) ∙ entries) (ap entries_of (sym new)) (changes_there g.K.Ord.cmp g.H.Hook.gives key next c.args.hook.now c.change_in_child.new.hook g.met.K.Ord.total c.in-Inner.height _ _ _ way.children way.gap x.node.value c.change_in_child.result w.changes);
+      changes = changes_of g.K.Ord.cmp g.H.Hook.gives key next c.args.hook.now c.change_in_child.new.hook c.change_in_child.result _ _ _ _ (ap entries_of (sym way.is) ∙ e.same.entries ∙ ap (λ n. n.entries) view) (ap entries_of (sym new)) (changes_there g.K.Ord.cmp g.H.Hook.gives key next c.args.hook.now c.change_in_child.new.hook g.met.K.Ord.total c.in-Inner.height _ _ _ way.children way.gap x.node.value c.change_in_child.result w.changes);
       height = ap (λ n. n.height) view;
       least = omega (arith, ap (λ n. n.items) view, e.least);
     }

@@ -2,7 +2,7 @@ use Rattle.std.proofs.Common.{◌≡◌, ◌≢◌, arith, refl, sym, ◌∙◌}
 use Rattle.std.specs.declared.cmp.Ordering.TheVariants.{Less, Greater}
 use Rattle.cap_tree.specs.Shape.{branches, entries_of}
 use Rattle.cap_tree.proofs.EntryLemmas.{each_turn}
-use Rattle.cap_tree.proofs.PlaceLemmas.{below_children, below_entries, less_not_greater}
+use Rattle.cap_tree.proofs.BranchLemmas.{below_children, below_entries, less_not_greater}
 use Rattle.cap_tree.proofs.SiblingLemmas.{rearranged, ready_fit}
 use Rattle.cap_tree.proofs.child.child_index_for.Goals as goal
 

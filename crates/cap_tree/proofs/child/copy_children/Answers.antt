@@ -1,6 +1,6 @@
 use Rattle.std.proofs.Common.{arith}
 use Rattle.std.proofs.lemmas.Grind.{common_steps}
-use Rattle.cap_tree.proofs.ChildLemmas.{branches_push}
+use Rattle.cap_tree.proofs.SiblingLemmas.{branches_push}
 use Rattle.cap_tree.proofs.child.copy_children.Goals as goal
 
 pub loop-child-preserved : goal.loop-child-preserved

@@ -1,7 +1,7 @@
 use Rattle.std.proofs.Common.{◌≢◌, sym}
 use Rattle.std.specs.declared.cmp.Ordering.TheVariants.{Less}
-use Rattle.cap_tree.proofs.PlaceLemmas.{is_not_less}
-use Rattle.cap_tree.proofs.ChildLemmas.{last_place}
+use Rattle.cap_tree.proofs.BranchLemmas.{is_not_less}
+use Rattle.cap_tree.proofs.SiblingLemmas.{last_place}
 use Rattle.cap_tree.proofs.child.is_up_to_last.Goals as goal
 
 pub returns-in-Equal : goal.returns-in-Equal

@@ -1,6 +1,6 @@
 use Rattle.std.proofs.Common.{◌<◌, arith, refl, ap, rules}
 use Rattle.cap_tree.specs.Tree.{IsOrdered}
-use Rattle.cap_tree.proofs.WayLemmas.{child_ordered, child_and_rest, get_child}
+use Rattle.cap_tree.proofs.PathLemmas.{child_ordered, child_and_rest, get_child}
 use Rattle.cap_tree.proofs.find.+find.Goals as goal
 
 pub find-requires : goal.find-requires

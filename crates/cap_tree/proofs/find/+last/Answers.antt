@@ -1,5 +1,5 @@
 use Rattle.std.proofs.Common.{ap}
-use Rattle.cap_tree.proofs.WayLemmas.{last_none, last_some}
+use Rattle.cap_tree.proofs.PathLemmas.{last_none, last_some}
 use Rattle.cap_tree.proofs.find.+last.Goals as goal
 
 pub returns-in-Inner-clause-none : goal.returns-in-Inner-clause-none

@@ -1,8 +1,6 @@
-use Rattle.std.proofs.Common.{length, take, arith, refl, sym, ◌∙◌}
-use Rattle.std.proofs.Math.Seq.{take-length}
-use Rattle.std.specs.declared.cmp.Ordering.TheVariants.{Greater}
-use Rattle.cap_tree.proofs.LeafLemmas.{put_less, put_equal, get_equal, get_less, put_end, get_end, take_equal}
-use Rattle.cap_tree.proofs.EntryLemmas.{Each, take_entry-absent}
+use Rattle.std.proofs.Common.{arith, refl, sym, ◌∙◌}
+use Rattle.cap_tree.proofs.LeafLemmas.{put_less, put_equal, get_equal, get_less, put_end, get_end, past_all, take_equal}
+use Rattle.cap_tree.proofs.EntryLemmas.{take_entry-absent}
 use Rattle.cap_tree.proofs.leaf.search.Goals as goal
 
 pub returns-in-Less-clause-put : goal.returns-in-Less-clause-put
@@ -33,16 +31,10 @@ pub returns-clause-take : goal.returns-clause-take
 returns-clause-take g c = take_entry-absent g.K.Ord.cmp _ _ (get_end g.K.Ord.cmp _ _ _ (omega arith) c.loop-at.invariant.past)
 
 pub returns-then-is_past_last-clause-put : goal.returns-then-is_past_last-clause-put
-returns-then-is_past_last-clause-put g c v =
-    let past : Each g.K.Ord.cmp Greater c.args.key.now (take (length c.args.entries.now) c.args.entries.now) = rw take-length (c.is_past_last.ensures c.if-is_past_last.true) in
-    put_end g.K.Ord.cmp _ v _ _ refl past
+returns-then-is_past_last-clause-put g c v = put_end g.K.Ord.cmp _ v _ _ refl (past_all g.K.Ord.cmp _ _ (c.is_past_last.ensures c.if-is_past_last.true))
 
 pub returns-then-is_past_last-clause-get : goal.returns-then-is_past_last-clause-get
-returns-then-is_past_last-clause-get g c =
-    let past : Each g.K.Ord.cmp Greater c.args.key.now (take (length c.args.entries.now) c.args.entries.now) = rw take-length (c.is_past_last.ensures c.if-is_past_last.true) in
-    get_end g.K.Ord.cmp _ _ _ refl past
+returns-then-is_past_last-clause-get g c = get_end g.K.Ord.cmp _ _ _ refl (past_all g.K.Ord.cmp _ _ (c.is_past_last.ensures c.if-is_past_last.true))
 
 pub returns-then-is_past_last-clause-take : goal.returns-then-is_past_last-clause-take
-returns-then-is_past_last-clause-take g c =
-    let past : Each g.K.Ord.cmp Greater c.args.key.now (take (length c.args.entries.now) c.args.entries.now) = rw take-length (c.is_past_last.ensures c.if-is_past_last.true) in
-    take_entry-absent g.K.Ord.cmp _ _ (get_end g.K.Ord.cmp _ _ _ refl past)
+returns-then-is_past_last-clause-take g c = take_entry-absent g.K.Ord.cmp _ _ (get_end g.K.Ord.cmp _ _ _ refl (past_all g.K.Ord.cmp _ _ (c.is_past_last.ensures c.if-is_past_last.true)))

@@ -1,6 +1,5 @@
-use Rattle.std.proofs.Common.{◌≡◌, ◌+◌, ◌<◌, ◌⊎◌, [], ◌∷◌, ◌++◌, length, take, drop, set, suc, arith, refl, sym, ap, subst, ◌∙◌}
+use Rattle.std.proofs.Common.{◌≡◌, ◌+◌, ◌<◌, ◌⊎◌, [], ◌∷◌, ◌++◌, arith, refl, sym, ap, subst, ◌∙◌}
 use Rattle.std.proofs.lemmas.List.{append-nil}
-use Rattle.cap_tree.specs.Subtree.{Branch}
 use Rattle.cap_tree.specs.Shape.{branches, place, AreChildren, IsFit}
 use Rattle.cap_tree.specs.Cut.{merged}
 use Rattle.cap_tree.proofs.BranchLemmas.{gap_of_two, place_one}
@@ -10,14 +9,7 @@ use Rattle.cap_tree.proofs.rebalance.refill.Goals as goal
 
 pub share_of-cut-requires : goal.share_of-cut-requires
 share_of-cut-requires g c =
-    let xs = c.args.children.now.items in
-    let at = c.args.at in
-    let within : at + 1 < length xs = omega (arith, c.requires.within, c.args.children.now.ok.0) in
-    let d = c.index_mut-front.result.now in
-    let e = c.remove-back.result in
-    let left = c.remove-back.ensures.items in
-    let is_d = rw left at c.index_mut-front.ensures.value in
-    let whole = cut_two xs at d e within is_d c.remove-back.ensures.value in
+    let whole = cut_two c.args.children.now _ c.args.at _ _ c.requires.within c.remove-back.ensures.items c.index_mut-front.ensures.value c.remove-back.ensures.value in
     let a = c.len.ensures.value ∙ ap (λ n. n.items) c.deref.ensures in
     let b = c.len-2.ensures.value ∙ ap (λ n. n.items) c.deref-2.ensures in
     let own_d = child_fit g.K.Ord.cmp _ _ _ _ whole c.requires.siblings.fit in
@@ -26,14 +18,7 @@ share_of-cut-requires g c =
 
 pub divide-requires : goal.divide-requires
 divide-requires g c =
-    let xs = c.args.children.now.items in
-    let at = c.args.at in
-    let within : at + 1 < length xs = omega (arith, c.requires.within, c.args.children.now.ok.0) in
-    let d = c.index_mut-front.result.now in
-    let e = c.remove-back.result in
-    let left = c.remove-back.ensures.items in
-    let is_d = rw left at c.index_mut-front.ensures.value in
-    let whole = cut_two xs at d e within is_d c.remove-back.ensures.value in
+    let whole = cut_two c.args.children.now _ c.args.at _ _ c.requires.within c.remove-back.ensures.items c.index_mut-front.ensures.value c.remove-back.ensures.value in
     let a = c.len.ensures.value ∙ ap (λ n. n.items) c.deref.ensures in
     let b = c.len-2.ensures.value ∙ ap (λ n. n.items) c.deref-2.ensures in
     let share = c.share_of-cut.ensures in
@@ -44,16 +29,11 @@ divide-requires g c =
 
 pub returns-in-Err : goal.returns-in-Err
 returns-in-Err g c =
-    let xs = c.args.children.now.items in
-    let at = c.args.at in
-    let within : at + 1 < length xs = omega (arith, c.requires.within, c.args.children.now.ok.0) in
     let d = c.index_mut-front.result.now in
     let e = c.remove-back.result in
-    let left = c.remove-back.ensures.items in
-    let is_d = rw left at c.index_mut-front.ensures.value in
-    let whole = cut_two xs at d e within is_d c.remove-back.ensures.value in
+    let whole = cut_two c.args.children.now _ c.args.at d e c.requires.within c.remove-back.ensures.items c.index_mut-front.ensures.value c.remove-back.ensures.value in
     let kept = c.in-Err.ensures in
-    let new = ap branches (c.insert_in_room-in-Err.ensures.items ∙ rw left refl) ∙ cut_redo xs at d e within is_d c.remove-back.ensures.value record { least = d.least; node = c.divide.new.front } refl record { least = e.least; node = c.divide.new.back } in
+    let new = ap branches c.insert_in_room-in-Err.ensures.items ∙ cut_redo c.args.children.now _ c.args.at d e c.requires.within c.remove-back.ensures.items c.index_mut-front.ensures.value c.remove-back.ensures.value record { least = d.least; node = c.divide.new.front } refl record { least = e.least; node = c.divide.new.back } in
     record {
       same = rearranged g.K.Ord.cmp c.args.height _ _ (new ∙ rw (kept.err, kept.back_err) (sym whole)) c.requires.siblings;
       not_more = omega (arith, c.insert_in_room-in-Err.ensures.len, c.remove-back.ensures.len);
@@ -63,71 +43,53 @@ returns-in-Err g c =
 
 pub returns-in-Ok-None : goal.returns-in-Ok-None
 returns-in-Ok-None g c =
-    let xs = c.args.children.now.items in
-    let at = c.args.at in
-    let within : at + 1 < length xs = omega (arith, c.requires.within, c.args.children.now.ok.0) in
     let d = c.index_mut-front.result.now in
     let e = c.remove-back.result in
-    let left = c.remove-back.ensures.items in
-    let is_d = rw left at c.index_mut-front.ensures.value in
-    let whole = cut_two xs at d e within is_d c.remove-back.ensures.value in
+    let whole = cut_two c.args.children.now _ c.args.at d e c.requires.within c.remove-back.ensures.items c.index_mut-front.ensures.value c.remove-back.ensures.value in
     let a = c.len.ensures.value ∙ ap (λ n. n.items) c.deref.ensures in
     let b = c.len-2.ensures.value ∙ ap (λ n. n.items) c.deref-2.ensures in
     let share = c.share_of-cut.ensures in
     let s = c.requires.siblings in
     let n = c.in-Ok-None.ensures in
     let cut = rw c.in-Ok-None.field-0-is at n.cut in
-    let p : Branch _ _ = (d.least, d.node.value) in
-    let q : Branch _ _ = (e.least, e.node.value) in
-    let front = branches (take at xs) in
-    let back = branches (drop (suc (suc at)) xs) in
-    let first = front_length xs at (omega (arith, within)) in
+    let first = front_length c.args.children.now.items c.args.at (omega (arith, c.requires.within, c.args.children.now.ok.0)) in
     let x = c.divide.new.front.value in
-    let level = (child_is g.K.Ord.cmp _ front _ p whole c.args.height s.children).0 in
+    let level = (child_is g.K.Ord.cmp _ _ _ _ whole c.args.height s.children).0 in
     let fit_x : IsFit x = (omega (arith, cut.len, share.more), omega (arith, cut.len, share.most), n.filled) in
     let entries = sym (append-nil x.entries) ∙ ap (λ l. x.entries ++ l) (sym (none_filled c.divide.new.back.value cut.parted n.back_filled)) ∙ sym cut.entries ∙ ap (λ l. d.node.value.entries ++ l) (sym (append-nil e.node.value.entries)) in
-    let new = ap (λ l. branches (set l at record { least = d.least; node = c.divide.new.front })) left ∙ cut_remove xs at d e within is_d c.remove-back.ensures.value record { least = d.least; node = c.divide.new.front } refl in
-    let gap = gap_of_two g.K.Ord.cmp g.met.K.Ord.total c.args.key.now c.args.height front p q back at (subst (AreChildren g.K.Ord.cmp c.args.height) whole s.children) (subst (λ l. (place g.K.Ord.cmp c.args.key.now l ≡ at + 1) ⊎ (place g.K.Ord.cmp c.args.key.now l ≡ at + 2)) whole c.requires.place) first in
+    let new = cut_remove c.args.children.now _ c.args.at d e c.requires.within c.remove-back.ensures.items c.index_mut-front.ensures.value c.remove-back.ensures.value record { least = d.least; node = c.divide.new.front } refl in
+    let gap = gap_of_two g.K.Ord.cmp g.met.K.Ord.total c.args.key.now c.args.height _ _ _ _ c.args.at (subst (AreChildren g.K.Ord.cmp c.args.height) whole s.children) (subst (λ l. (place g.K.Ord.cmp c.args.key.now l ≡ c.args.at + 1) ⊎ (place g.K.Ord.cmp c.args.key.now l ≡ c.args.at + 2)) whole c.requires.place) first in
     record {
-      same = one_instead g.K.Ord.cmp g.met.K.Ord.total c.args.height _ front p (q ∷ []) back whole s x _ new (omega (arith, cut.height, level)) entries fit_x;
+      same = one_instead g.K.Ord.cmp g.met.K.Ord.total c.args.height _ _ _ (_ ∷ []) _ whole s x _ new (omega (arith, cut.height, level)) entries fit_x;
       not_more = omega (arith, c.remove-back.ensures.len);
       one_less = omega (arith, c.remove-back.ensures.len);
-      ready = ready_at g.K.Ord.cmp _ front back (d.least, x) new (λ m. 4 < m) at first c.args.key.now (rw new (place_one g.K.Ord.cmp g.met.K.Ord.total c.args.key.now front d.least back gap x ∙ omega (arith, first))) (omega (arith, cut.len, share.more));
+      ready = ready_at g.K.Ord.cmp _ _ _ (d.least, x) new (λ m. 4 < m) c.args.at first c.args.key.now (rw new (place_one g.K.Ord.cmp g.met.K.Ord.total c.args.key.now _ _ _ gap x ∙ omega (arith, first))) (omega (arith, cut.len, share.more));
     }
 
 pub returns-in-Ok-Some : goal.returns-in-Ok-Some
 returns-in-Ok-Some g c =
-    let xs = c.args.children.now.items in
-    let at = c.args.at in
-    let within : at + 1 < length xs = omega (arith, c.requires.within, c.args.children.now.ok.0) in
     let d = c.index_mut-front.result.now in
     let e = c.remove-back.result in
-    let left = c.remove-back.ensures.items in
-    let is_d = rw left at c.index_mut-front.ensures.value in
-    let whole = cut_two xs at d e within is_d c.remove-back.ensures.value in
+    let whole = cut_two c.args.children.now _ c.args.at d e c.requires.within c.remove-back.ensures.items c.index_mut-front.ensures.value c.remove-back.ensures.value in
     let a = c.len.ensures.value ∙ ap (λ n. n.items) c.deref.ensures in
     let b = c.len-2.ensures.value ∙ ap (λ n. n.items) c.deref-2.ensures in
     let share = c.share_of-cut.ensures in
     let s = c.requires.siblings in
     let n = c.in-Ok-Some.ensures in
     let cut = rw c.in-Ok-Some.field-0-is at n.cut in
-    let p : Branch _ _ = (d.least, d.node.value) in
-    let q : Branch _ _ = (e.least, e.node.value) in
-    let front = branches (take at xs) in
-    let back = branches (drop (suc (suc at)) xs) in
-    let first = front_length xs at (omega (arith, within)) in
+    let first = front_length c.args.children.now.items c.args.at (omega (arith, c.requires.within, c.args.children.now.ok.0)) in
     let x = c.divide.new.front.value in
     let y = c.divide.new.back.value in
-    let level = (child_is g.K.Ord.cmp _ front _ p whole c.args.height s.children).0 in
+    let level = (child_is g.K.Ord.cmp _ _ _ _ whole c.args.height s.children).0 in
     let fit_x : IsFit x = (omega (arith, cut.len, share.more), omega (arith, cut.len, share.most), n.filled) in
     let more : 4 < y.items = omega (arith, cut.back_len, cut.parted.0, share.rest, a, b) in
     let fit_y : IsFit y = (omega (arith, more), omega (arith, cut.back_len, share.back, a, b), n.back_filled) in
-    let new = ap branches (c.insert_in_room.ensures.items ∙ rw left refl) ∙ cut_redo xs at d e within is_d c.remove-back.ensures.value record { least = d.least; node = c.divide.new.front } refl record { least = c.in-Ok-Some.least; node = c.divide.new.back } in
-    let gap = gap_of_two g.K.Ord.cmp g.met.K.Ord.total c.args.key.now c.args.height front p q back at (subst (AreChildren g.K.Ord.cmp c.args.height) whole s.children) (subst (λ l. (place g.K.Ord.cmp c.args.key.now l ≡ at + 1) ⊎ (place g.K.Ord.cmp c.args.key.now l ≡ at + 2)) whole c.requires.place) first in
+    let new = ap branches c.insert_in_room.ensures.items ∙ cut_redo c.args.children.now _ c.args.at d e c.requires.within c.remove-back.ensures.items c.index_mut-front.ensures.value c.remove-back.ensures.value record { least = d.least; node = c.divide.new.front } refl record { least = c.in-Ok-Some.least; node = c.divide.new.back } in
+    let gap = gap_of_two g.K.Ord.cmp g.met.K.Ord.total c.args.key.now c.args.height _ _ _ _ c.args.at (subst (AreChildren g.K.Ord.cmp c.args.height) whole s.children) (subst (λ l. (place g.K.Ord.cmp c.args.key.now l ≡ c.args.at + 1) ⊎ (place g.K.Ord.cmp c.args.key.now l ≡ c.args.at + 2)) whole c.requires.place) first in
     let same = ap (λ l. d.node.value.entries ++ l) (sym (append-nil e.node.value.entries)) in
     record {
-      same = two_instead g.K.Ord.cmp g.met.K.Ord.total c.args.height _ front p (q ∷ []) back whole s _ (merged d.node.value e.node.value) x y c.in-Ok-Some.least cut level same fit_x fit_y _ new;
+      same = two_instead g.K.Ord.cmp g.met.K.Ord.total c.args.height _ _ _ (_ ∷ []) _ whole s _ (merged d.node.value e.node.value) x y c.in-Ok-Some.least cut level same fit_x fit_y _ new;
       not_more = omega (arith, c.insert_in_room.ensures.len, c.remove-back.ensures.len);
       one_less = omega (arith, c.insert_in_room.ensures.len, c.remove-back.ensures.len);
-      ready = two_ready g.K.Ord.cmp g.met.K.Ord.total c.args.height _ front p (q ∷ []) back whole s _ (merged d.node.value e.node.value) x y c.in-Ok-Some.least cut level same fit_x fit_y _ new (λ m. 4 < m) at c.side_of-side.result first c.args.key.now gap c.side_of-side.ensures.less c.side_of-side.ensures.not_less (omega (arith, cut.len, share.more)) more;
+      ready = two_ready g.K.Ord.cmp g.met.K.Ord.total c.args.height _ _ _ (_ ∷ []) _ whole s _ (merged d.node.value e.node.value) x y c.in-Ok-Some.least cut level same fit_x fit_y _ new (λ m. 4 < m) c.args.at c.side_of-side.result first c.args.key.now gap c.side_of-side.ensures.less c.side_of-side.ensures.not_less (omega (arith, cut.len, share.more)) more;
     }
