@@ -33,10 +33,7 @@ module _ {A : Type 0} where
   -- what is taken from under another key leaves the row
   pub get-take-other : (es : List (Fields A × Fields A)) (key q : Fields A) → eq_by_cmp fields_cmp q key ≡ false → get fields_cmp (take_entry fields_cmp es key) q ≡ get fields_cmp es q
   get-take-other [] key q apart = refl
-  get-take-other (e ∷ es) key q apart =
-      let here = tied fields_cmp key e.0 fields_same in
-      let rest = get-take-other es key q in
-      grind (arith, here, rest)
+  get-take-other (e ∷ es) key q apart = grind (arith, tied fields_cmp key e.0 fields_same, get-take-other es key q)
 
   -- a row that changes its key is placed where the old one was taken out
   pub moved-apart : (t : TableState A) (old new row : Fields A) → not (fields_eq old new) ≡ true → moved t (Key old) row (Some new) ≡ placed (without t (Key old)) row (Some new)

@@ -27,9 +27,7 @@ not_any false is = refl
 module _ {A : Type 0} where
   unset : (flags : List Bool) (c : ℕ) (v : Value A) (fields : List (ℕ × Value A)) → list_any (λ field. get_or flags field.0 false) fields ≡ false → get_or flags c false ≡ true → new_value fields c v ≡ v
   unset flags c v [] none key = refl
-  unset flags c v (field ∷ fields) none key =
-      let e = unset flags c v fields in
-      grind (arith, nat_tests, e)
+  unset flags c v (field ∷ fields) none key = grind (arith, nat_tests, unset flags c v fields)
 
   kept_fields : (fields : List (ℕ × Value A)) (flags : List Bool) (n : ℕ) (row : Fields A) → ((i : ℕ) (v : Value A) → get_or flags i false ≡ true → new_value fields (n + i) v ≡ v) → key_fields flags (map (λ (field : ℕ × Value A). new_value fields field.0 field.1) (enumerate_from n row)) ≡ key_fields flags row
   kept_fields fields [] n row h = refl
@@ -52,8 +50,7 @@ module _ {A : Type 0} where
     pub left : update_row t (Key key) changes ≡ Ok (with_key t key made)
 
   if_ok : (b : Bool) (row made : Fields A) → cond b (Ok row) (Err BadColumn) ≡ Ok made → (b ≡ true) × (row ≡ made)
-  if_ok true row made is = (refl, cc)
-  if_ok false row made is = cc
+  if_ok b row made is = grind arith
 
   pub updated_to : (t : TableState A) (key : Fields A) (changes : List (ℕ × Value A)) → keeps_key t.schema changes ≡ true → IsTable t → (row made : Fields A) → Some row ≡ get fields_cmp t.keyed key → with_fields t.schema row changes ≡ Ok made → IsUpdated t key changes made
   updated_to t key changes keeps h row made there with =

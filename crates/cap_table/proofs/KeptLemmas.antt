@@ -33,10 +33,7 @@ truth false t = absurd t
 module _ {K X : Type 0} (R : K → K → Ordering) where
   pub put_entry-put : IsAntisymmetric R → (es : List (K × X)) (k : K) (v : X) → put_entry R es k v ≡ put R k v es
   put_entry-put same [] k v = refl
-  put_entry-put same (e ∷ es) k v =
-      let keys = same k e.0 in
-      let rest = put_entry-put same es k v in
-      grind (arith, keys, rest)
+  put_entry-put same (e ∷ es) k v = grind (arith, same k e.0, put_entry-put same es k v)
 
   pub sorted-put : IsTotalOrder R → IsAntisymmetric R → (es : List (K × X)) (k : K) (v : X) → is_sorted R es ≡ true → is_sorted R (put_entry R es k v) ≡ true
   sorted-put o same es k v s = ap (is_sorted R) (put_entry-put same es k v) ∙ truth _ (is_sorted-put R o k v es (subst T (sym s) tt))
@@ -47,10 +44,7 @@ module _ {K X : Type 0} (R : K → K → Ordering) where
 
   pub sorted-remove : (gone : K → Bool) (es : List (K × X)) → is_sorted R es ≡ true → is_sorted R (remove_entry gone es) ≡ true
   sorted-remove gone [] s = refl
-  sorted-remove gone (e ∷ es) s =
-      let rest = sorted-remove gone es in
-      let below = below-remove e.0 gone es in
-      grind (arith, rest, below)
+  sorted-remove gone (e ∷ es) s = grind (arith, sorted-remove gone es, below-remove e.0 gone es)
 
 module _ {A : Type 0} where
   -- ---- one row more, or less
@@ -93,9 +87,7 @@ module _ {A : Type 0} where
   under_key-rises taken t key row h wide own = grind (arith, with_key-rises)
 
   under_next_id-rises : (t : TableState A) (row : Fields A) → IsRising t → length row ≡ length t.schema → key_of t.schema row ≡ None → IfOk (under_next_id t row) IsRising
-  under_next_id-rises t row h wide none =
-      let next = next_id-rises t row h in
-      grind (arith, nat_tests, next)
+  under_next_id-rises t row h wide none = grind (arith, nat_tests, next_id-rises t row h)
 
   -- ---- an insert
 

@@ -44,17 +44,11 @@ module _ {K X : Type 0} (R : K → K → Ordering) (test : K × X → Bool) wher
   -- what is found passes
   pub found-passes : IsAntisymmetric R → (es : List (K × X)) (k : K) (v : X) → list_all test es ≡ true → get R es k ≡ Some v → test (k, v) ≡ true
   found-passes same [] k v all found = cc
-  found-passes same (e ∷ es) k v all found =
-      let keys = tied R k e.0 same in
-      let rest = found-passes same es k v in
-      grind (arith, keys, rest)
+  found-passes same (e ∷ es) k v all found = grind (arith, tied R k e.0 same, found-passes same es k v)
 
   list_all-weaker : (check : K × X → Bool) → ((x : K × X) → test x ≡ true → check x ≡ true) → (xs : List (K × X)) → list_all test xs ≡ true → list_all check xs ≡ true
   list_all-weaker check keeps [] all = refl
   list_all-weaker check keeps (x ∷ xs) all = let rest = list_all-weaker check keeps xs in grind (arith, keeps, rest)
-
-pub is_same_length : (m n : ℕ) → (m == n) ≡ true → m ≡ n
-is_same_length m n e = grind (arith, nat_tests)
 
 module _ {A : Type 0} where
   pub fields_same : IsAntisymmetric (fields_cmp {A = A})

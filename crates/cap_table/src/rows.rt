@@ -58,9 +58,6 @@ impl<A: AllocHandle> Rows<A> {
     pub fn copy(&self) -> Result<Self, OutOfMemory>
         ensures { IfOk result (λ copy. copy ≡ self.now) }
     {
-        Ok(Rows {
-            keyed: self.keyed.snapshot()?,
-            loose: self.loose.snapshot()?,
-        })
+        Rows::of(&self.keyed, &self.loose)
     }
 }

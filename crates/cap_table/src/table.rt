@@ -59,13 +59,7 @@ impl<A: AllocHandle> Table<A> {
     pub fn empty(alloc: A, schema: Schema<A>) -> Self
         ensures { result ≡ empty_table schema }
     {
-        Table {
-            alloc,
-            schema,
-            keyed: Tree::empty(alloc),
-            loose: Tree::empty(alloc),
-            next_id: 1,
-        }
+        Table::with_next_id(alloc, schema, 1)
     }
 
     /// An empty table that gives ids from `next_id` on: for a copy that goes on where the ids of another
