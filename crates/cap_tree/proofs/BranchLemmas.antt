@@ -6,12 +6,13 @@ use Rattle.std.specs.declared.cmp.Ordering.TheVariants.{Less, Greater, Equal}
 use Rattle.std.specs.List.{AllByRecursion, insert, remove}
 use Rattle.std.specs.Cmp.{IsTotalOrder, alike_right}
 use Rattle.std.specs.Map.{keys_of}
-use Rattle.std.proofs.lemmas.List.{append_assoc, take-append-drop, take_more_set, drop-set-lt}
+use Rattle.std.proofs.lemmas.List.{append_assoc, set_split, take-append-drop, take_more_set, drop-set-lt}
+use Rattle.std.proofs.lemmas.Grind.{common_steps}
 use Rattle.std.proofs.Math.Seq.{drop-cons}
 use Rattle.cap_tree.specs.Subtree.{Subtree, Branch}
 use Rattle.cap_tree.specs.Shape.{entries_of, NoneBelow, EachBelow, AreChildren, AreFit, place}
 use Rattle.cap_tree.specs.Siblings.{IsRearrangement}
-use Rattle.cap_tree.proofs.EntryLemmas.{Each, each_front, each_turn, reversed}
+use Rattle.cap_tree.proofs.EntryLemmas.{Each, each_back, each_front, each_turn, reversed}
 
 -- what holds of each element holds by what follows from it
 pub all_turn : {X : Type 0} (P Q : X → Type 0) → ((x : X) → P x → Q x) → (xs : List X) → AllByRecursion P xs → AllByRecursion Q xs
@@ -117,25 +118,17 @@ module _ {X : Type 0} where
       step (x ∷ y ∷ xs) zero within is_d is_e = rw (← is_d, ← is_e) refl
       step (x ∷ xs) (suc i) within is_d is_e = ap (λ t. x ∷ t) (step xs i (omega arith) is_d is_e)
 
-  -- the second of them is removed, and the first changes
+  -- the second of them is removed
+  skipped : (xs : List X) (i : ℕ) → i + 1 < length xs → (i < length (remove xs (i + 1))) × (take i (remove xs (i + 1)) ≡ take i xs) × (drop (suc i) (remove xs (i + 1)) ≡ drop (suc (suc i)) xs)
+  skipped xs i within = (grind (arith, common_steps), grind (arith, common_steps), grind (arith, common_steps))
+
+  -- and the first changes
   pub remove_around : (xs : List X) (i : ℕ) (x : X) → i + 1 < length xs → set (remove xs (i + 1)) i x ≡ take i xs ++ x ∷ drop (suc (suc i)) xs
-  remove_around xs i x within = rw add-one (step xs i (omega arith))
-    where
-      step : (xs : List X) (i : ℕ) → suc i < length xs → set (remove xs (suc i)) i x ≡ take i xs ++ x ∷ drop (suc (suc i)) xs
-      step [] i within = absurd (omega arith)
-      step (y ∷ []) zero within = absurd (omega arith)
-      step (y ∷ z ∷ ys) zero within = refl
-      step (y ∷ ys) (suc i) within = ap (λ t. y ∷ t) (step ys i (omega arith))
+  remove_around xs i x within = let s = skipped xs i within in set_split (remove xs (i + 1)) i x s.0 ∙ ap₂ (λ l r. l ++ x ∷ r) s.1 s.2
 
   -- and the second is put back
   pub redo_around : (xs : List X) (i : ℕ) (x y : X) → i + 1 < length xs → insert (set (remove xs (i + 1)) i x) (i + 1) y ≡ take i xs ++ x ∷ y ∷ drop (suc (suc i)) xs
-  redo_around xs i x y within = rw add-one (step xs i (omega arith))
-    where
-      step : (xs : List X) (i : ℕ) → suc i < length xs → insert (set (remove xs (suc i)) i x) (suc i) y ≡ take i xs ++ x ∷ y ∷ drop (suc (suc i)) xs
-      step [] i within = absurd (omega arith)
-      step (z ∷ []) zero within = absurd (omega arith)
-      step (z ∷ w ∷ zs) zero within = refl
-      step (z ∷ zs) (suc i) within = ap (λ t. z ∷ t) (step zs i (omega arith))
+  redo_around xs i x y within = let s = skipped xs i within in insert_around (remove xs (i + 1)) i x y s.0 ∙ ap₂ (λ l r. l ++ x ∷ y ∷ r) s.1 s.2
 
   pub read_at : (xs : List X) (y : X) (ys : List X) (i : ℕ) (d : X) → i ≡ length xs → get_or (xs ++ y ∷ ys) i d ≡ y
   read_at [] y ys zero d is = refl
@@ -158,10 +151,6 @@ module _ {X : Type 0} where
   all_right P (x ∷ xs) ys h = all_right P xs ys h.1
 
 module _ {K V : Type 0} where
-  pub keys_back : (P : K → Type 0) (xs ys : List (K × V)) → AllByRecursion P (keys_of (xs ++ ys)) → AllByRecursion P (keys_of ys)
-  keys_back P [] ys h = h
-  keys_back P (x ∷ xs) ys h = keys_back P xs ys h.1
-
   pub entries_append : (xs ys : List (Branch K V)) → entries_of (xs ++ ys) ≡ entries_of xs ++ entries_of ys
   entries_append [] ys = refl
   entries_append (x ∷ xs) ys = ap (λ t. x.1.entries ++ t) (entries_append xs ys) ∙ sym (append_assoc x.1.entries (entries_of xs) (entries_of ys))
@@ -175,7 +164,7 @@ module _ {K V : Type 0} where
     pub children_append : (height : ℕ) (xs ys : List (Branch K V)) → AreChildren cmp height xs → AreChildren cmp height ys → AllByRecursion (λ q. EachBelow cmp q.0 (entries_of xs)) ys → AreChildren cmp height (xs ++ ys)
     children_append height [] ys hx hy over = hy
     children_append height (x ∷ xs) ys hx hy over =
-        (hx.0, hx.1, all_append (λ q. EachBelow cmp q.0 x.1.entries) xs ys hx.2 (all_turn (λ q. EachBelow cmp q.0 (x.1.entries ++ entries_of xs)) (λ q. EachBelow cmp q.0 x.1.entries) (λ q. each_front cmp (λ y. cmp q.0 y ≡ Greater) x.1.entries (entries_of xs)) ys over), children_append height xs ys hx.3 hy (all_turn (λ q. EachBelow cmp q.0 (x.1.entries ++ entries_of xs)) (λ q. EachBelow cmp q.0 (entries_of xs)) (λ q. keys_back (λ y. cmp q.0 y ≡ Greater) x.1.entries (entries_of xs)) ys over))
+        (hx.0, hx.1, all_append (λ q. EachBelow cmp q.0 x.1.entries) xs ys hx.2 (all_turn (λ q. EachBelow cmp q.0 (x.1.entries ++ entries_of xs)) (λ q. EachBelow cmp q.0 x.1.entries) (λ q. each_front cmp (λ y. cmp q.0 y ≡ Greater) x.1.entries (entries_of xs)) ys over), children_append height xs ys hx.3 hy (all_turn (λ q. EachBelow cmp q.0 (x.1.entries ++ entries_of xs)) (λ q. EachBelow cmp q.0 (entries_of xs)) (λ q. each_back cmp (λ y. cmp q.0 y ≡ Greater) x.1.entries (entries_of xs)) ys over))
 
     pub children_left : (height : ℕ) (xs ys : List (Branch K V)) → AreChildren cmp height (xs ++ ys) → AreChildren cmp height xs
     children_left height [] ys h = tt
@@ -233,16 +222,8 @@ module _ {K V : Type 0} where
             record { over = parts.0; here = parts.1; none = (place_step cmp o k e back 0 parts.2).0 }
 
         module _ (front : List (Branch K V)) (l : K) (back : List (Branch K V)) (gap : IsGap k front l back) where
-          pub place_one : (a : Subtree K V) → place cmp k (front ++ (l, a) ∷ back) ≡ length front + 1
-          place_one a = place_over front ((l, a) ∷ back) gap.over ∙ omega (arith, step_up cmp o k (l, a) back gap.here, gap.none)
-
-          pub place_first : (a b : Subtree K V) (s : K) → cmp k s ≡ Less → place cmp k (front ++ (l, a) ∷ (s, b) ∷ back) ≡ length front + 1
-          place_first a b s less =
-              let none : place cmp k ((s, b) ∷ back) ≡ 0 = rw less refl in
-              place_over front ((l, a) ∷ (s, b) ∷ back) gap.over ∙ omega (arith, step_up cmp o k (l, a) ((s, b) ∷ back) gap.here, none)
-
-          pub place_second : (a b : Subtree K V) (s : K) → cmp k s ≢ Less → place cmp k (front ++ (l, a) ∷ (s, b) ∷ back) ≡ length front + 1 + 1
-          place_second a b s not = place_over front ((l, a) ∷ (s, b) ∷ back) gap.over ∙ omega (arith, step_up cmp o k (l, a) ((s, b) ∷ back) gap.here, step_up cmp o k (s, b) back not, gap.none)
+          pub place_at : (a : Subtree K V) (rest : List (Branch K V)) → place cmp k (front ++ (l, a) ∷ rest) ≡ length front + place cmp k rest + 1
+          place_at a rest = place_over front ((l, a) ∷ rest) gap.over ∙ omega (arith, step_up cmp o k (l, a) rest gap.here)
 
         -- ---- the entries around those among which the key belongs
 

@@ -22,10 +22,6 @@ use Rattle.cap_tree.specs.Tree.{IsOrdered, get, put_entry, take_entry, Updates}
 pub reversed : {K : Type 0} {cmp : K → K → Ordering} → IsTotalOrder cmp → (x y : K) (r : Ordering) → cmp x y ≡ r → cmp y x ≡ ordering_reverse r
 reversed o x y r h = o.antisymm y x ∙ ap ordering_reverse h
 
--- the tests of q by k and of k by q agree
-same_test : {K : Type 0} {cmp : K → K → Ordering} → IsTotalOrder cmp → (q k : K) → is_eq (cmp q k) ≡ is_eq (cmp k q)
-same_test o q k = (eq_by_cmp_equiv o).symm q k
-
 -- no keys are in order
 pub sorted_nil : {K : Type 0} (cmp : K → K → Ordering) → IsStrictlySortedBy cmp []
 unfolding IsStrictlySortedBy
@@ -91,9 +87,9 @@ module _ {K V : Type 0} (cmp : K → K → Ordering) where
   each_front P [] back h = tt
   each_front P (e ∷ es) back h = (h.0, each_front P es back h.1)
 
-  each_middle : (P : K → Type 0) (front : List (K × V)) (e : K × V) (back : List (K × V)) → AllByRecursion P (keys_of (front ++ e ∷ back)) → P e.0
-  each_middle P [] e back h = h.0
-  each_middle P (x ∷ xs) e back h = each_middle P xs e back h.1
+  pub each_back : (P : K → Type 0) (front back : List (K × V)) → AllByRecursion P (keys_of (front ++ back)) → AllByRecursion P (keys_of back)
+  each_back P [] back h = h
+  each_back P (e ∷ es) back h = each_back P es back h.1
 
   pub ordered_front : (front back : List (K × V)) → IsOrdered cmp (front ++ back) → IsOrdered cmp front
   unfolding IsStrictlySortedBy
@@ -112,7 +108,7 @@ module _ {K V : Type 0} (cmp : K → K → Ordering) where
   pub below_middle : (front : List (K × V)) (e : K × V) (back : List (K × V)) → IsOrdered cmp (front ++ e ∷ back) → AllByRecursion (λ y. cmp y e.0 ≡ Less) (keys_of front)
   unfolding IsStrictlySortedBy
   below_middle [] e back s = tt
-  below_middle (x ∷ xs) e back s = (each_middle (λ y. cmp x.0 y ≡ Less) xs e back s.0, below_middle xs e back s.1)
+  below_middle (x ∷ xs) e back s = ((each_back (λ y. cmp x.0 y ≡ Less) xs (e ∷ back) s.0).0, below_middle xs e back s.1)
 
   pub above_middle : (front : List (K × V)) (e : K × V) (back : List (K × V)) → IsOrdered cmp (front ++ e ∷ back) → AllByRecursion (λ y. cmp e.0 y ≡ Less) (keys_of back)
   unfolding IsStrictlySortedBy
@@ -162,8 +158,8 @@ module _ {K V : Type 0} (cmp : K → K → Ordering) where
     length-put_entry k v (e ∷ es) s = grind (arith, get-below k es, less_than_back k [] e es s, length-put_entry k v es s.1)
 
     pub put_entry-Updates : (k : K) (v : V) (es : List (K × V)) → Updates cmp es (put_entry cmp es k v) k (Some v)
-    put_entry-Updates k v [] q = rw (same_test o q k)
-    put_entry-Updates k v (e ∷ es) q = grind (arith, same_test o q k, alike_right o k e.0 q, alike_right o q e.0 k, put_entry-Updates k v es q)
+    put_entry-Updates k v [] q = rw ((eq_by_cmp_equiv o).symm q k)
+    put_entry-Updates k v (e ∷ es) q = grind (arith, (eq_by_cmp_equiv o).symm q k, alike_right o k e.0 q, alike_right o q e.0 k, put_entry-Updates k v es q)
 
     pub take_entry-Updates : (k : K) (es : List (K × V)) → IsOrdered cmp es → Updates cmp es (take_entry cmp es k) k None
     take_entry-Updates k es s q = lookup-remove_entry (eq_by_cmp_equiv o) (is_at (cmp k)) (λ x y t. ap is_eq (o.congr k x y ((Equal-is (cmp k x)).0 t))) q es (IsDistinct-from_sorted cmp (keys_of es) s)

@@ -1,6 +1,5 @@
 mod BranchLemmas
 mod ChangeLemmas
-mod CutLemmas
 pub mod Crossing
 pub mod EntryLemmas
 mod HeightLemmas

@@ -1,6 +1,6 @@
 -- The way down to the child among whose entries a key belongs, and a path with the children of one more node at its end.
 use Rattle.std.proofs.Common.{◌≡◌, ℕ, ◌+◌, ◌-◌, ◌<◌, ◌≤◌, suc, List, [], ◌∷◌, ◌++◌, length, drop, Bor, refl, ap, ◌∙◌, sym, subst, append_assoc, length-append, ◌*◌, ◌^◌, arith, lit<, zero, take, length-drop}
-use Rattle.std.proofs.lemmas.List.{append-nil, nil_from_length, take-append-drop}
+use Rattle.std.proofs.lemmas.List.{append-nil, get_or-append-add, nil_from_length, take-append-drop}
 use Rattle.std.specs.declared.cmp.Ordering.{Ordering}
 use Rattle.std.specs.BTreeMap.Range.{entries_from}
 use Rattle.std.specs.Cmp.{IsTotalOrder}
@@ -15,7 +15,7 @@ use Rattle.cap_tree.specs.Path.{pending, FitInto, IsPath}
 use Rattle.cap_tree.specs.Shape.{branches, shape, entries_of, IsNode, AreChildren, place}
 use Rattle.std.specs.declared.cmp.Ordering.TheVariants.{Less, Greater}
 use Rattle.std.specs.Prelude.{Option, Some, None, IfNone, IfSome, slice_get}
-use Rattle.std.proofs.lemmas.Option.{slice_get_within}
+use Rattle.std.proofs.lemmas.Option.{get_or_from_slice_get, slice_get_read, slice_get_within}
 use Rattle.cap_tree.specs.Tree.{IsOrdered, get}
 use Rattle.cap_tree.proofs.EntryLemmas.{Each}
 use Rattle.cap_tree.proofs.BranchLemmas.{below_children, place_zero, place_step, children_right, gap_at, above_front, below_back}
@@ -33,16 +33,12 @@ around_place cmp o k height (q ∷ qs) p back h is =
     let gap = gap_at cmp o k (q ∷ qs) p back (suc (length qs)) (omega (arith, is)) refl in
     (above_front cmp o k height (q ∷ qs) p back h gap.here, below_back cmp o k height (q ∷ qs) p back h gap.none)
 
--- an element, with others in front of it
-entry_at : {X : Type 0} (front es : List X) (e : X) (i j : ℕ) → j ≡ length front + i → slice_get es i ≡ Some e → slice_get (front ++ es) j ≡ Some e
-entry_at [] es e i j is h = let same : j ≡ i = omega arith in rw same h
-entry_at (x ∷ xs) es e i zero is h = absurd (omega arith)
-entry_at (x ∷ xs) es e i (suc j) is h = entry_at xs es e i j (omega arith) h
-
+-- the last element, with others in front
 last_entry : {X : Type 0} (front es : List X) (e : X) → slice_get es (length es - 1) ≡ Some e → slice_get (front ++ es) (length (front ++ es) - 1) ≡ Some e
 last_entry front es e h =
     let some = slice_get_within es (length es - 1) e h in
-    entry_at front es e (length es - 1) (length (front ++ es) - 1) (omega (arith, length-append front es)) h
+    let there : length (front ++ es) - 1 ≡ length front + (length es - 1) = omega (arith, length-append front es) in
+    slice_get_read (front ++ es) (length (front ++ es)) (length (front ++ es) - 1) e refl (omega (arith, length-append front es)) (rw there (sym (get_or-append-add front es (length es - 1) e ∙ get_or_from_slice_get es (length es - 1) e e h)))
 
 module _ {K V Z : Type 0} (cmp : K → K → Ordering) (children : List (Child K V Z)) (n : ℕ) (child : Child K V Z) (rest : List (Child K V Z)) (there : drop n children ≡ child ∷ rest) where
   whole : branches children ≡ branches (take n children) ++ (child.least, child.node.value) ∷ branches rest

@@ -1,20 +1,20 @@
--- The children of a node as it sees them, around one that is looked at or changed, or around two neighbours.
-use Rattle.std.proofs.Common.{◌≡◌, ℕ, zero, suc, ◌+◌, ◌<◌, ◌≤◌, List, [], ◌∷◌, ◌++◌, length, vec_len, take, drop, get_or, set, refl, sym, ap, subst, ◌∙◌, arith, length-append, inl, inr, ◌-◌}
-use Rattle.std.specs.Prelude.{◌≢◌, Some, slice_get}
+-- The children of a node as it sees them, around one that is looked at or changed, or around two neighbours, and divided anew.
+use Rattle.std.proofs.Common.{◌≡◌, ℕ, zero, suc, ◌+◌, ◌<◌, ◌≤◌, List, [], ◌∷◌, ◌++◌, length, vec_len, take, drop, get_or, set, refl, sym, ap, subst, ◌∙◌, arith, length-append, inl, inr, ◌-◌, ◌≢◌}
+use Rattle.std.specs.Prelude.{◌≢◌, Some, slice_get, Option, None, MatchOption}
 use Rattle.std.specs.declared.vec.Vec.{Vec}
 use Rattle.std.specs.declared.cmp.Ordering.{Ordering}
 use Rattle.std.specs.declared.cmp.Ordering.TheVariants.{Less, Equal, Greater}
 use Rattle.std.specs.Cmp.{IsTotalOrder}
 use Rattle.std.specs.List.{AllByRecursion, insert, remove}
-use Rattle.std.proofs.lemmas.List.{append_assoc, append-nil, map-append, length-map, length-take-le, set_split, take_more, map-set, get_or-map}
+use Rattle.std.proofs.lemmas.List.{append_assoc, append-nil, map-append, length-map, length-take-le, set_split, take_more, map-set, get_or-map, take-append-drop}
 use Rattle.cap_tree.specs.declared.node.Child.{Child}
 use Rattle.cap_tree.specs.Subtree.{Subtree, Branch}
 use Rattle.cap_tree.specs.Tree.{IsOrdered}
-use Rattle.cap_tree.specs.Shape.{branches, entries_of, items_at, IsChild, EachBelow, NoneBelow, AreChildren, IsFit, AreFit, place}
+use Rattle.cap_tree.specs.Shape.{branches, entries_of, items_at, IsChild, EachBelow, NoneBelow, AreChildren, IsFit, AreFit, place, IsInner, leaf, inner}
 use Rattle.cap_tree.specs.Siblings.{AreSiblings, IsRearrangement, HasItems, IsReady}
-use Rattle.cap_tree.specs.Cut.{AreNeighbours, IsCut}
-use Rattle.cap_tree.proofs.EntryLemmas.{each_front, each_turn, ordered_front, ordered_rest}
-use Rattle.cap_tree.proofs.BranchLemmas.{around, insert_around, two_around, remove_around, redo_around, read_at, all_left, all_right, all_append, entries_append, count_append, children_right, IsGap, gap_at, children_append, children_left, children_over, least_of, first_is, place_first, place_second, above_upper, is_not_less, less_not_greater, place_within, leasts_below, place_step, step_up}
+use Rattle.cap_tree.specs.Cut.{AreNeighbours, IsCut, merged}
+use Rattle.cap_tree.proofs.EntryLemmas.{each_front, each_turn, ordered_front, ordered_rest, reversed, below_middle, above_middle}
+use Rattle.cap_tree.proofs.BranchLemmas.{around, insert_around, two_around, remove_around, redo_around, read_at, all_left, all_right, all_append, entries_append, count_append, children_right, IsGap, gap_at, children_append, children_left, children_over, least_of, first_is, place_at, above_upper, is_not_less, less_not_greater, place_within, leasts_below, place_step, step_up, all_turn, not_greater_self, rest_at}
 use Rattle.cap_tree.proofs.HeightLemmas.{fed}
 
 module _ {K V Z : Type 0} where
@@ -191,11 +191,11 @@ module _ {K V : Type 0} (cmp : K → K → Ordering) (o : IsTotalOrder cmp) (hei
     -- the key is below k, and belongs to the first of them, or it belongs to the second
     module _ (P : ℕ → Type 0) (j i : ℕ) (first : j ≡ length front) (key : K) (gap : IsGap cmp key front p.0 back) (less : cmp key k ≡ Less → i ≡ j) (not : cmp key k ≢ Less → i ≡ j + 1) (items_a : P a.items) (items_b : P b.items) where
       in_second : cmp key k ≢ Less → IsReady cmp key P new i
-      in_second n = rw not (ready_at cmp new (front ++ (p.0, a) ∷ []) back (k, b) (second cmp new front back (p.0, a) (k, b) now) P (j + 1) (omega (arith, first, length-append front ((p.0, a) ∷ []))) key (rw now (place_second cmp o key front p.0 back gap a b k n ∙ omega (arith, first))) items_b)
+      in_second n = rw not (ready_at cmp new (front ++ (p.0, a) ∷ []) back (k, b) (second cmp new front back (p.0, a) (k, b) now) P (j + 1) (omega (arith, first, length-append front ((p.0, a) ∷ []))) key (rw now (place_at cmp o key front p.0 back gap a ((k, b) ∷ back) ∙ omega (arith, first, step_up cmp o key (k, b) back n, gap.none))) items_b)
 
       pub two_ready : IsReady cmp key P new i
       two_ready = elim (cmp key k) as (λ r. cmp key k ≡ r → IsReady cmp key P new i) [
-        | Less ↦ λ e. rw less (ready_at cmp new front ((k, b) ∷ back) (p.0, a) now P j first key (rw now (place_first cmp o key front p.0 back gap a b k e ∙ omega (arith, first))) items_a)
+        | Less ↦ λ e. let none : place cmp key ((k, b) ∷ back) ≡ 0 = rw e refl in rw less (ready_at cmp new front ((k, b) ∷ back) (p.0, a) now P j first key (rw now (place_at cmp o key front p.0 back gap a ((k, b) ∷ back) ∙ omega (arith, first, none))) items_a)
         | Equal ↦ λ e. in_second (is_not_less (cmp key k) (inl e))
         | Greater ↦ λ e. in_second (is_not_less (cmp key k) (inr e))
       ] refl
@@ -218,3 +218,93 @@ way_to cmp o height key P xs j d h ready is =
 -- where the children are those of before
 pub way_in : {K V Z : Type 0} (cmp : K → K → Ordering) → IsTotalOrder cmp → (height : ℕ) (key : K) (P : ℕ → Type 0) (old xs : List (Child K V Z)) (j : ℕ) (d : Child K V Z) → xs ≡ old → AreSiblings cmp height (branches old) → IsReady cmp key P (branches old) j → d ≡ get_or xs j d → (j < length xs) × AreSiblings cmp height (branches xs) × IsWay cmp height key P (branches xs) (branches (take j xs)) (d.least, d.node.value) (branches (drop (suc j) xs))
 way_in cmp o height key P old xs j d same s ready is = let to = way_to cmp o height key P xs j d (rw same s.children) (rw same ready) is in (to.0, rw same s, to.1)
+
+-- ---- what is seen of a node whose items are cut in two, or go on in another node
+
+module _ {K V : Type 0} (cmp : K → K → Ordering) (o : IsTotalOrder cmp) where
+  -- entries in order, cut at d
+  module _ (es : List (K × V)) (i : ℕ) (d : K × V) (k : K) (within : i < length es) (is : d ≡ get_or es i d) (key : k ≡ d.0) (s : IsOrdered cmp es) where
+    parted : IsOrdered cmp (take i es ++ d ∷ drop (suc i) es)
+    parted = subst (IsOrdered cmp) (around es i d within is) s
+
+    leaf_below : EachBelow cmp k (take i es)
+    leaf_below = rw key (each_turn cmp (λ y. cmp y d.0 ≡ Less) (λ y. cmp d.0 y ≡ Greater) (λ y less. reversed o y d.0 Less less) (take i es) (below_middle cmp (take i es) d (drop (suc i) es) parted))
+
+    pub leaf_above : NoneBelow cmp k (drop i es)
+    leaf_above = rw (key, rest_at es i d within is) (not_greater_self cmp o d.0, each_turn cmp (λ y. cmp d.0 y ≡ Less) (λ y. cmp d.0 y ≢ Greater) (λ y. less_not_greater cmp o d.0 y) (drop (suc i) es) (above_middle cmp (take i es) d (drop (suc i) es) parted))
+
+  module _ {Z : Type 0} (at : ℕ) (xs ys front back : Vec (K × V) Z) (s : IsOrdered cmp (xs.items ++ ys.items)) (f : front.items ≡ take at (xs.items ++ ys.items)) (b : back.items ≡ drop at (xs.items ++ ys.items)) (len : vec_len front ≡ at) (back_len : vec_len back + at ≡ vec_len xs + vec_len ys) where
+    pub leaf_cut : (key : Option K) → MatchOption key (at ≡ vec_len xs + vec_len ys) (λ k. (at < vec_len xs + vec_len ys) × ((d : K × V) × ((d ≡ get_or (xs.items ++ ys.items) at d) × (k ≡ d.0)))) → IsCut cmp at (merged (leaf xs) (leaf ys)) (leaf front) (leaf back) key
+    leaf_cut key h = record {
+      entries = rw (f, b) (sym (take-append-drop at (xs.items ++ ys.items)));
+      height = refl;
+      back_height = refl;
+      len = len;
+      back_len = back_len;
+      parted = by_key key h;
+    }
+      where
+        by_key : (key : Option K) → MatchOption key (at ≡ vec_len xs + vec_len ys) (λ k. (at < vec_len xs + vec_len ys) × ((d : K × V) × ((d ≡ get_or (xs.items ++ ys.items) at d) × (k ≡ d.0)))) → MatchOption key (vec_len back ≡ 0) (λ l. (0 < vec_len back) × EachBelow cmp l front.items × NoneBelow cmp l back.items)
+        by_key None h = omega (arith, h, back_len)
+        by_key (Some k) h =
+            let within : at < length (xs.items ++ ys.items) = omega (arith, h.0, length-append xs.items ys.items, xs.ok.0, ys.ok.0) in
+            (omega (arith, h.0, back_len), rw f (leaf_below (xs.items ++ ys.items) at h.1.0 k within h.1.1.0 h.1.1.1 s), rw b (leaf_above (xs.items ++ ys.items) at h.1.0 k within h.1.1.0 h.1.1.1 s))
+
+module _ {K V Z : Type 0} (cmp : K → K → Ordering) (o : IsTotalOrder cmp) (height : ℕ) where
+  -- no entry of the children from d on is below its least key
+  pub inner_above : (children : List (Child K V Z)) (at : ℕ) (d : Child K V Z) → AreChildren cmp height (branches (drop at children)) → at < length children → d ≡ get_or children at d → NoneBelow cmp d.least (entries_of (branches (drop at children)))
+  inner_above children at d h within is = rw (rest_at children at d within is) (least_of cmp o height (d.least, d.node.value) (branches (drop (suc at) children)) (rw (rest_at children at d within is) at h))
+
+  -- children of two nodes, of which those of the second, which go on from k, got other least keys
+  module _ (n m : ℕ) (k : K) (xs others : Vec (Child K V Z) Z) (ys : List (Child K V Z)) (h : IsInner cmp height n xs) (g : IsInner cmp height m others) (same : IsRearrangement cmp height (branches others.items) (branches ys)) (not : AllByRecursion (λ q. cmp k q.0 ≢ Greater) (branches ys)) (below : 0 < length (branches ys) → EachBelow cmp k (entries_of (branches xs.items))) where
+    all_over : (ps : List (Branch K V)) → AllByRecursion (λ q. cmp k q.0 ≢ Greater) ps → (0 < length ps → EachBelow cmp k (entries_of (branches xs.items))) → AllByRecursion (λ q. EachBelow cmp q.0 (entries_of (branches xs.items))) ps
+    all_over [] not below = tt
+    all_over (p ∷ ps) not below = all_turn (λ q. cmp k q.0 ≢ Greater) (λ q. EachBelow cmp q.0 (entries_of (branches xs.items))) (λ q up. each_turn cmp (λ y. cmp k y ≡ Greater) (λ y. cmp q.0 y ≡ Greater) (λ y above. above_upper cmp o k q.0 y up above) (entries_of (branches xs.items)) (below (omega arith))) (p ∷ ps) not
+
+    all_children : AreChildren cmp height (branches xs.items ++ branches ys)
+    all_children = children_append cmp height (branches xs.items) (branches ys) h.children same.children (all_over (branches ys) not below)
+
+    all_fit : AreFit (branches xs.items ++ branches ys)
+    all_fit = all_append (λ p. IsFit p.1) (branches xs.items) (branches ys) h.fit same.fit
+
+    entries : entries_of (branches xs.items) ++ entries_of (branches others.items) ≡ entries_of (branches (xs.items ++ ys))
+    entries = ap (λ l. entries_of (branches xs.items) ++ l) (sym same.entries) ∙ sym (ap entries_of (cut (xs.items ++ ys) xs.items ys refl) ∙ entries_append (branches xs.items) (branches ys))
+
+    -- and are divided anew
+    module _ (at : ℕ) (front back : Vec (Child K V Z) Z) (f : front.items ≡ take at (xs.items ++ ys)) (b : back.items ≡ drop at (xs.items ++ ys)) where
+      halves : branches xs.items ++ branches ys ≡ branches front.items ++ branches back.items
+      halves = sym (cut (xs.items ++ ys) xs.items ys refl) ∙ ap branches (sym (take-append-drop at (xs.items ++ ys))) ∙ cut (take at (xs.items ++ ys) ++ drop at (xs.items ++ ys)) (take at (xs.items ++ ys)) (drop at (xs.items ++ ys)) refl ∙ rw (f, b) refl
+
+      parts : AreChildren cmp height (branches front.items ++ branches back.items)
+      parts = subst (AreChildren cmp height) halves all_children
+
+      pub cut_entries : entries_of (branches xs.items) ++ entries_of (branches others.items) ≡ entries_of (branches front.items) ++ entries_of (branches back.items)
+      cut_entries = entries ∙ ap entries_of (cut (xs.items ++ ys) xs.items ys refl ∙ halves) ∙ entries_append (branches front.items) (branches back.items)
+
+      pub cut_count : n + m ≡ length (entries_of (branches front.items)) + length (entries_of (branches back.items))
+      cut_count = omega (arith, h.count, g.count, ap length cut_entries, length-append (entries_of (branches xs.items)) (entries_of (branches others.items)), length-append (entries_of (branches front.items)) (entries_of (branches back.items)))
+
+      pub cut_front : (c : ℕ) → c ≡ length (entries_of (branches front.items)) → vec_len front ≤ 16 → IsInner cmp height c front
+      cut_front c count most = record { high = h.high; most = most; children = children_left cmp height (branches front.items) (branches back.items) parts; fit = all_left (λ p. IsFit p.1) (branches front.items) (branches back.items) (subst AreFit halves all_fit); count = count }
+
+      pub cut_back : (c : ℕ) → c ≡ length (entries_of (branches back.items)) → vec_len back ≤ 16 → IsInner cmp height c back
+      cut_back c count most = record { high = h.high; most = most; children = children_right cmp height (branches front.items) (branches back.items) parts; fit = all_right (λ p. IsFit p.1) (branches front.items) (branches back.items) (subst AreFit halves all_fit); count = count }
+
+      pub inner_cut : vec_len front ≡ at → vec_len back + at ≡ vec_len xs + vec_len others → length ys ≡ vec_len others → (key : Option K) → MatchOption key (at ≡ vec_len xs + vec_len others) (λ l. (at < vec_len xs + vec_len others) × ((d : Child K V Z) × ((d ≡ get_or (xs.items ++ ys) at d) × (l ≡ d.least)))) → IsCut cmp at (merged (inner height xs) (inner height others)) (inner height front) (inner height back) key
+      inner_cut len back_len same_len key at_key = record {
+        entries = cut_entries;
+        height = refl;
+        back_height = refl;
+        len = len;
+        back_len = back_len;
+        parted = by_key key at_key;
+      }
+        where
+          by_key : (key : Option K) → MatchOption key (at ≡ vec_len xs + vec_len others) (λ l. (at < vec_len xs + vec_len others) × ((d : Child K V Z) × ((d ≡ get_or (xs.items ++ ys) at d) × (l ≡ d.least)))) → MatchOption key (vec_len back ≡ 0) (λ l. (0 < vec_len back) × EachBelow cmp l (entries_of (branches front.items)) × NoneBelow cmp l (entries_of (branches back.items)))
+          by_key None h = omega (arith, h, back_len)
+          by_key (Some l) h =
+              let d = h.1.0 in
+              let within : at < length (xs.items ++ ys) = omega (arith, h.0, length-append xs.items ys, xs.ok.0, same_len) in
+              let seam : branches back.items ≡ (d.least, d.node.value) ∷ branches (drop (suc at) (xs.items ++ ys)) = ap branches (b ∙ rest_at (xs.items ++ ys) at d within h.1.1.0) in
+              let right = children_right cmp height (branches front.items) (branches back.items) parts in
+              (omega (arith, h.0, back_len), rw h.1.1.1 (subst (AllByRecursion (λ q. EachBelow cmp q.0 (entries_of (branches front.items)))) seam (children_over cmp height (branches front.items) (branches back.items) parts)).0, rw (h.1.1.1, seam) (least_of cmp o height (d.least, d.node.value) (branches (drop (suc at) (xs.items ++ ys))) (subst (AreChildren cmp height) seam right)))

@@ -1,7 +1,6 @@
 use Rattle.std.proofs.Common.{◌<◌, length, arith}
 use Rattle.cap_tree.specs.Shape.{branches, entries_of, EachBelow}
-use Rattle.cap_tree.proofs.SiblingLemmas.{length_branches}
-use Rattle.cap_tree.proofs.CutLemmas.{cut_count, cut_front, cut_back, inner_cut}
+use Rattle.cap_tree.proofs.SiblingLemmas.{length_branches, cut_count, cut_front, cut_back, inner_cut}
 use Rattle.cap_tree.proofs.divide.divide_children.Goals as goal
 
 pub count_of-rest-requires : goal.count_of-rest-requires

@@ -1,6 +1,6 @@
 use Rattle.std.proofs.Common.{◌++◌, ap}
 use Rattle.cap_tree.specs.Tree.{IsOrdered}
-use Rattle.cap_tree.proofs.CutLemmas.{leaf_cut}
+use Rattle.cap_tree.proofs.SiblingLemmas.{leaf_cut}
 use Rattle.cap_tree.proofs.divide.divide_items.Goals as goal
 
 pub returns-in-Leaf-link-clause-cut : goal.returns-in-Leaf-link-clause-cut

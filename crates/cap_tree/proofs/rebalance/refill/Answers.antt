@@ -2,7 +2,7 @@ use Rattle.std.proofs.Common.{◌≡◌, ◌+◌, ◌<◌, ◌⊎◌, [], ◌∷
 use Rattle.std.proofs.lemmas.List.{append-nil}
 use Rattle.cap_tree.specs.Shape.{branches, place, AreChildren, IsFit}
 use Rattle.cap_tree.specs.Cut.{merged}
-use Rattle.cap_tree.proofs.BranchLemmas.{gap_of_two, place_one}
+use Rattle.cap_tree.proofs.BranchLemmas.{gap_of_two, place_at}
 use Rattle.cap_tree.proofs.HeightLemmas.{none_filled}
 use Rattle.cap_tree.proofs.SiblingLemmas.{front_length, cut_two, cut_remove, cut_redo, child_is, child_fit, second, neighbours, rearranged, one_instead, two_instead, ready_at, two_ready}
 use Rattle.cap_tree.proofs.rebalance.refill.Goals as goal
@@ -46,8 +46,6 @@ returns-in-Ok-None g c =
     let d = c.index_mut-front.result.now in
     let e = c.remove-back.result in
     let whole = cut_two c.args.children.now _ c.args.at d e c.requires.within c.remove-back.ensures.items c.index_mut-front.ensures.value c.remove-back.ensures.value in
-    let a = c.len.ensures.value ∙ ap (λ n. n.items) c.deref.ensures in
-    let b = c.len-2.ensures.value ∙ ap (λ n. n.items) c.deref-2.ensures in
     let share = c.share_of-cut.ensures in
     let s = c.requires.siblings in
     let n = c.in-Ok-None.ensures in
@@ -63,7 +61,7 @@ returns-in-Ok-None g c =
       same = one_instead g.K.Ord.cmp g.met.K.Ord.total c.args.height _ _ _ (_ ∷ []) _ whole s x _ new (omega (arith, cut.height, level)) entries fit_x;
       not_more = omega (arith, c.remove-back.ensures.len);
       one_less = omega (arith, c.remove-back.ensures.len);
-      ready = ready_at g.K.Ord.cmp _ _ _ (d.least, x) new (λ m. 4 < m) c.args.at first c.args.key.now (rw new (place_one g.K.Ord.cmp g.met.K.Ord.total c.args.key.now _ _ _ gap x ∙ omega (arith, first))) (omega (arith, cut.len, share.more));
+      ready = ready_at g.K.Ord.cmp _ _ _ (d.least, x) new (λ m. 4 < m) c.args.at first c.args.key.now (rw new (place_at g.K.Ord.cmp g.met.K.Ord.total c.args.key.now _ _ _ gap x _ ∙ omega (arith, first, gap.none))) (omega (arith, cut.len, share.more));
     }
 
 pub returns-in-Ok-Some : goal.returns-in-Ok-Some

@@ -1,5 +1,5 @@
 use Rattle.std.proofs.Common.{◌<◌, length, arith, ap}
-use Rattle.cap_tree.proofs.CutLemmas.{leaf_above, inner_above}
+use Rattle.cap_tree.proofs.SiblingLemmas.{leaf_above, inner_above}
 use Rattle.cap_tree.proofs.node.Node.least.Goals as goal
 
 pub returns-in-Leaf : goal.returns-in-Leaf
