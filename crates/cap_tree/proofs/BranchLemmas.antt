@@ -110,13 +110,9 @@ module _ {X : Type 0} where
   insert_around xs i x y within = ap₂ (λ l r. l ++ y ∷ r) (take_more_set xs i x within) (drop-set-lt (i + 1) xs i x (omega arith)) ∙ append_assoc (take i xs) (x ∷ []) (y ∷ drop (i + 1) xs) ∙ rw add-one refl
 
   pub two_around : (xs : List X) (i : ℕ) (d e : X) → i + 1 < length xs → d ≡ get_or (remove xs (i + 1)) i d → e ≡ get_or xs (i + 1) e → xs ≡ take i xs ++ d ∷ e ∷ drop (suc (suc i)) xs
-  two_around xs i d e within = rw add-one (step xs i (omega arith))
-    where
-      step : (xs : List X) (i : ℕ) → suc i < length xs → d ≡ get_or (remove xs (suc i)) i d → e ≡ get_or xs (suc i) e → xs ≡ take i xs ++ d ∷ e ∷ drop (suc (suc i)) xs
-      step [] i within is_d is_e = absurd (omega arith)
-      step (x ∷ []) zero within is_d is_e = absurd (omega arith)
-      step (x ∷ y ∷ xs) zero within is_d is_e = rw (← is_d, ← is_e) refl
-      step (x ∷ xs) (suc i) within is_d is_e = ap (λ t. x ∷ t) (step xs i (omega arith) is_d is_e)
+  two_around xs i d e within is_d is_e =
+      let here : d ≡ get_or xs i d = grind (arith, common_steps) in
+      around xs i d (omega arith) here ∙ ap (λ t. take i xs ++ d ∷ t) (rest_at xs (suc i) e (omega arith) (rw add-one at is_e))
 
   -- the second of them is removed
   skipped : (xs : List X) (i : ℕ) → i + 1 < length xs → (i < length (remove xs (i + 1))) × (take i (remove xs (i + 1)) ≡ take i xs) × (drop (suc i) (remove xs (i + 1)) ≡ drop (suc (suc i)) xs)

@@ -1,7 +1,7 @@
 use Rattle.std.proofs.Common.{◌≡◌, ◌+◌, ◌*◌, ◌<◌, ◌≤◌, ◌^◌, length, arith, rules, sym, ap, subst, ◌∙◌}
 use Rattle.cap_tree.specs.Tree.{IsOrdered, get}
 use Rattle.cap_tree.specs.Change.{gain, loss}
-use Rattle.cap_tree.specs.Shape.{entries_of, AreFit, IsFit, IsChild}
+use Rattle.cap_tree.specs.Shape.{branches, entries_of, AreFit, IsFit, IsChild}
 use Rattle.cap_tree.proofs.HeightLemmas.{fed}
 use Rattle.cap_tree.proofs.ChangeLemmas.{either_way, changes_of, changes_keeps, changes_length, changes_there, children_there, get_there}
 use Rattle.cap_tree.proofs.SiblingLemmas.{cut_set, child_is, child_fit, child_ordered, count_is, fit_set, way_to}
@@ -17,7 +17,7 @@ change_in_node-change_in_child-requires g t c =
     let e = c.make_ready.ensures in
     let to = way_to g.K.Ord.cmp g.met.K.Ord.total c.in-Inner.height key (λ n. (n + gain next ≤ 16) × (4 + loss next ≤ n)) c.make_ready.new.children.items c.in_ok-at-in-Inner.at child e.same.children c.in_ok-at-in-Inner.ensures.ready c.index_mut.ensures.value in
     let way = to.1 in
-    let entries = e.same.entries ∙ ap (λ n. n.entries) view in
+    let entries : entries_of (branches c.make_ready.new.children.items) ≡ c.args.node.now.entries = e.same.entries ∙ ap (λ n. n.entries) view in
     let found : get g.K.Ord.cmp c.args.node.now.entries key ≡ get g.K.Ord.cmp child.node.value.entries key = ap (λ l. get g.K.Ord.cmp l key) (sym entries ∙ ap entries_of way.is) ∙ get_there g.K.Ord.cmp key g.met.K.Ord.total c.in-Inner.height _ _ _ way.children way.gap in
     let can : g.H.Hook.can_ask c.args.hook.now (get g.K.Ord.cmp child.node.value.entries key) next = rw (← found) c.requires.can_ask in
     let ordered : IsOrdered g.K.Ord.cmp child.node.value.entries = child_ordered g.K.Ord.cmp _ _ _ _ way.is (rw entries c.requires.ordered) in
