@@ -6,6 +6,7 @@ use Rattle.std.specs.declared.cmp.Ordering.TheVariants.{Less, Equal, Greater}
 use Rattle.std.specs.Ordering.{is_eq, ordering_reverse}
 use Rattle.std.specs.Cmp.{IsTotalOrder, eq_by_cmp_equiv, alike_right, Equal-is}
 use Rattle.std.specs.Option.{is_some}
+use Rattle.std.proofs.lemmas.List.{map-append}
 use Rattle.std.proofs.lemmas.List.Elements.{filter-append}
 use Rattle.std.proofs.lemmas.Map.{lookup-remove_entry}
 use Rattle.std.proofs.lemmas.Map.Keys.{IsDistinct-from_sorted}
@@ -26,6 +27,24 @@ reversed o x y r h = o.antisymm y x ∙ ap ordering_reverse h
 pub sorted_nil : {K : Type 0} (cmp : K → K → Ordering) → IsStrictlySortedBy cmp []
 unfolding IsStrictlySortedBy
 sorted_nil cmp = tt
+
+-- what holds of each element holds by what follows from it
+pub all_turn : {X : Type 0} (P Q : X → Type 0) → ((x : X) → P x → Q x) → (xs : List X) → AllByRecursion P xs → AllByRecursion Q xs
+all_turn P Q f [] h = tt
+all_turn P Q f (x ∷ xs) h = (f x h.0, all_turn P Q f xs h.1)
+
+module _ {X : Type 0} where
+  pub all_append : (P : X → Type 0) (xs ys : List X) → AllByRecursion P xs → AllByRecursion P ys → AllByRecursion P (xs ++ ys)
+  all_append P [] ys h k = k
+  all_append P (x ∷ xs) ys h k = (h.0, all_append P xs ys h.1 k)
+
+  pub all_left : (P : X → Type 0) (xs ys : List X) → AllByRecursion P (xs ++ ys) → AllByRecursion P xs
+  all_left P [] ys h = tt
+  all_left P (x ∷ xs) ys h = (h.0, all_left P xs ys h.1)
+
+  pub all_right : (P : X → Type 0) (xs ys : List X) → AllByRecursion P (xs ++ ys) → AllByRecursion P ys
+  all_right P [] ys h = h
+  all_right P (x ∷ xs) ys h = all_right P xs ys h.1
 
 module _ {K V : Type 0} (cmp : K → K → Ordering) where
   -- each key of the entries compares so to k
@@ -84,12 +103,10 @@ module _ {K V : Type 0} (cmp : K → K → Ordering) where
   -- ---- parts of entries in order
 
   pub each_front : (P : K → Type 0) (front back : List (K × V)) → AllByRecursion P (keys_of (front ++ back)) → AllByRecursion P (keys_of front)
-  each_front P [] back h = tt
-  each_front P (e ∷ es) back h = (h.0, each_front P es back h.1)
+  each_front P front back h = all_left P (keys_of front) (keys_of back) (rw map-append at h)
 
   pub each_back : (P : K → Type 0) (front back : List (K × V)) → AllByRecursion P (keys_of (front ++ back)) → AllByRecursion P (keys_of back)
-  each_back P [] back h = h
-  each_back P (e ∷ es) back h = each_back P es back h.1
+  each_back P front back h = all_right P (keys_of front) (keys_of back) (rw map-append at h)
 
   pub ordered_front : (front back : List (K × V)) → IsOrdered cmp (front ++ back) → IsOrdered cmp front
   unfolding IsStrictlySortedBy
@@ -115,8 +132,7 @@ module _ {K V : Type 0} (cmp : K → K → Ordering) where
   above_middle front e back s = (ordered_rest front (e ∷ back) s).0
 
   pub each_turn : (P Q : K → Type 0) → ((y : K) → P y → Q y) → (es : List (K × V)) → AllByRecursion P (keys_of es) → AllByRecursion Q (keys_of es)
-  each_turn P Q f [] h = tt
-  each_turn P Q f (e ∷ es) h = (f e.0 h.0, each_turn P Q f es h.1)
+  each_turn P Q f es h = all_turn P Q f (keys_of es) h
 
   module _ (o : IsTotalOrder cmp) where
     pub less_than_back : (k : K) (front : List (K × V)) (e : K × V) (back : List (K × V)) → IsOrdered cmp (front ++ e ∷ back) → cmp k e.0 ≡ Less → Each Less k back

@@ -1,5 +1,4 @@
 mod BranchLemmas
-mod ChangeLemmas
 pub mod Crossing
 pub mod EntryLemmas
 mod HeightLemmas

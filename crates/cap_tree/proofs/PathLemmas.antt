@@ -18,9 +18,8 @@ use Rattle.std.specs.Prelude.{Option, Some, None, IfNone, IfSome, slice_get}
 use Rattle.std.proofs.lemmas.Option.{get_or_from_slice_get, slice_get_read, slice_get_within}
 use Rattle.cap_tree.specs.Tree.{IsOrdered, get}
 use Rattle.cap_tree.proofs.EntryLemmas.{Each}
-use Rattle.cap_tree.proofs.BranchLemmas.{below_children, place_zero, place_step, children_right, gap_at, above_front, below_back}
+use Rattle.cap_tree.proofs.BranchLemmas.{below_children, place_zero, place_step, children_right, gap_at, above_front, below_back, get_below, from_below}
 use Rattle.cap_tree.proofs.SiblingLemmas as siblings
-use Rattle.cap_tree.proofs.ChangeLemmas.{get_below, from_below}
 
 -- a key is above the entries in front of the branch at its place, and below those behind
 around_place : {K V : Type 0} (cmp : K → K → Ordering) (o : IsTotalOrder cmp) (k : K) (height : ℕ) (front : List (Branch K V)) (p : Branch K V) (back : List (Branch K V)) → AreChildren cmp height (front ++ p ∷ back) → place cmp k (front ++ p ∷ back) - 1 ≡ length front → Each cmp Greater k (entries_of front) × Each cmp Less k (entries_of back)

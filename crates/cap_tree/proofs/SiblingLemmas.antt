@@ -13,8 +13,8 @@ use Rattle.cap_tree.specs.Tree.{IsOrdered}
 use Rattle.cap_tree.specs.Shape.{branches, entries_of, items_at, IsChild, EachBelow, NoneBelow, AreChildren, IsFit, AreFit, place, IsInner, leaf, inner}
 use Rattle.cap_tree.specs.Siblings.{AreSiblings, IsRearrangement, HasItems, IsReady}
 use Rattle.cap_tree.specs.Cut.{AreNeighbours, IsCut, merged}
-use Rattle.cap_tree.proofs.EntryLemmas.{each_front, each_turn, ordered_front, ordered_rest, reversed, below_middle, above_middle}
-use Rattle.cap_tree.proofs.BranchLemmas.{around, insert_around, two_around, remove_around, redo_around, read_at, all_left, all_right, all_append, entries_append, count_append, children_right, IsGap, gap_at, children_append, children_left, children_over, least_of, first_is, place_at, above_upper, is_not_less, less_not_greater, place_within, leasts_below, place_step, step_up, all_turn, not_greater_self, rest_at}
+use Rattle.cap_tree.proofs.EntryLemmas.{each_front, each_turn, ordered_front, ordered_rest, reversed, below_middle, above_middle, all_left, all_right, all_append, all_turn}
+use Rattle.cap_tree.proofs.BranchLemmas.{around, insert_around, two_around, remove_around, redo_around, read_at, entries_append, count_append, children_right, IsGap, gap_at, children_append, children_left, children_over, least_of, first_is, place_at, above_upper, is_not_less, less_not_greater, place_within, leasts_below, place_step, step_up, not_greater_self, rest_at}
 use Rattle.cap_tree.proofs.HeightLemmas.{fed}
 
 module _ {K V Z : Type 0} where

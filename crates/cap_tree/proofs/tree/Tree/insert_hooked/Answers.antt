@@ -1,7 +1,7 @@
 use Rattle.std.proofs.Common.{Some}
 use Rattle.cap_tree.specs.Tree.{IsOrdered}
 use Rattle.cap_tree.proofs.EntryLemmas.{sorted_nil}
-use Rattle.cap_tree.proofs.ChangeLemmas.{changes_ordered}
+use Rattle.cap_tree.proofs.BranchLemmas.{changes_ordered}
 use Rattle.cap_tree.proofs.tree.Tree.insert_hooked.Goals as goal
 
 pub invariant_of-self-in-None : goal.invariant_of-self-in-None

@@ -1,5 +1,5 @@
 use Rattle.std.proofs.Common.{None}
-use Rattle.cap_tree.proofs.ChangeLemmas.{changes_ordered}
+use Rattle.cap_tree.proofs.BranchLemmas.{changes_ordered}
 use Rattle.cap_tree.proofs.tree.Tree.remove_hooked.Goals as goal
 use Rattle.cap_tree.proofs.tree.Tree.remove_hooked.Goals.{in-None, in-Some}
 
