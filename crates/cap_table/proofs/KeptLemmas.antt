@@ -104,10 +104,7 @@ module _ {A : Type 0} where
   row_with-wide changes row = length-map (enumerate_from 0 row) (λ field. new_value changes field.0 field.1) ∙ length-enumerate_from 0 row
 
   moved-rises : (t : TableState A) (name : RowRef A) (row : Fields A) (key : Option (Fields A)) → IsRising t → is_some (row_of t name) ≡ true → length row ≡ length t.schema → key_of t.schema row ≡ key → IfOk (moved t name row key) IsRising
-  moved-rises t (Key old) row (Some new) h there wide own =
-      let kept = with_key-rises t new row h wide own in
-      let rest = under_key-rises (is_some (get fields_cmp t.keyed new)) (without t (Key old)) new row (without-rises t (Key old) h) wide own in
-      grind arith
+  moved-rises t (Key old) row (Some new) h there wide own = grind (arith, with_key-rises t new row h wide own, under_key-rises (is_some (get fields_cmp t.keyed new)) (without t (Key old)) new row (without-rises t (Key old) h) wide own)
   moved-rises t (Key old) row None h there wide none = under_next_id-rises (without t (Key old)) row (without-rises t (Key old) h) wide none
   moved-rises t (Loose id) row (Some new) h there wide own = under_key-rises (is_some (get fields_cmp t.keyed new)) (without t (Loose id)) new row (without-rises t (Loose id) h) wide own
   moved-rises t (Loose id) row None h there wide none = with_id-rises t id row h (given_from_1 t id h.sound there) (was_given t id h.sound there) wide none

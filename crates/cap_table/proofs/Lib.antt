@@ -1,5 +1,4 @@
 pub mod Crossing
-pub mod HookedLemmas
 pub mod BackLemmas
 pub mod KeptLemmas
 pub mod TableLemmas

@@ -1,6 +1,6 @@
 -- Rows that stand where they belong, after a row is put and after one is taken.
 use Rattle.std.proofs.Common.{◌≡◌, ℕ, ◌+◌, ◌^◌, ◌<◌, ◌≤◌, Bool, true, Option, Some, None, List, [], ◌∷◌, ◌&&◌, length, refl, sym, ap, ◌∙◌, arith, Ordering, Bor}
-use Rattle.std.specs.Prelude.{is_some, ◌==◌, IfSome}
+use Rattle.std.specs.Prelude.{is_some, IfSome}
 use Rattle.std.specs.Option.{option_copied}
 use Rattle.std.specs.List.{list_all}
 use Rattle.std.specs.Map.{remove_entry}

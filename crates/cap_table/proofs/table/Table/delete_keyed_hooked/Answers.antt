@@ -1,6 +1,6 @@
 use Rattle.std.proofs.Common.{ap, sym}
 use Rattle.std.specs.Prelude.{is_some}
-use Rattle.cap_table.proofs.HookedLemmas.{deleted}
+use Rattle.cap_table.proofs.KeptKeyLemmas.{deleted}
 use Rattle.cap_table.proofs.table.Table.delete_keyed_hooked.Goals as goal
 
 pub take_hooked-requires : goal.take_hooked-requires

@@ -1,5 +1,5 @@
 use Rattle.std.proofs.Common.{Some, subst, sym}
-use Rattle.cap_table.proofs.HookedLemmas.{is_new, free_key}
+use Rattle.cap_table.proofs.KeptKeyLemmas.{is_new, free_key}
 use Rattle.cap_table.proofs.table.Table.insert_keyed_hooked.Goals as goal
 
 pub put_hooked-requires : goal.put_hooked-requires
