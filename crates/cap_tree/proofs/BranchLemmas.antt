@@ -1,16 +1,16 @@
--- The branches of a node: into which of them a key belongs, they cut where some of them change, and a key changed below one.
-use Rattle.std.proofs.Common.{◌≡◌, ℕ, zero, suc, ◌+◌, ◌<◌, ◌≢◌, List, [], ◌∷◌, ◌++◌, length, take, drop, get_or, set, refl, sym, ap, ap₂, ◌∙◌, arith, add-one, length-append, inl, inr, ◌≤◌, Ok, Err, Result}
+-- The branches of a node: into which of them a key belongs, they cut where some of them change, a key changed below one, and how many entries are below them.
+use Rattle.std.proofs.Common.{◌≡◌, ℕ, zero, suc, ◌+◌, ◌<◌, ◌≢◌, List, [], ◌∷◌, ◌++◌, length, take, drop, get_or, set, refl, sym, ap, ap₂, ◌∙◌, arith, add-one, inl, inr, ◌≤◌, Ok, Err, Result, ◌*◌, ◌^◌, length-append, lit<, lit≤}
 use Rattle.std.specs.Prelude.{◌⊎◌, Option, Some, None}
 use Rattle.std.specs.declared.cmp.Ordering.{Ordering}
 use Rattle.std.specs.declared.cmp.Ordering.TheVariants.{Less, Greater, Equal}
 use Rattle.std.specs.List.{AllByRecursion, insert, remove}
 use Rattle.std.specs.Cmp.{IsTotalOrder, alike_right}
 use Rattle.std.specs.Map.{keys_of}
-use Rattle.std.proofs.lemmas.List.{append_assoc, set_split, take-append-drop, take_more_set, drop-set-lt, map-append}
-use Rattle.std.proofs.lemmas.Grind.{common_steps}
+use Rattle.std.proofs.lemmas.List.{append_assoc, set_split, take-append-drop, take_more_set, drop-set-lt, map-append, nil_from_length}
+use Rattle.std.proofs.lemmas.Grind.{common_steps, pow_more}
 use Rattle.std.proofs.Math.Seq.{drop-cons}
 use Rattle.cap_tree.specs.Subtree.{Subtree, Branch}
-use Rattle.cap_tree.specs.Shape.{entries_of, NoneBelow, EachBelow, AreChildren, AreFit, place, IsChild}
+use Rattle.cap_tree.specs.Shape.{entries_of, NoneBelow, EachBelow, AreChildren, AreFit, place, IsChild, IsFilled, IsFit}
 use Rattle.cap_tree.specs.Siblings.{IsRearrangement}
 use Rattle.cap_tree.proofs.EntryLemmas.{Each, each_back, each_front, each_turn, reversed, put_entry-past, put_entry-before, take_entry-past, take_entry-before, get-past, get-before, entries_from-past, entries_from-before, each_put, each_take, ordered_put, ordered_take, length-put_entry, length-take_entry, all_append, all_left, all_right, all_turn}
 use Rattle.std.specs.BTreeMap.Range.{entries_from}
@@ -18,6 +18,8 @@ use Rattle.cap_value.specs.declared.memory.Fault.{Fault}
 use Rattle.cap_value.specs.declared.memory.Fault.TheVariants.{Refused, OutOfMemory}
 use Rattle.cap_tree.specs.Tree.{IsOrdered, get}
 use Rattle.cap_tree.specs.Change.{gain, change_entry, Changes}
+use Rattle.std.proofs.Math.Nat.{mul-le-mul_right, pow-le-pow_left, pow-le-pow_right, pow-suc}
+use Rattle.std.proofs.lemmas.Bool.{cases_lt}
 
 -- and by what follows from two facts
 pub all_both : {X : Type 0} (P Q R : X → Type 0) → ((x : X) → P x → Q x → R x) → (xs : List X) → AllByRecursion P xs → AllByRecursion Q xs → AllByRecursion R xs
@@ -136,9 +138,6 @@ module _ {K V : Type 0} where
   entries_append [] ys = refl
   entries_append (x ∷ xs) ys = ap (λ t. x.1.entries ++ t) (entries_append xs ys) ∙ sym (append_assoc x.1.entries (entries_of xs) (entries_of ys))
 
-  pub count_append : (xs ys : List (Branch K V)) → length (entries_of (xs ++ ys)) ≡ length (entries_of xs) + length (entries_of ys)
-  count_append xs ys = ap length (entries_append xs ys) ∙ length-append (entries_of xs) (entries_of ys)
-
   module _ (cmp : K → K → Ordering) where
     -- ---- the branches of two lists, one behind the other
 
@@ -239,13 +238,9 @@ abbrev pub Keeps : {K V : Type 0} → K → List (K × V) → List (K × V) → 
 Keeps {K = K} k before after = (P : K → Type 0) → P k → AllByRecursion P (keys_of before) → AllByRecursion P (keys_of after)
 
 module _ {K V : Type 0} (cmp : K → K → Ordering) (k : K) where
-  change-past : (next : Option V) (front back : List (K × V)) → Each cmp Greater k front → change_entry cmp (front ++ back) k next ≡ front ++ change_entry cmp back k next
-  change-past (Some v) front back h = put_entry-past cmp k v front back h
-  change-past None front back h = take_entry-past cmp k front back h
-
-  change-before : (next : Option V) (front back : List (K × V)) → Each cmp Less k back → change_entry cmp (front ++ back) k next ≡ change_entry cmp front k next ++ back
-  change-before (Some v) front back h = put_entry-before cmp k v front back h
-  change-before None front back h = take_entry-before cmp k front back h
+  change-around : (next : Option V) (front middle back : List (K × V)) → Each cmp Greater k front → Each cmp Less k back → change_entry cmp (front ++ (middle ++ back)) k next ≡ front ++ (change_entry cmp middle k next ++ back)
+  change-around (Some v) front middle back f b = put_entry-past cmp k v front (middle ++ back) f ∙ ap (λ t. front ++ t) (put_entry-before cmp k v middle back b)
+  change-around None front middle back f b = take_entry-past cmp k front (middle ++ back) f ∙ ap (λ t. front ++ t) (take_entry-before cmp k middle back b)
 
   module _ (o : IsTotalOrder cmp) where
     change_keeps : (next : Option V) (es : List (K × V)) → Keeps k es (change_entry cmp es k next)
@@ -285,9 +280,7 @@ module _ {K V : Type 0} (cmp : K → K → Ordering) (k : K) where
         change_there next c is =
             entries_append front ((p.0, c) ∷ back)
             ∙ ap (λ t. entries_of front ++ (t ++ entries_of back)) is
-            ∙ ap (λ t. entries_of front ++ t) (sym (change-before next p.1.entries (entries_of back) below))
-            ∙ sym (change-past next (entries_of front) (entries_of (p ∷ back)) above)
-            ∙ ap (λ l. change_entry cmp l k next) (sym (entries_append front (p ∷ back)))
+            ∙ sym (ap (λ l. change_entry cmp l k next) (entries_append front (p ∷ back)) ∙ change-around next (entries_of front) p.1.entries (entries_of back) above below)
 
         pub keep_there : (c : Subtree K V) → c.entries ≡ p.1.entries → entries_of (front ++ (p.0, c) ∷ back) ≡ entries_of (front ++ p ∷ back)
         keep_there c is = entries_append front ((p.0, c) ∷ back) ∙ ap (λ t. entries_of front ++ (t ++ entries_of back)) is ∙ sym (entries_append front (p ∷ back))
@@ -327,3 +320,58 @@ module _ {K V E S : Type 0} (cmp : K → K → Ordering) (gives : S → Option V
       (w.0 ∙ sym there, change_there cmp k o height front p back h gap next c w.1, rw there w.2)
   changes_there o height front p back h gap c (Err OutOfMemory) w = (keep_there cmp k o height front p back h gap c w.0, w.1)
   changes_there o height front p back h gap c (Err (Refused why)) w = (keep_there cmp k o height front p back h gap c w.0, rw (get_there cmp k o height front p back h gap) w.1)
+
+-- ---- how many entries a node has at its height
+
+-- the lesser power has the lesser exponent
+pub less_power : (b h n : ℕ) → 0 < b → b ^ h < b ^ n → h < n
+less_power b h n some less = grind (arith, cases_lt h n, pow-le-pow_right some {i = n} {j = h})
+
+module _ {K V : Type 0} where
+  -- a child of a node at this height
+  pub child_filled : (height : ℕ) (c : Subtree K V) → c.height + 1 ≡ height → IsFit c → (4 ^ height ≤ length c.entries) × (length c.entries ≤ 16 ^ height)
+  child_filled height c level fit =
+      let low : 4 * 4 ^ c.height ≤ c.items * 4 ^ c.height = mul-le-mul_right (4 ^ c.height) fit.0 in
+      let high : c.items * 16 ^ c.height ≤ 16 * 16 ^ c.height = mul-le-mul_right (16 ^ c.height) fit.1 in
+      rw (← level, pow_more 4 c.height, pow_more 16 c.height) (omega (arith, low, fit.2.0), omega (arith, high, fit.2.1))
+
+  -- a node that has items has entries
+  pub fed : (c : Subtree K V) → 0 < c.items → IsFilled c → 0 < length c.entries
+  fed c some filled =
+      let one : 4 ^ 0 ≤ 4 ^ c.height = pow-le-pow_right (lit< tt) {i = 0} {j = c.height} (omega arith) in
+      let low : 1 * 4 ^ c.height ≤ c.items * 4 ^ c.height = mul-le-mul_right (4 ^ c.height) some in
+      omega (arith, one, low, filled.0)
+
+  -- and one that has none has none
+  pub none_filled : (c : Subtree K V) → c.items ≡ 0 → IsFilled c → c.entries ≡ []
+  none_filled c none filled = nil_from_length c.entries (let most : length c.entries ≤ 0 * 16 ^ c.height = rw none at filled.1 in omega (arith, most))
+
+  module _ (cmp : K → K → Ordering) where
+    pub children_filled : (height : ℕ) (ps : List (Branch K V)) → AreChildren cmp height ps → AreFit ps → (length ps * 4 ^ height ≤ length (entries_of ps)) × (length (entries_of ps) ≤ length ps * 16 ^ height)
+    children_filled height [] h fit = (omega arith, omega arith)
+    children_filled height (p ∷ ps) h fit =
+        let here = child_filled height p.1 h.0.0 fit.0 in
+        let rest = children_filled height ps h.3 fit.1 in
+        let whole = length-append p.1.entries (entries_of ps) in
+        (omega (arith, here.0, rest.0, whole), omega (arith, here.1, rest.1, whole))
+
+-- ---- how high a root is that has so many entries
+
+module _ {K V : Type 0} (node : Subtree K V) (filled : IsFilled node) (root : 0 < node.height → 2 ≤ node.items) where
+  -- an inner root has two children, and each node below it four items at least
+  least_by : 0 < node.height → 2 * 4 ^ node.height ≤ length node.entries
+  least_by high =
+      let two = mul-le-mul_right (4 ^ node.height) (root high) in
+      omega (arith, filled.0, two)
+
+  pub few_levels : 0 < length node.entries → (digits : ℕ) → length node.entries < 2 ^ digits → node.height + 1 ≤ digits
+  few_levels some zero fits = absurd (omega arith)
+  few_levels some (suc digits) fits = by_height node.height refl
+    where
+      by_height : (h : ℕ) → h ≡ node.height → node.height + 1 ≤ suc digits
+      by_height zero low = omega arith
+      by_height (suc h) high =
+          let least = least_by (omega arith) in
+          let less : 2 ^ node.height ≤ 4 ^ node.height = pow-le-pow_left (lit≤ tt) node.height in
+          let more = less_power 2 node.height digits (lit< tt) (omega (arith, least, less, fits, pow-suc 2 digits)) in
+          omega (arith, more)

@@ -8,7 +8,7 @@ use Rattle.cap_tree.specs.declared.node.Child.{Child}
 use Rattle.std.proofs.Math.Nat.{mul-le-mul_right}
 use Rattle.cap_tree.specs.declared.node.Link.{Link}
 use Rattle.cap_tree.specs.declared.node.Link.TheVariants.{Leaf, Inner}
-use Rattle.cap_tree.proofs.HeightLemmas.{children_filled, less_power}
+use Rattle.cap_tree.proofs.BranchLemmas.{children_filled, less_power, below_children, place_zero, place_step, children_right, gap_at, above_front, below_back, get_below, from_below}
 use Rattle.cap_tree.proofs.SiblingLemmas.{length_branches, cut, front_length}
 use Rattle.cap_tree.specs.Subtree.{Subtree, Branch}
 use Rattle.cap_tree.specs.Path.{pending, FitInto, IsPath}
@@ -18,7 +18,6 @@ use Rattle.std.specs.Prelude.{Option, Some, None, IfNone, IfSome, slice_get}
 use Rattle.std.proofs.lemmas.Option.{get_or_from_slice_get, slice_get_read, slice_get_within}
 use Rattle.cap_tree.specs.Tree.{IsOrdered, get}
 use Rattle.cap_tree.proofs.EntryLemmas.{Each}
-use Rattle.cap_tree.proofs.BranchLemmas.{below_children, place_zero, place_step, children_right, gap_at, above_front, below_back, get_below, from_below}
 use Rattle.cap_tree.proofs.SiblingLemmas as siblings
 
 -- a key is above the entries in front of the branch at its place, and below those behind
@@ -68,8 +67,7 @@ module _ {K V Z : Type 0} where
   -- ---- the last child
 
   fed_last : (cmp : K → K → Ordering) (height : ℕ) (front : List (Child K V Z)) (child : Child K V Z) → AreChildren cmp height (branches (front ++ child ∷ [])) → 0 < length child.node.value.entries
-  fed_last cmp height [] child h = h.0.1
-  fed_last cmp height (x ∷ xs) child h = fed_last cmp height xs child h.3
+  fed_last cmp height front child h = (children_right cmp height (branches front) (branches (child ∷ [])) (subst (AreChildren cmp height) (cut (front ++ child ∷ []) front (child ∷ []) refl) h)).0.1
 
   entries_to_last : (front : List (Child K V Z)) (child : Child K V Z) → entries_of (branches (front ++ child ∷ [])) ≡ entries_of (branches front) ++ child.node.value.entries
   entries_to_last [] child = append-nil child.node.value.entries

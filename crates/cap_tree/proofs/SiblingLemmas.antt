@@ -14,8 +14,7 @@ use Rattle.cap_tree.specs.Shape.{branches, entries_of, items_at, IsChild, EachBe
 use Rattle.cap_tree.specs.Siblings.{AreSiblings, IsRearrangement, HasItems, IsReady}
 use Rattle.cap_tree.specs.Cut.{AreNeighbours, IsCut, merged}
 use Rattle.cap_tree.proofs.EntryLemmas.{each_front, each_turn, ordered_front, ordered_rest, reversed, below_middle, above_middle, all_left, all_right, all_append, all_turn}
-use Rattle.cap_tree.proofs.BranchLemmas.{around, insert_around, two_around, remove_around, redo_around, read_at, entries_append, count_append, children_right, IsGap, gap_at, children_append, children_left, children_over, least_of, first_is, place_at, above_upper, is_not_less, less_not_greater, place_within, leasts_below, place_step, step_up, not_greater_self, rest_at}
-use Rattle.cap_tree.proofs.HeightLemmas.{fed}
+use Rattle.cap_tree.proofs.BranchLemmas.{around, insert_around, two_around, remove_around, redo_around, read_at, entries_append, children_right, IsGap, gap_at, children_append, children_left, children_over, least_of, first_is, place_at, above_upper, is_not_less, less_not_greater, place_within, leasts_below, place_step, step_up, not_greater_self, rest_at, fed}
 
 module _ {K V Z : Type 0} where
   -- one more child that is seen as the child at i
@@ -26,12 +25,6 @@ module _ {K V Z : Type 0} where
       let more = take_more (branches children) i (d.least, d.node.value) (rw length-map within) in
       rw (map-append, so_far, more, same)
 
-  -- a child as its parent sees it
-  pub at_branches : (children : List (Child K V Z)) (j : ℕ) (d : Child K V Z) → j < length children → d ≡ get_or children j d → get_or (branches children) j (d.least, d.node.value) ≡ (d.least, d.node.value)
-  at_branches children j d within is =
-      let at = get_or-map {Y = Branch K V} (λ (p : Child K V Z). (p.least, p.node.value)) children j d (d.least, d.node.value) within in
-      rw (at, ← is)
-
   pub branches_set : (children : List (Child K V Z)) (j : ℕ) (x : Child K V Z) → branches (set children j x) ≡ set (branches children) j (x.least, x.node.value)
   branches_set children j x = map-set (λ (p : Child K V Z). (p.least, p.node.value)) children j x
 
@@ -40,7 +33,9 @@ module _ {K V Z : Type 0} where
 
   -- the first child gets another least key
   pub lowered : (children : List (Child K V Z)) (d x : Child K V Z) (k : K) → 0 < length children → d ≡ get_or children 0 d → x.least ≡ k → x.node.value ≡ d.node.value → branches (set children 0 x) ≡ set (branches children) 0 (k, (get_or (branches children) 0 (d.least, d.node.value)).1)
-  lowered children d x k some is least node = rw (branches_set, at_branches children 0 d some is, least, node)
+  lowered children d x k some is least node =
+      let at = get_or-map {Y = Branch K V} (λ (p : Child K V Z). (p.least, p.node.value)) children 0 d (d.least, d.node.value) some in
+      rw (branches_set, at, ← is, least, node)
 
   -- a key that is not below the last child's least key is below no child's
   pub last_place : (cmp : K → K → Ordering) → IsTotalOrder cmp → (k : K) (height : ℕ) (children : List (Child K V Z)) (x : Child K V Z) → AreChildren cmp height (branches children) → slice_get children (length children - 1) ≡ Some x → cmp k x.least ≢ Less → place cmp k (branches children) ≡ length children
@@ -58,9 +53,6 @@ module _ {K V Z : Type 0} where
 
   pub front_length : (xs : List (Child K V Z)) (j : ℕ) → j < length xs → j ≡ length (branches (take j xs))
   front_length xs j within = sym (length-map (take j xs) (λ (p : Child K V Z). (p.least, p.node.value)) ∙ length-take-le j xs (omega arith))
-
-  pub cut_at : (xs : List (Child K V Z)) (j : ℕ) (d : Child K V Z) → j < length xs → d ≡ get_or xs j d → branches xs ≡ branches (take j xs) ++ (d.least, d.node.value) ∷ branches (drop (suc j) xs)
-  cut_at xs j d within is = cut xs (take j xs) (d ∷ drop (suc j) xs) (around xs j d within is)
 
   -- x stands where d stood, and has its least key
   module _ (xs : List (Child K V Z)) (j : ℕ) (d x : Child K V Z) (least : x.least ≡ d.least) where
@@ -104,19 +96,13 @@ module _ {K V : Type 0} (cmp : K → K → Ordering) where
     child_ordered s = ordered_front cmp p.1.entries (entries_of back) (ordered_rest cmp (entries_of front) (entries_of (p ∷ back)) (subst (IsOrdered cmp) (ap entries_of is ∙ entries_append front (p ∷ back)) s))
 
     pub count_is : length (entries_of whole) ≡ length (entries_of front) + (length p.1.entries + length (entries_of back))
-    count_is = ap (λ l. length (entries_of l)) is ∙ count_append front (p ∷ back) ∙ ap (λ n. length (entries_of front) + n) (length-append p.1.entries (entries_of back))
+    count_is = ap (λ l. length (entries_of l)) is ∙ ap length (entries_append front (p ∷ back)) ∙ length-append (entries_of front) (entries_of (p ∷ back)) ∙ ap (λ n. length (entries_of front) + n) (length-append p.1.entries (entries_of back))
 
     pub child_at : (j : ℕ) → j ≡ length front → (d : Branch K V) → items_at j d whole ≡ p.1.items
     child_at j at d = ap (λ l. items_at j d l) is ∙ ap (λ q. q.1.items) (read_at front p back j d at)
 
-    pub child_has : (P : ℕ → Type 0) (j : ℕ) → j ≡ length front → HasItems P j whole → P p.1.items
-    child_has P j at h = subst P (child_at j at p) (h p)
-
-    pub has_child : (P : ℕ → Type 0) (j : ℕ) → j ≡ length front → P p.1.items → HasItems P j whole
-    has_child P j at h d = subst P (sym (child_at j at d)) h
-
     pub ready_at : (P : ℕ → Type 0) (j : ℕ) → j ≡ length front → (key : K) → place cmp key whole ≡ j + 1 → P p.1.items → IsReady cmp key P whole j
-    ready_at P j at key there h = record { within = omega (arith, at, ap length is, length-append front (p ∷ back)); place = there; items = has_child P j at h }
+    ready_at P j at key there h = record { within = omega (arith, at, ap length is, length-append front (p ∷ back)); place = there; items = λ d. subst P (sym (child_at j at d)) h }
 
   -- ---- what is known of two neighbours
 
@@ -212,8 +198,8 @@ pub way_to : {K V Z : Type 0} (cmp : K → K → Ordering) → IsTotalOrder cmp 
 way_to cmp o height key P xs j d h ready is =
     let within : j < length xs = omega (arith, ready.within, length_branches xs) in
     let first = front_length xs j within in
-    let whole = cut_at xs j d within is in
-    (within, record { is = whole; children = subst (AreChildren cmp height) whole h; gap = gap_at cmp o key _ _ _ j (subst (λ l. place cmp key l ≡ j + 1) whole ready.place) first; has = child_has cmp _ _ _ _ whole P j first ready.items })
+    let whole = cut xs (take j xs) (d ∷ drop (suc j) xs) (around xs j d within is) in
+    (within, record { is = whole; children = subst (AreChildren cmp height) whole h; gap = gap_at cmp o key _ _ _ j (subst (λ l. place cmp key l ≡ j + 1) whole ready.place) first; has = subst P (child_at cmp (branches xs) (branches (take j xs)) (branches (drop (suc j) xs)) (d.least, d.node.value) whole j first (d.least, d.node.value)) (ready.items (d.least, d.node.value)) })
 
 -- where the children are those of before
 pub way_in : {K V Z : Type 0} (cmp : K → K → Ordering) → IsTotalOrder cmp → (height : ℕ) (key : K) (P : ℕ → Type 0) (old xs : List (Child K V Z)) (j : ℕ) (d : Child K V Z) → xs ≡ old → AreSiblings cmp height (branches old) → IsReady cmp key P (branches old) j → d ≡ get_or xs j d → (j < length xs) × AreSiblings cmp height (branches xs) × IsWay cmp height key P (branches xs) (branches (take j xs)) (d.least, d.node.value) (branches (drop (suc j) xs))

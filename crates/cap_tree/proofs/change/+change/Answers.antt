@@ -2,8 +2,7 @@ use Rattle.std.proofs.Common.{◌≡◌, ◌+◌, ◌*◌, ◌<◌, ◌≤◌, �
 use Rattle.cap_tree.specs.Tree.{IsOrdered, get}
 use Rattle.cap_tree.specs.Change.{gain, loss}
 use Rattle.cap_tree.specs.Shape.{branches, entries_of, AreFit, IsFit, IsChild}
-use Rattle.cap_tree.proofs.HeightLemmas.{fed}
-use Rattle.cap_tree.proofs.BranchLemmas.{either_way, changes_of, changes_keeps, changes_length, changes_there, children_there, get_there}
+use Rattle.cap_tree.proofs.BranchLemmas.{fed, either_way, changes_of, changes_keeps, changes_length, changes_there, children_there, get_there}
 use Rattle.cap_tree.proofs.SiblingLemmas.{cut_set, child_is, child_fit, child_ordered, count_is, fit_set, way_to}
 use Rattle.cap_tree.proofs.change.+change.Goals as goal
 

@@ -10,8 +10,7 @@ find-requires g t c =
     let there = rw c.as_slice-in-Inner.ensures.value at (c.in_ok-child-in-Inner.ensures c.in-Inner.field-0 (rw c.as_slice-in-Inner.ensures.value n.children)) in
     let child = c.deref.result.now in
     let ordered : IsOrdered g.K.Ord.cmp child.entries = rw c.deref.ensures (child_ordered g.K.Ord.cmp c.in-Inner.children.items _ _ _ there (rw (ap (λ n. n.entries) view) c.requires)) in
-    let shape = child_and_rest g.K.Ord.cmp c.in-Inner.children.items _ _ _ there _ n.children in
-    let level : child.height < c.args.node.now.height = rw c.deref.ensures (omega (arith, shape.0.0, ap (λ n. n.height) view)) in
+    let level : child.height < c.args.node.now.height = rw c.deref.ensures (omega (arith, (child_and_rest g.K.Ord.cmp c.in-Inner.children.items _ _ _ there _ n.children).0.0, ap (λ n. n.height) view)) in
     λ κs h. search rules
 
 pub returns-in-Inner : goal.returns-in-Inner

@@ -1,7 +1,7 @@
 use Rattle.std.proofs.Common.{◌+◌, arith}
 use Rattle.std.proofs.lemmas.List.{append-nil}
 use Rattle.cap_tree.specs.Shape.{IsChild, IsFit}
-use Rattle.cap_tree.proofs.HeightLemmas.{fed}
+use Rattle.cap_tree.proofs.BranchLemmas.{fed}
 use Rattle.cap_tree.proofs.grow.raise.Goals as goal
 
 pub invariant_of-root : goal.invariant_of-root

@@ -2,8 +2,7 @@ use Rattle.std.proofs.Common.{◌≡◌, ◌+◌, ◌<◌, ◌⊎◌, [], ◌∷
 use Rattle.std.proofs.lemmas.List.{append-nil}
 use Rattle.cap_tree.specs.Shape.{branches, place, AreChildren, IsFit}
 use Rattle.cap_tree.specs.Cut.{merged}
-use Rattle.cap_tree.proofs.BranchLemmas.{gap_of_two, place_at}
-use Rattle.cap_tree.proofs.HeightLemmas.{none_filled}
+use Rattle.cap_tree.proofs.BranchLemmas.{gap_of_two, place_at, none_filled}
 use Rattle.cap_tree.proofs.SiblingLemmas.{front_length, cut_two, cut_remove, cut_redo, child_is, child_fit, second, neighbours, rearranged, one_instead, two_instead, ready_at, two_ready}
 use Rattle.cap_tree.proofs.rebalance.refill.Goals as goal
 

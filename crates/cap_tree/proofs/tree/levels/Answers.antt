@@ -1,5 +1,5 @@
 use Rattle.std.proofs.Common.{◌<◌, length, arith}
-use Rattle.cap_tree.proofs.HeightLemmas.{few_levels}
+use Rattle.cap_tree.proofs.BranchLemmas.{few_levels}
 use Rattle.cap_tree.proofs.tree.levels.Goals as goal
 
 pub returns-clause-digits : goal.returns-clause-digits

@@ -1,6 +1,6 @@
 use Rattle.std.proofs.Common.{◌≡◌, length, vec_len, arith}
 use Rattle.cap_tree.specs.Shape.{branches}
-use Rattle.cap_tree.proofs.HeightLemmas.{children_filled}
+use Rattle.cap_tree.proofs.BranchLemmas.{children_filled}
 use Rattle.cap_tree.proofs.SiblingLemmas.{length_branches}
 use Rattle.cap_tree.proofs.node.Node.len.Goals as goal
 
