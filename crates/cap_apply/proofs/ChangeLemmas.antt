@@ -29,13 +29,8 @@ module _ {A : Type 0} where
     pub fit : columns_fit flags table.schema ≡ true
     pub is : target database name flags ≡ Some table
 
-  fitting_there : (flags : List Bool) (found : Option (TableState A)) (table : TableState A) → fitting flags found ≡ Some table → (found ≡ Some table) × (columns_fit flags table.schema ≡ true)
-  fitting_there flags None table is = cc
-  fitting_there flags (Some other) table is = (grind arith, grind arith)
-
   the_target : (database : Tables A) (name : List ℕ) (flags : List Bool) (table : TableState A) → target database name flags ≡ Some table → HasTarget database name flags
-  the_target database name flags table is =
-      let found = fitting_there flags (table_of database name) table is in record { table = table; there = found.0; fit = found.1; is = is }
+  the_target database name flags table is = record { table = table; there = grind arith; fit = grind arith; is = is }
 
   pub has_target : (database : Tables A) (name : List ℕ) (flags : List Bool) → is_some (target database name flags) ≡ true → HasTarget database name flags
   has_target database name flags e = elim (target database name flags) as (λ t. target database name flags ≡ t → is_some t ≡ true → HasTarget database name flags) [
@@ -52,8 +47,7 @@ module _ {A : Type 0} where
 
   -- a row under a key changes nothing else of the table
   pub same_rest : (table : TableState A) (key : Fields A) (row : Option (Fields A)) → with_row table key row ≡ record table { keyed = (with_row table key row).keyed }
-  same_rest table key None = refl
-  same_rest table key (Some row) = refl
+  same_rest table key row = grind arith
 
   pub same_columns : (table : TableState A) (key : Fields A) (row : Option (Fields A)) → (with_row table key row).schema ≡ table.schema
   same_columns table key row = ap (λ (t : TableState A). t.schema) (same_rest table key row)

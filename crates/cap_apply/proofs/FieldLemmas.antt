@@ -91,9 +91,8 @@ module _ {A : Type 0} where
   -- ---- the row of an insert
 
   pub full_defined : (flags : List Bool) (fields : RecordFields A) → satisfy (requirements Full flags) fields ≡ true → list_all is_some fields ≡ true
-  full_defined [] [] met = refl
   full_defined (flag ∷ flags) (field ∷ fields) met = let rest = full_defined flags fields in grind (arith, rest)
-  full_defined flags fields met = cc
+  full_defined flags fields met = grind arith
 
   pub full_values : (values : Fields A) → map (λ field. unwrap_or field Null) (full_record values) ≡ values
   full_values [] = refl

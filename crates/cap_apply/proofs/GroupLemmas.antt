@@ -39,22 +39,12 @@ module _ {A : Type 0} where
 
   -- ---- changes
 
-  pub changes_more : {X : Type 0} (policy : Policy) (name : List ℕ) (flags : List Bool) (number : ℕ) (f : X → Requested A) (xs others : List X) (x : X) (state next : AppliedState A) → xs ≡ x ∷ others →
-      change_applied policy number name flags (f x) state ≡ Ok next →
-      changes_applied policy number name flags (map f xs) state ≡ changes_applied policy (number + 1) name flags (map f others) next
-  changes_more policy name flags number f xs others x state next is ok = rw (is, ok)
-
   -- the changes of a skipped group do nothing
   pub changes_skipped : (policy : Policy) (name : List ℕ) (flags : List Bool) (number : ℕ) (asks : List (Requested A)) (state : AppliedState A) →
       is_some (target state.database name flags) ≡ false → changes_applied policy number name flags asks state ≡ Ok state
   changes_skipped policy name flags number [] state none = refl
   changes_skipped policy name flags number (requested ∷ asks) state none =
-      ap (λ r. and_then r (λ s. changes_applied policy (number + 1) name flags asks s)) (nothing_done (target state.database name flags) none)
-      ∙ changes_skipped policy name flags (number + 1) asks state none
-    where
-      nothing_done : (found : Option (TableState A)) → is_some found ≡ false → change_in policy number name flags requested found state ≡ Ok state
-      nothing_done None e = refl
-      nothing_done (Some table) e = cc
+      grind (arith, changes_skipped policy name flags (number + 1) asks state none)
 
   -- ---- what each step keeps
 
@@ -82,17 +72,11 @@ module _ {A : Type 0} where
     pub groups_keep : (groups : List (TableEntries (Requested A))) (place number : ℕ) (state : AppliedState A) → All (AllAsked Asked) groups → Holds state → IfOk (groups_applied policy place number groups state) Holds
     groups_keep [] place number state asked holds = holds
     groups_keep (group ∷ groups) place number state asked holds =
+        let there = is_some (target state.database group.table group.schema) in
         both_keep Holds Holds (group_applied policy place number group state) (λ next. groups_applied policy (place + 1) (number + length group.changes) groups next)
         (changes_keep policy group.table group.schema (Asked group.schema) (λ _. Holds) (λ n. one n group.table group.schema) group.changes number (number + length group.changes)
-        (skipped_unless there place state) refl (All-head (AllAsked Asked) group groups asked) (start there))
+        (skipped_unless there place state) refl (All-head (AllAsked Asked) group groups asked) (elim there as (λ b. Holds (skipped_unless b place state)) [ true ↦ holds | false ↦ skips place state holds ]))
         (λ next _. groups_keep groups (place + 1) (number + length group.changes) next (All-tail (AllAsked Asked) group groups asked))
-      where
-        there : Bool
-        there = is_some (target state.database group.table group.schema)
-
-        start : (b : Bool) → Holds (skipped_unless b place state)
-        start true = holds
-        start false = skips place state holds
 
   -- ---- groups
 

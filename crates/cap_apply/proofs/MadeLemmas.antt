@@ -40,10 +40,7 @@ module _ {A : Type 0} where
 
   replaced_is : (name : List ℕ) (table : TableState A) (key : Fields A) (after : Option (Fields A)) (state : AppliedState A) → table_of state.database name ≡ Some table
       → row_replaced name key after state ≡ with_row_in name table key (get fields_cmp table.keyed key) after state
-  replaced_is name table key after state there = λ i. record state {
-    database = set_in state.database name key after (there i);
-    changes = state.changes ++ changes_to name Direct (row_goes key (option_and_then (λ t. get fields_cmp t.keyed key) (there i)) ++ row_comes key after);
-  }
+  replaced_is name table key after state there = rw there
 
   module _ (policy : Policy) (number : ℕ) (name : List ℕ) (flags : List Bool) {asks requested : Requested A} (asks_are : asks ≡ requested) {state begun : AppliedState A} (state_is : state ≡ begun)
       (there : is_some (target begun.database name flags) ≡ true) {key : Fields A} (key_is : key ≡ key_values flags (key_record_of asks.patch)) {before : Option (Fields A)}

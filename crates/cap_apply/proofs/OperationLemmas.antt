@@ -1,22 +1,23 @@
--- What an operation on a table that is there makes of what was applied, and those under a key that make a change.
-use Rattle.std.proofs.Common.{◌≡◌, ℕ, ◌≤◌, true, Some, None, Ok, List, length, refl, ◌∙◌}
+-- Operations on a table that is there, and the changes that those under a key make.
+use Rattle.std.proofs.Common.{◌≡◌, ℕ, ◌≤◌, true, Some, None, Ok, List, [], ◌∷◌, length, refl, ◌∙◌}
 use Rattle.std.proofs.lemmas.Bool.{eq-eqb}
+use Rattle.cap_value.specs.Bytes.{bytes_cmp}
 use Rattle.cap_row.specs.Fields.{Fields}
 use Rattle.cap_row.specs.Key.{fields_cmp, fields_eq_decides, key_of}
 use Rattle.cap_row.specs.Row.{are_columns, columns_of, row_with}
-use Rattle.cap_tree.specs.Tree.{get}
+use Rattle.cap_tree.specs.Tree.{get, put_entry}
 use Rattle.cap_table.specs.Table.{TableState}
 use Rattle.cap_table.specs.Operation.{with_key, without}
 use Rattle.cap_table.specs.declared.row_ref.RowRef.TheVariants.{Key}
 use Rattle.cap_database.specs.Assigned.{Assigned}
-use Rattle.cap_database.specs.Operation.{act}
+use Rattle.cap_database.specs.Operation.{act, changes}
 use Rattle.cap_database.specs.Tables.{table_of}
 use Rattle.cap_database.specs.declared.op.Action.TheVariants.{Insert, Update, Delete}
+use Rattle.cap_database.proofs.WriteLemmas.{one_run}
 use Rattle.cap_changes.specs.FieldRecord.{RecordFields}
 use Rattle.cap_apply.specs.Applied.{AppliedState}
 use Rattle.cap_apply.specs.Apply.{with_row_in}
-use Rattle.cap_apply.specs.Operated.{operated}
-use Rattle.cap_apply.specs.Operations.{directly}
+use Rattle.cap_apply.specs.Operations.{AreRun, deletes, directly, updates}
 use Rattle.cap_apply.specs.Row.{assigned_from, set_fields}
 use Rattle.cap_apply.proofs.RowLemmas.{are_columns-assigned, row_with-assigned}
 
@@ -36,16 +37,22 @@ module _ {A : Type 0} where
 
   module _ (state : AppliedState A) (name : List ℕ) (table : TableState A) (there : table_of state.database name ≡ Some table) (key : Fields A) where
     pub insert_is : (row : Fields A) → length row ≡ length table.schema → key_of table.schema row ≡ Some key → get fields_cmp table.keyed key ≡ None →
-        operated state (directly name (Insert row)) ≡ Ok (with_row_in name table key None (Some row) state)
-    insert_is row wide is none = rw (there, act_insert_new table key row wide is none, there, is)
+        AreRun (directly name (Insert row) ∷ []) state (with_row_in name table key None (Some row) state)
+    insert_is row wide is none =
+        let op = directly name (Insert row) in
+        (changes state.database op, one_run state.database op (put_entry bytes_cmp state.database name (with_key table key row)) (rw (there, act_insert_new table key row wide is none)), rw (there, is))
 
     pub update_is : (fields : RecordFields A) (before row : Fields A) → length fields ≤ length table.schema → get fields_cmp table.keyed key ≡ Some before →
         set_fields fields before ≡ row → key_of table.schema row ≡ Some key →
-        operated state (directly name (Update (Key key) (assigned_from 0 fields))) ≡ Ok (with_row_in name table key (Some before) (Some row) state)
+        AreRun (updates name key fields) state (with_row_in name table key (Some before) (Some row) state)
     update_is fields before row few found becomes is =
+        let op = directly name (Update (Key key) (assigned_from 0 fields)) in
         let set = row_with-assigned fields before ∙ becomes in
-        rw (there, act_update table key row (assigned_from 0 fields) before (are_columns-assigned (length table.schema) fields few) found set is, there, found, set, is)
+        let acts = act_update table key row (assigned_from 0 fields) before (are_columns-assigned (length table.schema) fields few) found set is in
+        (changes state.database op, one_run state.database op (put_entry bytes_cmp state.database name (with_key table key row)) (rw (there, acts)), rw (there, found, set, is))
 
     pub delete_is : (before : Fields A) → get fields_cmp table.keyed key ≡ Some before →
-        operated state (directly name (Delete (Key key))) ≡ Ok (with_row_in name table key (Some before) None state)
-    delete_is before found = rw (there, act_delete table key before found, there, found)
+        AreRun (deletes name key) state (with_row_in name table key (Some before) None state)
+    delete_is before found =
+        let op = directly name (Delete (Key key)) in
+        (changes state.database op, one_run state.database op (put_entry bytes_cmp state.database name (without table (Key key))) (rw (there, act_delete table key before found)), rw (there, found))

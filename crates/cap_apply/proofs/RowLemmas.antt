@@ -29,9 +29,8 @@ module _ {A : Type 0} where
   alone_keyed flags fields met = cc
 
   pub keyed_length : (flags : List Bool) (fields : RecordFields A) → satisfy (requirements record_kinds.Keyed flags) fields ≡ true → length fields ≡ length flags
-  keyed_length [] [] met = refl
   keyed_length (flag ∷ flags) (field ∷ fields) met = let rest = keyed_length flags fields in grind (arith, rest)
-  keyed_length flags fields met = cc
+  keyed_length flags fields met = grind arith
 
   -- ---- keys
 
@@ -82,14 +81,12 @@ module _ {A : Type 0} where
 
   -- a patch requests what it says
   pub update_same : (flags : List Bool) (new : RecordFields A) → satisfy (requirements record_kinds.Keyed flags) new ≡ true → update_record flags new new ≡ new
-  update_same [] [] met = refl
   update_same (flag ∷ flags) (field ∷ new) met = let rest = update_same flags new in grind (arith, rest)
-  update_same flags new met = cc
+  update_same flags new met = grind arith
 
   pub alone_same : (flags : List Bool) (key : RecordFields A) → satisfy (requirements record_kinds.KeyAlone flags) key ≡ true → key_record flags key ≡ key
-  alone_same [] [] met = refl
   alone_same (flag ∷ flags) (field ∷ key) met = let rest = alone_same flags key in grind (arith, rest)
-  alone_same flags key met = cc
+  alone_same flags key met = grind arith
 
   pub record_key : (flags : List Bool) (old : RecordFields A) → key_values flags (key_record flags old) ≡ key_values flags old
   record_key (flag ∷ flags) (field ∷ old) = let rest = record_key flags old in grind (arith, rest)
@@ -101,18 +98,14 @@ module _ {A : Type 0} where
   value_kept : (n : ℕ) (fields : RecordFields A) (column : ℕ) (old : Value A) → column < n → new_value (assigned_from n fields) column old ≡ old
   value_kept n [] column old l = refl
   value_kept n (field ∷ fields) column old l =
-      let rest = value_kept (n + 1) fields column old (omega arith) in
-      let other = ne_eqb n column (λ e. omega arith) in
-      grind (arith, rest, other)
+      grind (arith, value_kept (n + 1) fields column old (omega arith), ne_eqb n column (λ e. omega arith))
 
   -- columns behind an assigned one do not see it
   past_it : (n m : ℕ) (value : Value A) (rest : List (ℕ × Value A)) (row : Fields A) → n < m →
       map (λ field. new_value ((n, value) ∷ rest) field.0 field.1) (enumerate_from m row) ≡ map (λ field. new_value rest field.0 field.1) (enumerate_from m row)
   past_it n m value rest [] l = refl
   past_it n m value rest (old ∷ row) l =
-      let more = past_it n (m + 1) value rest row (omega arith) in
-      let other = ne_eqb n m (λ e. omega arith) in
-      grind (arith, more, other)
+      grind (arith, past_it n (m + 1) value rest row (omega arith), ne_eqb n m (λ e. omega arith))
 
   none_set : (n : ℕ) (row : Fields A) → map (λ field. new_value [] field.0 field.1) (enumerate_from n row) ≡ row
   none_set n [] = refl
@@ -132,9 +125,7 @@ module _ {A : Type 0} where
   not_named : (n m : ℕ) (fields : RecordFields A) → n < m → list_any (nat_eq n) (columns_of (assigned_from m fields)) ≡ false
   not_named n m [] l = refl
   not_named n m (field ∷ fields) l =
-      let rest = not_named n (m + 1) fields (omega arith) in
-      let other = ne_eqb n m (λ e. omega arith) in
-      grind (arith, rest, other)
+      grind (arith, not_named n (m + 1) fields (omega arith), ne_eqb n m (λ e. omega arith))
 
   are_columns_from : (width n : ℕ) (fields : RecordFields A) → n + length fields ≤ width → are_columns width (columns_of (assigned_from n fields)) ≡ true
   are_columns_from width n [] l = refl

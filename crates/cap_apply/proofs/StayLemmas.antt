@@ -61,16 +61,8 @@ module _ {A : Type 0} where
     both-more first next last start so_far all a b = record {
       more = a.more ++ b.more;
       are = b.are ∙ ap (λ cs. cs ++ b.more) a.are ∙ append_assoc start a.more b.more;
-      stays = λ unnamed.
-          let parts = list_any-append (is_of_row name key) a.more b.more in
-          let one = a.stays in
-          let other = b.stays in
-          grind (arith, parts, one, other);
-      there = λ named.
-          let parts = list_any-append (is_of_row name key) a.more b.more in
-          let one = a.there in
-          let other = b.there in
-          grind (arith, parts, one, other, a.columns);
+      stays = λ unnamed. grind (arith, list_any-append (is_of_row name key) a.more b.more, a.stays, b.stays);
+      there = λ named. grind (arith, list_any-append (is_of_row name key) a.more b.more, a.there, b.there, a.columns);
       columns = b.columns ∙ a.columns;
       carries = found-in (is_of_row name key) (λ change. change.before ≡ row_at first name key) a.more b.more a.carries (λ none change is. b.carries change is ∙ a.stays none);
     }
@@ -128,11 +120,9 @@ module _ {A : Type 0} where
   -- what is so of each row is so of a blob
   each-row : (P : AppliedState A → Type 0) (tables : Tables A) (blob : Contents A) (policy : Policy)
       → ((left : AppliedState A) → ((name : List ℕ) (key : Fields A) → MoreChanges name key tables [] left.database left.changes) → P left) → IfOk (apply tables blob policy) P
-  each-row P tables blob policy says = inner (apply tables blob policy) (λ name key. apply-more name key tables blob policy)
-    where
-      inner : (r : Result (AppliedState A) Refusal) → ((name : List ℕ) (key : Fields A) → AppliedMore name key (nothing_applied tables) r) → IfOk r P
-      inner (Ok left) each = says left each
-      inner (Err why) each = tt
+  each-row P tables blob policy says =
+      elim (apply tables blob policy) as (λ r. ((name : List ℕ) (key : Fields A) → AppliedMore name key (nothing_applied tables) r) → IfOk r P) [ Ok left ↦ says left | Err why ↦ λ _. tt ]
+      (λ name key. apply-more name key tables blob policy)
 
   pub apply-carries : (tables : Tables A) (blob : Contents A) (policy : Policy) → IfOk (apply tables blob policy) (λ left. CarryFirstRows tables left.changes)
   apply-carries tables blob policy = each-row (λ left. CarryFirstRows tables left.changes) tables blob policy

@@ -5,7 +5,6 @@ pub mod Captured
 pub mod Difference
 pub mod Fitting
 pub mod Merged
-pub mod Operated
 pub mod Operations
 pub mod Policy
 pub mod Report

@@ -43,9 +43,7 @@ module _ {A : Type 0} where
 
   full_agrees : (flags : List Bool) (row : Fields A) → has_old_values flags (full_record row) row ≡ true
   full_agrees (flag ∷ flags) (value ∷ row) =
-      let rest = full_agrees flags row in
-      let same = (value_eq_decides value value).1 refl in
-      grind (arith, rest, same)
+      grind (arith, full_agrees flags row, (value_eq_decides value value).1 refl)
   full_agrees flags row = cc
 
   -- ---- two rows under one key
@@ -57,18 +55,14 @@ module _ {A : Type 0} where
 
   between_agrees : (flags : List Bool) (image now : Fields A) → has_old_values flags (by_column old_field flags image now) image ≡ true
   between_agrees (flag ∷ flags) (old ∷ image) (new ∷ now) =
-      let rest = between_agrees flags image now in
-      let same = (value_eq_decides old old).1 refl in
-      grind (arith, rest, same)
+      grind (arith, between_agrees flags image now, (value_eq_decides old old).1 refl)
   between_agrees flags image now = cc
 
   between_sets : (flags : List Bool) (image now : Fields A) → length image ≡ length flags → length now ≡ length flags → key_fields flags image ≡ key_fields flags now →
       set_fields (update_record flags (by_column old_field flags image now) (by_column new_field flags image now)) image ≡ now
   between_sets [] [] [] wide wide' keys = refl
   between_sets (flag ∷ flags) (old ∷ image) (new ∷ now) wide wide' keys =
-      let rest = between_sets flags image now in
-      let same = (value_eq_decides old new).0 in
-      grind (arith, rest, same)
+      grind (arith, between_sets flags image now, (value_eq_decides old new).0)
   between_sets flags image now wide wide' keys = cc
 
   -- ---- the change of rows under a key

@@ -20,13 +20,12 @@ use Rattle.cap_table.specs.Table.{TableState}
 use Rattle.cap_table.specs.declared.row_ref.RowRef.TheVariants.{Key}
 use Rattle.cap_table.proofs.BackLemmas.{found-own}
 use Rattle.cap_table.proofs.TableLemmas.{fields_same}
-use Rattle.cap_database.specs.Operation.{changes, changes_to, run, step}
+use Rattle.cap_database.specs.Operation.{changes_to, run}
 use Rattle.cap_database.specs.Tables.{AreRising, Tables}
 use Rattle.cap_database.specs.declared.cause.Cause.TheVariants.{Direct}
 use Rattle.cap_database.specs.declared.change.Change.{Change}
 use Rattle.cap_database.specs.declared.op.Action.TheVariants.{Insert, Update, Delete}
 use Rattle.cap_database.specs.declared.op.Op.{Op}
-use Rattle.cap_database.proofs.WriteLemmas.{one_run}
 use Rattle.cap_database.proofs.WritesLemmas.{get-find, get-set, sorted-set}
 use Rattle.cap_database_laws.proofs.BatchesLemmas.{batches-run}
 use Rattle.cap_database_laws.proofs.UndoneLemmas.{put-again, put-found}
@@ -44,7 +43,6 @@ use Rattle.cap_codec.specs.declared.read.Contents.{Contents}
 use Rattle.cap_apply.specs.Applied.{AppliedState}
 use Rattle.cap_apply.specs.Apply.{apply, change_applied, change_in, concluded, counted, left_out, noted, nothing_applied, with_row_in}
 use Rattle.cap_apply.specs.Fitting.{FitsItsColumns}
-use Rattle.cap_apply.specs.Operated.{operated, operated_by}
 use Rattle.cap_apply.specs.Operations.{AreRun, IsMadeOrOmitted, deletes, directly, inserts, operations_of_change, operations_of_patch, other_fields, updates}
 use Rattle.cap_apply.specs.Policy.{answer_to, is_made, made_anyway}
 use Rattle.cap_apply.specs.Requested.{Requested, requested_by_change, requested_by_patch, requested_of}
@@ -100,15 +98,6 @@ module _ {A : Type 0} where
 
   -- ---- operations, one after another
 
-  one-run : (op : Op A) (before after : AppliedState A) → operated before op ≡ Ok after → AreRun (op ∷ []) before after
-  one-run op before after is =
-      elim (step before.database op) as (λ r. step before.database op ≡ r → operated_by before op r ≡ Ok after → AreRun (op ∷ []) before after) [
-        | Ok tables ↦ λ stepped e.
-            let same : record before { database = tables; changes = before.changes ++ changes before.database op } ≡ after = cc in
-            subst (λ (state : AppliedState A). AreRun (op ∷ []) before state) same (changes before.database op, one_run before.database op tables stepped, refl)
-        | Err why ↦ λ stepped e. cc
-      ] refl is
-
   run-more : (ops more : List (Op A)) (before mid after : AppliedState A) → AreRun ops before mid → AreRun more mid after → AreRun (ops ++ more) before after
   run-more ops more before mid after first last = (
     first.0 ++ last.0,
@@ -127,7 +116,7 @@ module _ {A : Type 0} where
 
     inserts-run : (key row : Fields A) (before : Option (Fields A)) → length row ≡ length h.table.schema → key_of h.table.schema row ≡ Some key → get fields_cmp h.table.keyed key ≡ before
         → AreRun (inserts name key row before) state (left key before (Some row))
-    inserts-run key row None wide own found = one-run (directly name (Insert row)) state (left key None (Some row)) (insert_is state name h.table h.there key row wide own found)
+    inserts-run key row None wide own found = insert_is state name h.table h.there key row wide own found
     inserts-run key row (Some taken) wide own found =
         let gone : TableState A = without h.table (Key key) in
         let deleted = left key (Some taken) None in
@@ -142,9 +131,7 @@ module _ {A : Type 0} where
         let same : with_row_in name gone key None (Some row) deleted ≡ left key (Some taken) (Some row) = λ i. record state { database = one i; changes = append_assoc state.changes goes comes i } in
         subst (λ (after : AppliedState A). AreRun (inserts name key row (Some taken)) state after) same
         (run-more (deletes name key) (directly name (Insert row) ∷ []) state deleted (with_row_in name gone key None (Some row) deleted)
-        (one-run (directly name (Delete (Key key))) state deleted (delete_is state name h.table h.there key taken found))
-        (one-run (directly name (Insert row)) deleted (with_row_in name gone key None (Some row) deleted)
-        (insert_is deleted name gone (put-found state.database name gone) key row wide own none)))
+        (delete_is state name h.table h.there key taken found) (insert_is deleted name gone (put-found state.database name gone) key row wide own none))
 
     module _ (policy : Policy) (number : ℕ) where
       made-run : (old : RecordFields A) (patch : Patch A) (before : Option (Fields A)) → get fields_cmp h.table.keyed (key_values flags (key_record_of patch)) ≡ before → Keyed flags patch
@@ -162,13 +149,11 @@ module _ {A : Type 0} where
           let own = found-own h.table key row rises found in
           let as_many : length fields ≡ length (zip flags new) = length-map (zip flags new) _ in
           let few : length fields ≤ length h.table.schema = omega (arith, as_many, length-zip flags new, few_fields flags h.table.schema new h.fit keyed fits) in
-          one-run (directly name (Update (Key key) (assigned_from 0 fields))) state (left key (Some row) (Some (set_fields new row)))
-          (update_is state name h.table h.there key fields row (set_fields new row) few found
-          (set-others flags h.table.schema new row h.fit fits own.0 (key_is h.table.schema row key own.1)) (key_of-set_fields flags h.table.schema new h.fit keyed fits row own.0))
+          update_is state name h.table h.there key fields row (set_fields new row) few found
+          (set-others flags h.table.schema new row h.fit fits own.0 (key_is h.table.schema row key own.1)) (key_of-set_fields flags h.table.schema new h.fit keyed fits row own.0)
       made-run old (patched.Delete indirect old_key) None found fits e = let no = (missed_made policy number flags old None e).1 in cc
       made-run old (patched.Delete indirect old_key) (Some row) found fits e =
-          let key = key_values flags old_key in
-          one-run (directly name (Delete (Key key))) state (left key (Some row) None) (delete_is state name h.table h.there key row found)
+          delete_is state name h.table h.there (key_values flags old_key) row found
 
       concluded-as : (conflict : Option ConflictKind) (ops : List (Op A)) (key : Fields A) (before after : Option (Fields A)) (answer : Result Bool Refusal) → is_made policy number conflict ≡ answer
           → (answer ≡ Ok true → AreRun ops state (left key before after))

@@ -1,6 +1,6 @@
 use Rattle.std.proofs.Common.{length, arith, ap, sym, ◌∙◌}
 use Rattle.cap_changes.proofs.LeftLemmas.{first_fits, others_fit}
-use Rattle.cap_apply.proofs.GroupLemmas.{changes_more, target_stays}
+use Rattle.cap_apply.proofs.GroupLemmas.{target_stays}
 use Rattle.cap_apply.proofs.apply_blob.apply_group.Goals as goal
 
 pub apply_change-requires-clause-fits : goal.apply_change-requires-clause-fits
@@ -10,16 +10,11 @@ apply_change-requires-clause-fits g c =
 pub loop-change-preserved : goal.loop-change-preserved
 loop-change-preserved g c =
     let group = c.args.group.now in
-    let requested = g.C.BlobChange.requested group.schema in
-    let state = c.loop-change.applied in
-    let next = c.apply_change.new.self in
     let change = c.in-Some.change in
-    let left = c.loop-change.change-iterator in
-    let others = c.next.new.self in
     let made = rw (c.table-table.ensures, c.schema-columns.ensures.schema) at c.in_ok-apply_change.ensures in
     record {
-      left = sym (changes_more c.args.policy group.table group.schema c.loop-change.number requested left others change state next c.in-Some.ensures.steps made) ∙ c.loop-change.invariant.left;
-      there = target_stays c.args.policy c.loop-change.number group.table group.schema (requested change) state next c.loop-change.invariant.there made;
+      left = rw (c.in-Some.ensures.steps, made) at c.loop-change.invariant.left;
+      there = target_stays c.args.policy c.loop-change.number group.table group.schema (g.C.BlobChange.requested group.schema change) c.loop-change.applied c.apply_change.new.self c.loop-change.invariant.there made;
       count = omega (arith, ap length c.in-Some.ensures.steps, c.loop-change.invariant.count);
-      fit = others_fit g.C.Entry.fits_in group.schema left others change c.in-Some.ensures.steps c.loop-change.invariant.fit;
+      fit = others_fit g.C.Entry.fits_in group.schema c.loop-change.change-iterator c.next.new.self change c.in-Some.ensures.steps c.loop-change.invariant.fit;
     }
