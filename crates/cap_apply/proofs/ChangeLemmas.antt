@@ -17,7 +17,7 @@ use Rattle.cap_apply.specs.Apply.{change_applied, change_at, change_in, conclude
 use Rattle.cap_apply.specs.Requested.{Requested}
 use Rattle.cap_apply.specs.Policy.{is_made}
 use Rattle.cap_apply.specs.Row.{conflict_of, key_record_of, key_values, missed, row_after}
-use Rattle.cap_apply.specs.Target.{columns_fit, fitting, target}
+use Rattle.cap_apply.specs.Target.{columns_fit, target}
 use Rattle.cap_apply.specs.declared.conflict.ConflictKind.{ConflictKind}
 use Rattle.cap_apply.specs.declared.policy.Policy.{Policy}
 
@@ -29,7 +29,7 @@ module _ {A : Type 0} where
     pub fit : columns_fit flags table.schema ≡ true
     pub is : target database name flags ≡ Some table
 
-  the_target : (database : Tables A) (name : List ℕ) (flags : List Bool) (table : TableState A) → target database name flags ≡ Some table → HasTarget database name flags
+  abbrev pub the_target : (database : Tables A) (name : List ℕ) (flags : List Bool) (table : TableState A) → target database name flags ≡ Some table → HasTarget database name flags
   the_target database name flags table is = record { table = table; there = grind arith; fit = grind arith; is = is }
 
   pub has_target : (database : Tables A) (name : List ℕ) (flags : List Bool) → is_some (target database name flags) ≡ true → HasTarget database name flags
@@ -66,7 +66,6 @@ module _ {A : Type 0} where
         → ((h : HasTarget state.database name flags) (key : Fields A) (before : Option (Fields A)) → key ≡ key_values flags (key_record_of requested.patch) → get fields_cmp h.table.keyed key ≡ before
         → IsLeft (with_row_in name h.table key before (row_after (length h.table.schema) requested.patch before) state))
         → IfOk (change_applied policy number name flags requested state) IsLeft
-    unfolding the_target
     change_leaves policy number name flags requested state still made =
         elim (target state.database name flags) as (λ t. target state.database name flags ≡ t → IfOk (change_in policy number name flags requested t state) IsLeft) [
           | None ↦ λ _. still

@@ -1,5 +1,5 @@
 -- Changes and groups, one after another.
-use Rattle.std.proofs.Common.{◌≡◌, ℕ, ◌+◌, ◌<◌, Bool, true, false, Option, Some, None, Result, Ok, Err, List, [], ◌∷◌, length, map, drop, get_or, refl, ap, subst, ◌∙◌, arith}
+use Rattle.std.proofs.Common.{◌≡◌, ℕ, ◌+◌, ◌<◌, Bool, true, false, Result, Ok, Err, List, [], ◌∷◌, length, map, drop, get_or, refl, ap, subst, ◌∙◌, arith}
 use Rattle.std.specs.Prelude.{All, IfOk, is_some}
 use Rattle.std.specs.Cmp.{tied_itself}
 use Rattle.std.proofs.lemmas.Cmp.{nat_list_cmp_total}
@@ -13,7 +13,7 @@ use Rattle.cap_database.specs.Tables.{Tables}
 use Rattle.cap_changes.specs.Entries.{TableEntries}
 use Rattle.cap_changes.proofs.LeftLemmas.{drop_here}
 use Rattle.cap_apply.specs.Applied.{AppliedState}
-use Rattle.cap_apply.specs.Apply.{and_then, change_applied, change_in, changes_applied, group_applied, groups_applied, skipped, skipped_unless, with_row}
+use Rattle.cap_apply.specs.Apply.{and_then, change_applied, changes_applied, group_applied, groups_applied, skipped, skipped_unless, with_row}
 use Rattle.cap_apply.specs.Requested.{Requested, requested_in}
 use Rattle.cap_apply.specs.Row.{row_after}
 use Rattle.cap_apply.specs.Target.{columns_fit, target}

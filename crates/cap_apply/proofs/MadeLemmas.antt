@@ -1,5 +1,5 @@
 -- One change as the code applies it: what it leaves is the requested change.
-use Rattle.std.proofs.Common.{◌≡◌, ℕ, ◌+◌, Bool, true, false, cond, Option, Some, None, Result, Ok, Err, List, ◌++◌, length, sym, ap, subst, ◌∙◌}
+use Rattle.std.proofs.Common.{◌≡◌, ℕ, ◌+◌, Bool, true, false, cond, Option, Some, None, Result, Ok, Err, List, length, sym, ap, subst, ◌∙◌}
 use Rattle.std.specs.Prelude.{IfSome, is_some, option_and_then}
 use Rattle.std.proofs.lemmas.Option.{same_Some}
 use Rattle.cap_value.specs.Memory.{AnswersUnlessMemory, LeavesUnlessMemory}
@@ -11,14 +11,12 @@ use Rattle.cap_row.specs.Key.{fields_cmp, key_of}
 use Rattle.cap_row.specs.Schema.{has_key}
 use Rattle.cap_tree.specs.Tree.{get}
 use Rattle.cap_table.specs.Table.{TableState}
-use Rattle.cap_database.specs.Keyed.{IsOwnRow, set_in}
-use Rattle.cap_database.specs.Operation.{changes_to}
+use Rattle.cap_database.specs.Keyed.{IsOwnRow}
 use Rattle.cap_database.specs.Read.{row_at}
 use Rattle.cap_database.specs.Tables.{EachRises, Tables, table_of}
-use Rattle.cap_database.specs.declared.cause.Cause.TheVariants.{Direct}
 use Rattle.cap_changes.specs.Fits.{patch_fits}
 use Rattle.cap_apply.specs.Applied.{AppliedState}
-use Rattle.cap_apply.specs.Apply.{change_applied, concluded, counted, left_out, noted, row_comes, row_goes, with_row_in}
+use Rattle.cap_apply.specs.Apply.{change_applied, concluded, counted, left_out, noted, with_row_in}
 use Rattle.cap_apply.specs.Merged.{row_replaced}
 use Rattle.cap_apply.specs.Policy.{is_made}
 use Rattle.cap_apply.specs.Report.{ReportState, with_omitted}

@@ -19,10 +19,10 @@ use Rattle.cap_apply.specs.Apply.{change_applied, counted, with_row_in}
 use Rattle.cap_apply.specs.Requested.{Requested, requested_by_change}
 use Rattle.cap_apply.specs.Difference.{Difference, IsDifference, IsUnder, turned}
 use Rattle.cap_apply.specs.Row.{has_old_values, conflict_of, key_record_of, key_values, new_row, row_after, set_fields}
-use Rattle.cap_apply.specs.Target.{columns_fit, fitting}
+use Rattle.cap_apply.specs.Target.{columns_fit}
 use Rattle.cap_apply.specs.declared.conflict.ConflictKind.TheVariants.{Data}
 use Rattle.cap_apply.specs.declared.policy.Policy.{Policy}
-use Rattle.cap_apply.proofs.ChangeLemmas.{HasTarget, applied_at}
+use Rattle.cap_apply.proofs.ChangeLemmas.{applied_at, the_target}
 use Rattle.cap_apply.proofs.RowLemmas.{record_key}
 
 -- a table fits its own columns
@@ -111,16 +111,11 @@ module _ {A : Type 0} where
 
   -- ---- applied
 
-  abbrev own_target : (state : AppliedState A) (name : List ℕ) (flags : List Bool) (table : TableState A) → table_of state.database name ≡ Some table → table.schema ≡ flags → HasTarget state.database name flags
-  own_target state name flags table there columns =
-      let fit : columns_fit flags table.schema ≡ true = ap (columns_fit flags) columns ∙ fit_self flags in
-      record { table = table; there = there; fit = fit; is = ap (fitting flags) there ∙ ap (λ b. cond b (Some table) None) fit }
-
   pub captured_one : (policy : Policy) (number : ℕ) (name : List ℕ) (flags : List Bool) (requested : Requested A) (state : AppliedState A) (table : TableState A) (key : Fields A) (before after : Option (Fields A)) →
       table_of state.database name ≡ Some table → table.schema ≡ flags → get fields_cmp table.keyed key ≡ before → AsksFor flags requested key before after →
       change_applied policy number name flags requested state ≡ Ok (counted (with_row_in name table key before after state))
   captured_one policy number name flags requested state table key before after there columns found h =
-      applied_at policy number name flags requested state (own_target state name flags table there columns) before None (ap (get fields_cmp table.keyed) h.names ∙ found) h.met
+      applied_at policy number name flags requested state (the_target state.database name flags table (rw (there, columns, fit_self flags))) before None (ap (get fields_cmp table.keyed) h.names ∙ found) h.met
       ∙ (λ i. Ok (counted (with_row_in name table (h.names i) before (row_after (length (columns i)) requested.patch before) state)))
       ∙ ap (λ (row : Option (Fields A)). Ok (counted (with_row_in name table key before row state))) h.leaves
 

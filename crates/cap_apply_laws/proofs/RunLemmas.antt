@@ -1,11 +1,10 @@
 -- A change that is made is made by the operations that it stands for, and so is a whole blob.
 use Rattle.std.proofs.Common.{◌≡◌, ℕ, ◌≤◌, Bool, true, false, cond, inl, inr, Option, Some, None, Result, Ok, Err, List, [], ◌∷◌, ◌++◌, length, refl, sym, ap, subst, ◌∙◌, append_assoc, arith, T}
-use Rattle.std.specs.Prelude.{IfOk, is_some}
+use Rattle.std.specs.Prelude.{IfOk}
 use Rattle.std.specs.FinMap.Entries.{is_sorted, same_entries}
 use Rattle.std.specs.List.{zip}
 use Rattle.std.proofs.lemmas.Bool.{and_parts}
 use Rattle.std.proofs.lemmas.List.{append-nil, length-map}
-use Rattle.std.proofs.lemmas.Option.{same_Some}
 use Rattle.std.proofs.lemmas.Result.{IfOk-at_ok, IfOk-weaker}
 use Rattle.std.proofs.lemmas.Slice.Zip.{length-zip}
 use Rattle.cap_value.specs.Bytes.{bytes_cmp}
@@ -46,13 +45,13 @@ use Rattle.cap_apply.specs.Fitting.{FitsItsColumns}
 use Rattle.cap_apply.specs.Operations.{AreRun, IsMadeOrOmitted, deletes, directly, inserts, operations_of_change, operations_of_patch, other_fields, updates}
 use Rattle.cap_apply.specs.Policy.{answer_to, is_made, made_anyway}
 use Rattle.cap_apply.specs.Requested.{Requested, requested_by_change, requested_by_patch, requested_of}
-use Rattle.cap_apply.specs.Row.{assigned_from, conflict_of, key_record_of, key_values, new_row, row_after, set_fields}
+use Rattle.cap_apply.specs.Row.{conflict_of, key_record_of, key_values, new_row, row_after, set_fields}
 use Rattle.cap_apply.specs.Target.{columns_fit, target}
 use Rattle.cap_apply.specs.declared.conflict.ConflictKind.{ConflictKind}
 use Rattle.cap_apply.specs.declared.policy.Answer.{Answer}
 use Rattle.cap_apply.specs.declared.policy.Answer.TheVariants.{Omit}
 use Rattle.cap_apply.specs.declared.policy.Policy.{Policy}
-use Rattle.cap_apply.proofs.ChangeLemmas.{HasTarget, applied_at, has_target, missed_made}
+use Rattle.cap_apply.proofs.ChangeLemmas.{HasTarget, applied_at, missed_made, the_target}
 use Rattle.cap_apply.proofs.GroupLemmas.{groups_keep}
 use Rattle.cap_apply.proofs.KeyLemmas.{Keyed, change-keyed, patch-keyed}
 use Rattle.cap_apply.proofs.OperationLemmas.{delete_is, insert_is, update_is}
@@ -175,14 +174,13 @@ module _ {A : Type 0} where
     requests-are-run : (requested : Requested A) (state : AppliedState A) (table : TableState A) → AreRising state.database → has_key flags ≡ true → Keyed flags requested.patch
         → target state.database name flags ≡ Some table → IfOk (change_applied policy number name flags requested state) (IsMadeOrOmitted number (operations_of_patch name flags table requested.patch) state)
     requests-are-run requested state table rise keyed fits is =
-        let h = has_target state.database name flags (ap is_some is) in
+        let h = the_target state.database name flags table is in
         let key = key_values flags (key_record_of requested.patch) in
         let before = get fields_cmp h.table.keyed key in
         let conflict = conflict_of flags requested.old requested.patch before in
-        subst (λ t. IfOk (change_applied policy number name flags requested state) (IsMadeOrOmitted number (operations_of_patch name flags t requested.patch) state)) (same_Some h.table table (sym h.is ∙ is))
-        (subst (λ r. IfOk r (IsMadeOrOmitted number (operations_of_patch name flags h.table requested.patch) state)) (sym (applied_at policy number name flags requested state h before conflict refl refl))
-        (concluded-as name flags keyed state rise h policy number conflict (operations_of_patch name flags h.table requested.patch) key before (row_after (length h.table.schema) requested.patch before)
-        (is_made policy number conflict) refl (made-run name flags keyed state rise h policy number requested.old requested.patch before refl fits)))
+        subst (λ r. IfOk r (IsMadeOrOmitted number (operations_of_patch name flags table requested.patch) state)) (sym (applied_at policy number name flags requested state h before conflict refl refl))
+        (concluded-as name flags keyed state rise h policy number conflict (operations_of_patch name flags table requested.patch) key before (row_after (length h.table.schema) requested.patch before)
+        (is_made policy number conflict) refl (made-run name flags keyed state rise h policy number requested.old requested.patch before refl fits))
 
     change-operations : (table : TableState A) (change : RowChange A) → change_fits flags change ≡ true → operations_of_patch name flags table (patch_of flags change) ≡ operations_of_change name flags table change
     change-operations table (changed.Insert indirect new) fits = refl

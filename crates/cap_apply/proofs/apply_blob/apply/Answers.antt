@@ -1,7 +1,4 @@
-use Rattle.std.proofs.Common.{ap, sym, map, ◌∙◌}
 use Rattle.std.proofs.lemmas.Result.{err_from_is_err_and}
-use Rattle.cap_apply.specs.Apply.{apply, groups_applied, nothing_applied}
-use Rattle.cap_apply.specs.Requested.{requested_by_change, requested_by_patch, requested_in}
 use Rattle.cap_apply.proofs.ChangeLemmas.{answers_err}
 use Rattle.cap_apply.proofs.apply_blob.apply.Goals as goal
 

@@ -1,4 +1,4 @@
-use Rattle.std.proofs.Common.{length, arith, ap, sym, ◌∙◌}
+use Rattle.std.proofs.Common.{length, arith, ap}
 use Rattle.cap_changes.proofs.LeftLemmas.{first_fits, others_fit}
 use Rattle.cap_apply.proofs.GroupLemmas.{target_stays}
 use Rattle.cap_apply.proofs.apply_blob.apply_group.Goals as goal
