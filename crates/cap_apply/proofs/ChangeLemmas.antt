@@ -1,25 +1,6 @@
 -- One change: its table, its conflict, and what it leaves.
-use Rattle.std.proofs.Common.{◌≡◌, ℕ, Bool, true, false, Option, Some, None, Result, Ok, Err, List, length, refl, sym, ap, ◌∙◌, arith}
-use Rattle.std.specs.Prelude.{IfOk, is_some}
-use Rattle.cap_value.specs.Memory.{AnswersUnlessMemory, LeavesUnlessMemory}
-use Rattle.cap_value.specs.declared.memory.Fault.{Fault}
-use Rattle.cap_value.specs.declared.memory.Fault.TheVariants.{Refused, OutOfMemory}
-use Rattle.cap_value.specs.declared.refusal.Refusal.{Refusal}
-use Rattle.cap_row.specs.Fields.{Fields}
-use Rattle.cap_row.specs.Key.{fields_cmp}
-use Rattle.cap_tree.specs.Tree.{get}
-use Rattle.cap_table.specs.Table.{TableState}
-use Rattle.cap_database.specs.Tables.{Tables, table_of}
-use Rattle.cap_database.specs.declared.change.Change.{Change}
-use Rattle.cap_changes.specs.FieldRecord.{RecordFields}
-use Rattle.cap_apply.specs.Applied.{AppliedState}
-use Rattle.cap_apply.specs.Apply.{change_applied, change_at, change_in, concluded, counted, left_out, noted, with_row, with_row_in}
-use Rattle.cap_apply.specs.Requested.{Requested}
-use Rattle.cap_apply.specs.Policy.{is_made}
-use Rattle.cap_apply.specs.Row.{conflict_of, key_record_of, key_values, missed, row_after}
-use Rattle.cap_apply.specs.Target.{columns_fit, target}
-use Rattle.cap_apply.specs.declared.conflict.ConflictKind.{ConflictKind}
-use Rattle.cap_apply.specs.declared.policy.Policy.{Policy}
+use Rattle.std.proofs.Common.{◌≡◌, ℕ, Bool, true, false, Option, Some, None, Result, Ok, Err, List, length, refl, sym, ap, ◌∙◌, arith, IfOk, is_some}
+use Rattle.cap_apply.proofs.Common.{AnswersUnlessMemory, LeavesUnlessMemory, Fault, Refused, OutOfMemory, Refusal, Fields, fields_cmp, get, TableState, Tables, table_of, Change, RecordFields, AppliedState, change_applied, change_at, change_in, concluded, counted, left_out, noted, with_row, with_row_in, Requested, is_made, conflict_of, key_record_of, key_values, missed, row_after, columns_fit, target, ConflictKind, Policy}
 
 module _ {A : Type 0} where
   -- the table that a group is for
@@ -29,7 +10,7 @@ module _ {A : Type 0} where
     pub fit : columns_fit flags table.schema ≡ true
     pub is : target database name flags ≡ Some table
 
-  abbrev pub the_target : (database : Tables A) (name : List ℕ) (flags : List Bool) (table : TableState A) → target database name flags ≡ Some table → HasTarget database name flags
+  unfoldable pub the_target : (database : Tables A) (name : List ℕ) (flags : List Bool) (table : TableState A) → target database name flags ≡ Some table → HasTarget database name flags
   the_target database name flags table is = record { table = table; there = grind arith; fit = grind arith; is = is }
 
   pub has_target : (database : Tables A) (name : List ℕ) (flags : List Bool) → is_some (target database name flags) ≡ true → HasTarget database name flags
@@ -66,6 +47,7 @@ module _ {A : Type 0} where
         → ((h : HasTarget state.database name flags) (key : Fields A) (before : Option (Fields A)) → key ≡ key_values flags (key_record_of requested.patch) → get fields_cmp h.table.keyed key ≡ before
         → IsLeft (with_row_in name h.table key before (row_after (length h.table.schema) requested.patch before) state))
         → IfOk (change_applied policy number name flags requested state) IsLeft
+    unfolding the_target
     change_leaves policy number name flags requested state still made =
         elim (target state.database name flags) as (λ t. target state.database name flags ≡ t → IfOk (change_in policy number name flags requested t state) IsLeft) [
           | None ↦ λ _. still

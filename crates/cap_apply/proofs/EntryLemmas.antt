@@ -1,8 +1,5 @@
 -- A list of entries in order, after one is put: the value at each key.
-use Rattle.std.proofs.Common.{◌≡◌, false, Some, List, [], ◌∷◌, arith}
-use Rattle.std.specs.declared.cmp.Ordering.{Ordering}
-use Rattle.std.specs.declared.cmp.Ordering.TheVariants.{Equal}
-use Rattle.std.specs.Ordering.{is_eq}
+use Rattle.std.proofs.Common.{◌≡◌, false, Some, List, [], ◌∷◌, arith, Ordering, Equal, is_eq}
 use Rattle.cap_tree.specs.Tree.{get, put_entry}
 
 module _ {K V : Type 0} (cmp : K → K → Ordering) where

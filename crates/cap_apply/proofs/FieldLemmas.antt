@@ -1,26 +1,13 @@
 -- Fields that are gone over one after another, beside the columns.
-use Rattle.std.proofs.Common.{◌≡◌, ℕ, ◌+◌, ◌<◌, Bool, true, false, Option, Some, None, is_some, IfSome, List, [], ◌∷◌, ◌++◌, length, map, drop, take, get_or, refl, sym, ap, ◌∙◌, append-nil, append_assoc, arith}
-use Rattle.std.specs.Prelude.{if◌then◌else◌}
-use Rattle.std.specs.List.{list_all}
-use Rattle.std.specs.Option.{unwrap_or, option_map, option_to_list}
-use Rattle.cap_value.specs.Bytes.{bytes_eq}
-use Rattle.cap_value.specs.Value.{IsValue}
-use Rattle.cap_value.specs.declared.value.Value.{Value}
-use Rattle.cap_value.specs.declared.value.Value.TheVariants.{Null}
+use Rattle.std.proofs.Common.{◌≡◌, ℕ, ◌+◌, ◌<◌, Bool, true, false, Option, Some, None, is_some, IfSome, List, [], ◌∷◌, ◌++◌, length, map, drop, take, get_or, refl, sym, ap, ◌∙◌, append-nil, append_assoc, arith, if◌then◌else◌, unwrap_or, option_map, option_to_list}
 use Rattle.cap_field.specs.Field.{value_bytes}
 use Rattle.cap_row.specs.Encoding.{fields_of, BeginsWith, Encodes}
-use Rattle.cap_row.specs.Fields.{Fields}
 use Rattle.cap_row.proofs.EncodingLemmas.{encoded}
-use Rattle.cap_changes.specs.Change.{full_record}
 use Rattle.cap_changes.specs.Field.{field_bytes}
-use Rattle.cap_changes.specs.FieldRecord.{RecordFields}
-use Rattle.cap_changes.specs.Patch.{update_record}
 use Rattle.cap_changes.specs.Record.{BeginsWithField}
-use Rattle.cap_changes.specs.Requirements.{requirements, satisfy}
 use Rattle.cap_changes.specs.declared.record_kind.RecordKind.TheVariants.{Full}
-use Rattle.cap_changes.proofs.PassLemmas.{flags-cons}
 use Rattle.cap_changes.proofs.WholeLemmas.{undefined}
-use Rattle.cap_apply.specs.Row.{has_old_value, has_old_values, key_values, set_fields}
+use Rattle.cap_apply.proofs.Common.{list_all, bytes_eq, IsValue, Value, Null, Fields, full_record, RecordFields, update_record, requirements, satisfy, flags-cons, has_old_value, has_old_values, key_values, set_fields}
 
 module _ {A : Type 0} where
   -- ---- where no fields or no values are left

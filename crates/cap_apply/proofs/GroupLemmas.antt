@@ -1,23 +1,7 @@
 -- Changes and groups, one after another.
-use Rattle.std.proofs.Common.{◌≡◌, ℕ, ◌+◌, ◌<◌, Bool, true, false, Result, Ok, Err, List, [], ◌∷◌, length, map, drop, get_or, refl, ap, subst, ◌∙◌, arith}
-use Rattle.std.specs.Prelude.{All, IfOk, is_some}
-use Rattle.std.specs.Cmp.{tied_itself}
+use Rattle.std.proofs.Common.{◌≡◌, ℕ, ◌+◌, ◌<◌, Bool, true, false, Result, Ok, Err, List, [], ◌∷◌, length, map, drop, get_or, refl, ap, subst, ◌∙◌, arith, All, IfOk, is_some}
 use Rattle.std.proofs.lemmas.Cmp.{nat_list_cmp_total}
-use Rattle.std.proofs.lemmas.List.{length-map}
-use Rattle.std.proofs.lemmas.List.Elements.{All-head, All-tail}
-use Rattle.cap_value.specs.Bytes.{bytes_cmp}
-use Rattle.cap_value.specs.declared.refusal.Refusal.{Refusal}
-use Rattle.cap_tree.specs.Tree.{put_entry}
-use Rattle.cap_table.specs.Table.{TableState}
-use Rattle.cap_database.specs.Tables.{Tables}
-use Rattle.cap_changes.specs.Entries.{TableEntries}
-use Rattle.cap_changes.proofs.LeftLemmas.{drop_here}
-use Rattle.cap_apply.specs.Applied.{AppliedState}
-use Rattle.cap_apply.specs.Apply.{and_then, change_applied, changes_applied, group_applied, groups_applied, skipped, skipped_unless, with_row}
-use Rattle.cap_apply.specs.Requested.{Requested, requested_in}
-use Rattle.cap_apply.specs.Row.{row_after}
-use Rattle.cap_apply.specs.Target.{columns_fit, target}
-use Rattle.cap_apply.specs.declared.policy.Policy.{Policy}
+use Rattle.cap_apply.proofs.Common.{tied_itself, length-map, All-head, All-tail, bytes_cmp, Refusal, put_entry, TableState, Tables, TableEntries, drop_here, AppliedState, and_then, change_applied, changes_applied, group_applied, groups_applied, skipped, skipped_unless, with_row, Requested, requested_in, row_after, columns_fit, target, Policy}
 use Rattle.cap_apply.proofs.ChangeLemmas.{change_leaves, same_columns}
 use Rattle.cap_apply.proofs.EntryLemmas.{get_put}
 

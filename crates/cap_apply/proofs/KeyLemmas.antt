@@ -1,19 +1,11 @@
 -- The key that a change names, by the record that has it.
 use Rattle.std.proofs.Common.{◌≡◌, Bool, true, List, refl, sym, ap, ◌∙◌}
-use Rattle.cap_row.specs.Key.{is_key}
-use Rattle.cap_row.specs.Schema.{has_key}
-use Rattle.cap_changes.specs.Fits.{change_fits, patch_fits}
-use Rattle.cap_changes.specs.Patch.{patch_of}
-use Rattle.cap_changes.specs.Requirements.{requirements, satisfy}
-use Rattle.cap_changes.specs.declared.patch.Patch.{Patch}
 use Rattle.cap_changes.specs.declared.patch.Patch.TheVariants as patched
 use Rattle.cap_changes.specs.declared.record_kind.RecordKind.TheVariants as record_kinds
-use Rattle.cap_changes.specs.declared.row_change.RowChange.{RowChange}
 use Rattle.cap_changes.specs.declared.row_change.RowChange.TheVariants as changed
-use Rattle.cap_changes.proofs.PatchLemmas.{patch_of-fits}
 use Rattle.cap_changes.proofs.FitLemmas.{full_keyed}
+use Rattle.cap_apply.proofs.Common.{is_key, has_key, change_fits, patch_fits, patch_of, requirements, satisfy, Patch, RowChange, patch_of-fits, key_record_of, key_values}
 use Rattle.cap_apply.specs.Requested.{as_change, key_record}
-use Rattle.cap_apply.specs.Row.{key_record_of, key_values}
 use Rattle.cap_apply.proofs.RowLemmas.{alone_keyed, alone_same, is_key-key_values, record_key, update_key, update_same}
 
 module _ {A : Type 0} where

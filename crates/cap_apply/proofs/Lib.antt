@@ -1,4 +1,5 @@
 pub mod ChangeLemmas
+pub mod Common
 pub mod EntryLemmas
 pub mod FieldLemmas
 pub mod GroupLemmas

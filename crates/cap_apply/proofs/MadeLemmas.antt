@@ -1,30 +1,8 @@
 -- One change as the code applies it: what it leaves is the requested change.
-use Rattle.std.proofs.Common.{◌≡◌, ℕ, ◌+◌, Bool, true, false, cond, Option, Some, None, Result, Ok, Err, List, length, sym, ap, subst, ◌∙◌}
-use Rattle.std.specs.Prelude.{IfSome, is_some, option_and_then}
-use Rattle.std.proofs.lemmas.Option.{same_Some}
-use Rattle.cap_value.specs.Memory.{AnswersUnlessMemory, LeavesUnlessMemory}
-use Rattle.cap_value.specs.declared.memory.Fault.{Fault}
-use Rattle.cap_value.specs.declared.memory.Fault.TheVariants.{Refused, OutOfMemory}
-use Rattle.cap_value.specs.declared.refusal.Refusal.{Refusal}
-use Rattle.cap_row.specs.Fields.{Fields}
-use Rattle.cap_row.specs.Key.{fields_cmp, key_of}
-use Rattle.cap_row.specs.Schema.{has_key}
-use Rattle.cap_tree.specs.Tree.{get}
-use Rattle.cap_table.specs.Table.{TableState}
+use Rattle.std.proofs.Common.{◌≡◌, ℕ, ◌+◌, Bool, true, false, cond, Option, Some, None, Result, Ok, Err, List, length, sym, ap, subst, ◌∙◌, IfSome, is_some, option_and_then}
 use Rattle.cap_database.specs.Keyed.{IsOwnRow}
-use Rattle.cap_database.specs.Read.{row_at}
-use Rattle.cap_database.specs.Tables.{EachRises, Tables, table_of}
-use Rattle.cap_changes.specs.Fits.{patch_fits}
-use Rattle.cap_apply.specs.Applied.{AppliedState}
-use Rattle.cap_apply.specs.Apply.{change_applied, concluded, counted, left_out, noted, with_row_in}
+use Rattle.cap_apply.proofs.Common.{same_Some, AnswersUnlessMemory, LeavesUnlessMemory, Fault, Refused, OutOfMemory, Refusal, Fields, fields_cmp, key_of, has_key, get, TableState, row_at, EachRises, Tables, table_of, patch_fits, AppliedState, change_applied, concluded, counted, left_out, noted, with_row_in, is_made, ReportState, with_omitted, Requested, conflict_of, key_record_of, key_values, row_after, target, ConflictKind, Policy}
 use Rattle.cap_apply.specs.Merged.{row_replaced}
-use Rattle.cap_apply.specs.Policy.{is_made}
-use Rattle.cap_apply.specs.Report.{ReportState, with_omitted}
-use Rattle.cap_apply.specs.Requested.{Requested}
-use Rattle.cap_apply.specs.Row.{conflict_of, key_record_of, key_values, row_after}
-use Rattle.cap_apply.specs.Target.{target}
-use Rattle.cap_apply.specs.declared.conflict.ConflictKind.{ConflictKind}
-use Rattle.cap_apply.specs.declared.policy.Policy.{Policy}
 use Rattle.cap_apply.proofs.ChangeLemmas.{HasTarget, applied_at, has_target}
 use Rattle.cap_apply.proofs.KeyLemmas.{patch-keyed}
 use Rattle.cap_apply.proofs.OrderLemmas.{leaves-own}

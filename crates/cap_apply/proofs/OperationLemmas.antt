@@ -1,24 +1,9 @@
 -- Operations on a table that is there, and the changes that those under a key make.
-use Rattle.std.proofs.Common.{◌≡◌, ℕ, ◌≤◌, true, Some, None, Ok, List, [], ◌∷◌, length, refl, ◌∙◌}
-use Rattle.std.proofs.lemmas.Bool.{eq-eqb}
-use Rattle.cap_value.specs.Bytes.{bytes_cmp}
-use Rattle.cap_row.specs.Fields.{Fields}
-use Rattle.cap_row.specs.Key.{fields_cmp, fields_eq_decides, key_of}
-use Rattle.cap_row.specs.Row.{are_columns, columns_of, row_with}
-use Rattle.cap_tree.specs.Tree.{get, put_entry}
-use Rattle.cap_table.specs.Table.{TableState}
-use Rattle.cap_table.specs.Operation.{with_key, without}
-use Rattle.cap_table.specs.declared.row_ref.RowRef.TheVariants.{Key}
+use Rattle.std.proofs.Common.{◌≡◌, ℕ, ◌≤◌, true, Some, None, Ok, List, [], ◌∷◌, length, refl, ◌∙◌, eq-eqb}
 use Rattle.cap_database.specs.Assigned.{Assigned}
-use Rattle.cap_database.specs.Operation.{act, changes}
-use Rattle.cap_database.specs.Tables.{table_of}
 use Rattle.cap_database.specs.declared.op.Action.TheVariants.{Insert, Update, Delete}
 use Rattle.cap_database.proofs.WriteLemmas.{one_run}
-use Rattle.cap_changes.specs.FieldRecord.{RecordFields}
-use Rattle.cap_apply.specs.Applied.{AppliedState}
-use Rattle.cap_apply.specs.Apply.{with_row_in}
-use Rattle.cap_apply.specs.Operations.{AreRun, deletes, directly, updates}
-use Rattle.cap_apply.specs.Row.{assigned_from, set_fields}
+use Rattle.cap_apply.proofs.Common.{bytes_cmp, Fields, fields_cmp, fields_eq_decides, key_of, are_columns, columns_of, row_with, get, put_entry, TableState, with_key, without, Key, act, changes, table_of, RecordFields, AppliedState, with_row_in, AreRun, deletes, directly, updates, assigned_from, set_fields}
 use Rattle.cap_apply.proofs.RowLemmas.{are_columns-assigned, row_with-assigned}
 
 module _ {A : Type 0} where

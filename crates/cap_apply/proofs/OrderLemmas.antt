@@ -1,31 +1,7 @@
 -- Names, keys and ids still rise, and rows are under their own keys, after any blob that fits its tables is applied.
-use Rattle.std.proofs.Common.{◌≡◌, ℕ, Bool, true, Option, Some, None, List, map, length, sym, ap, ◌∙◌}
-use Rattle.std.specs.Prelude.{All, IfOk, IfSome}
-use Rattle.std.specs.List.{AllByRecursion}
-use Rattle.std.proofs.lemmas.List.Elements.{All-map, All-weaker}
-use Rattle.cap_row.specs.Fields.{Fields}
-use Rattle.cap_row.specs.Key.{fields_cmp, key_of}
-use Rattle.cap_row.specs.Schema.{has_key}
-use Rattle.cap_tree.specs.Tree.{get}
-use Rattle.cap_table.specs.Operation.{with_key, without}
-use Rattle.cap_table.specs.Sound.{IsRising}
-use Rattle.cap_table.specs.Table.{TableState}
-use Rattle.cap_table.specs.declared.row_ref.RowRef.TheVariants.{Key}
-use Rattle.cap_table.proofs.BackLemmas.{own-row}
-use Rattle.cap_database.specs.Tables.{AreRising, EachRises, Tables, table_of}
-use Rattle.cap_database.proofs.KeptLemmas.{each-found, each-put, sorted-put}
-use Rattle.cap_changes.specs.Entries.{AreFitting, IsFitting, TableEntries}
-use Rattle.cap_changes.specs.Fits.{change_fits, patch_fits}
-use Rattle.cap_changes.specs.declared.patch.Patch.{Patch}
+use Rattle.std.proofs.Common.{◌≡◌, ℕ, Bool, true, Option, Some, None, List, map, length, sym, ap, ◌∙◌, All, IfOk, IfSome}
 use Rattle.cap_changes.specs.declared.patch.Patch.TheVariants as patched
-use Rattle.cap_codec.specs.declared.read.Contents.{Contents}
-use Rattle.cap_codec.specs.declared.read.Contents.TheVariants.{Changes, Patches}
-use Rattle.cap_apply.specs.Applied.{AppliedState}
-use Rattle.cap_apply.specs.Apply.{apply, change_applied, nothing_applied, with_row}
-use Rattle.cap_apply.specs.Requested.{Requested, requested_by_change, requested_by_patch, requested_in, requested_of}
-use Rattle.cap_apply.specs.Fitting.{FitsItsColumns}
-use Rattle.cap_apply.specs.Row.{key_record_of, key_values, row_after}
-use Rattle.cap_apply.specs.declared.policy.Policy.{Policy}
+use Rattle.cap_apply.proofs.Common.{AllByRecursion, All-map, All-weaker, Fields, fields_cmp, key_of, has_key, get, with_key, without, IsRising, TableState, Key, own-row, AreRising, EachRises, Tables, table_of, each-found, each-put, sorted-put, AreFitting, IsFitting, TableEntries, change_fits, patch_fits, Patch, Contents, Changes, Patches, AppliedState, apply, change_applied, nothing_applied, with_row, Requested, requested_by_change, requested_by_patch, requested_in, requested_of, FitsItsColumns, key_record_of, key_values, row_after, Policy}
 use Rattle.cap_apply.proofs.ChangeLemmas.{HasTarget, change_leaves}
 use Rattle.cap_apply.proofs.GroupLemmas.{AllAsked, groups_keep}
 use Rattle.cap_apply.proofs.KeyLemmas.{Keyed, change-keyed, patch-keyed}

@@ -1,21 +1,8 @@
 -- The rows and keys of a change whose fields satisfy their requirements, in a table whose columns fit.
-use Rattle.std.proofs.Common.{◌≡◌, ℕ, zero, suc, ◌+◌, ◌<◌, ◌≤◌, Bool, true, false, Some, None, List, [], ◌∷◌, length, map, replicate, refl, ap, arith, nat_le, nat_eq}
-use Rattle.std.specs.List.{list_any, enumerate_from}
-use Rattle.std.proofs.lemmas.Bool.{eq-eqb, lt-ltb, ne_eqb}
-use Rattle.std.proofs.lemmas.List.{length-replicate}
-use Rattle.cap_value.specs.declared.value.Value.{Value}
-use Rattle.cap_value.specs.declared.value.Value.TheVariants.{Null}
-use Rattle.cap_value.specs.Value.{is_null}
-use Rattle.cap_row.specs.Fields.{Fields}
-use Rattle.cap_row.specs.Key.{is_key, key_fields, key_of}
-use Rattle.cap_row.specs.Row.{are_columns, columns_of, new_value, row_with}
-use Rattle.cap_row.specs.Schema.{has_key}
-use Rattle.cap_changes.specs.Requirements.{requirements, satisfy}
+use Rattle.std.proofs.Common.{◌≡◌, ℕ, zero, suc, ◌+◌, ◌<◌, ◌≤◌, Bool, true, false, Some, None, List, [], ◌∷◌, length, map, replicate, refl, ap, arith, nat_le, nat_eq, eq-eqb, lt-ltb, ne_eqb}
 use Rattle.cap_changes.specs.Patch.{key_record, update_record}
-use Rattle.cap_changes.specs.FieldRecord.{RecordFields}
 use Rattle.cap_changes.specs.declared.record_kind.RecordKind.TheVariants as record_kinds
-use Rattle.cap_apply.specs.Row.{assigned_from, key_values, new_row, set_fields}
-use Rattle.cap_apply.specs.Target.{columns_fit}
+use Rattle.cap_apply.proofs.Common.{list_any, enumerate_from, length-replicate, Value, Null, is_null, Fields, is_key, key_fields, key_of, are_columns, columns_of, new_value, row_with, has_key, requirements, satisfy, RecordFields, assigned_from, key_values, new_row, set_fields, columns_fit}
 
 fit_length : (flags schema : List Bool) → columns_fit flags schema ≡ true → length flags ≤ length schema
 fit_length [] schema fit = omega arith

@@ -1,35 +1,10 @@
 -- A row that no change of a blob names stays as it was, and the first change that names it carries it.
-use Rattle.std.proofs.Common.{◌≡◌, ℕ, true, false, cond, Option, Some, None, Result, Ok, Err, IfOk, List, [], ◌∷◌, ◌++◌, length, refl, sym, ap, append_assoc, ◌∙◌, arith}
-use Rattle.std.specs.Prelude.{is_some, option_and_then}
-use Rattle.std.specs.List.{find, list_any}
-use Rattle.std.specs.Option.{option_map}
+use Rattle.std.proofs.Common.{◌≡◌, ℕ, true, false, cond, Option, Some, None, Result, Ok, Err, IfOk, List, [], ◌∷◌, ◌++◌, length, refl, sym, ap, append_assoc, ◌∙◌, arith, is_some, option_and_then, find, option_map, append-nil}
 use Rattle.std.specs.Cmp.Lexicographic.{bytes_decides}
-use Rattle.std.specs.Cmp.{Equal-is}
-use Rattle.std.proofs.lemmas.List.{append-nil}
 use Rattle.std.proofs.lemmas.List.Folds.{list_any-append}
-use Rattle.cap_value.specs.Bytes.{bytes_cmp}
-use Rattle.cap_value.specs.declared.refusal.Refusal.{Refusal}
-use Rattle.cap_row.specs.Fields.{Fields}
-use Rattle.cap_row.specs.Key.{fields_cmp}
-use Rattle.cap_tree.specs.Tree.{get, put_entry}
-use Rattle.cap_tree.proofs.EntryLemmas.{take_entry-absent}
-use Rattle.cap_table.specs.Sound.{is_key_of}
-use Rattle.cap_table.specs.Table.{TableState}
 use Rattle.cap_database.specs.Carried.{CarryFirstRows, is_of_row}
-use Rattle.cap_database.specs.Operation.{Changed, changes_to}
-use Rattle.cap_database.specs.Read.{row_at}
-use Rattle.cap_database.specs.Tables.{Tables, schema_of, table_of}
-use Rattle.cap_database.specs.declared.cause.Cause.TheVariants.{Direct}
-use Rattle.cap_database.specs.declared.change.Change.{Change}
-use Rattle.cap_database.proofs.KeptLemmas.{schema_of-put}
-use Rattle.cap_table.proofs.TableLemmas.{fields_same}
 use Rattle.cap_database.proofs.StayLemmas.{either_false, found-in, found-row, get-put-other, get-take-other, named-table, other_key, put-stays, same_found, unnamed-rows}
-use Rattle.cap_codec.specs.declared.read.Contents.{Contents}
-use Rattle.cap_apply.specs.Applied.{AppliedState}
-use Rattle.cap_apply.specs.Apply.{apply, nothing_applied, row_comes, row_goes, with_row}
-use Rattle.cap_apply.specs.Requested.{requested_of}
-use Rattle.cap_apply.specs.Row.{row_after}
-use Rattle.cap_apply.specs.declared.policy.Policy.{Policy}
+use Rattle.cap_apply.proofs.Common.{list_any, Equal-is, bytes_cmp, Refusal, Fields, fields_cmp, get, put_entry, take_entry-absent, is_key_of, TableState, Changed, changes_to, row_at, Tables, schema_of, table_of, Direct, Change, schema_of-put, fields_same, Contents, AppliedState, apply, nothing_applied, row_comes, row_goes, with_row, requested_of, row_after, Policy}
 use Rattle.cap_apply.proofs.ChangeLemmas.{change_leaves, same_columns}
 use Rattle.cap_apply.proofs.GroupLemmas.{groups_keep}
 

@@ -1,21 +1,6 @@
 -- A capture of several tables, one group after another.
-use Rattle.std.proofs.Common.{◌≡◌, ℕ, ◌+◌, Bool, true, Some, Ok, List, [], ◌∷◌, length, map, refl, sym, ap, ◌∙◌, arith}
-use Rattle.std.specs.Prelude.{is_some}
-use Rattle.std.proofs.lemmas.Simd.{map-map}
-use Rattle.cap_table.specs.Table.{TableState}
-use Rattle.cap_database.specs.Tables.{Tables, table_of}
-use Rattle.cap_changes.specs.Entries.{TableEntries}
-use Rattle.cap_changes.specs.Patch.{patch_list_of, patch_of}
-use Rattle.cap_changes.specs.declared.row_change.RowChange.{RowChange}
-use Rattle.cap_codec.specs.declared.read.Contents.{Contents}
-use Rattle.cap_codec.specs.declared.read.Contents.TheVariants.{Changes, Patches}
-use Rattle.cap_apply.specs.Applied.{AppliedState}
-use Rattle.cap_apply.specs.Apply.{and_then, group_applied, groups_applied, nothing_applied}
-use Rattle.cap_apply.specs.Requested.{Requested, requested_by_change, requested_by_patch, requested_of}
-use Rattle.cap_apply.specs.Captured.{AllAfter, AllBefore, AreOthers, GivesAllRowsNow, TableRows, changes_of, total}
-use Rattle.cap_apply.specs.Difference.{Difference, IsDifference, RowsAfter}
-use Rattle.cap_apply.specs.Report.{ReportState}
-use Rattle.cap_apply.specs.Target.{target}
+use Rattle.std.proofs.Common.{◌≡◌, ℕ, ◌+◌, Bool, true, Some, Ok, List, [], ◌∷◌, length, map, refl, sym, ap, ◌∙◌, arith, is_some}
+use Rattle.cap_apply.proofs.Common.{map-map, TableState, Tables, table_of, TableEntries, patch_list_of, patch_of, RowChange, Contents, Changes, Patches, AppliedState, and_then, group_applied, groups_applied, nothing_applied, Requested, requested_by_change, requested_by_patch, requested_of, AllAfter, AllBefore, AreOthers, GivesAllRowsNow, TableRows, changes_of, total, Difference, IsDifference, RowsAfter, ReportState, target}
 use Rattle.cap_apply.specs.declared.policy.Policy.{Policy}
 use Rattle.cap_apply_laws.proofs.CaptureLemmas.{AsksFor, fit_self}
 use Rattle.cap_apply_laws.proofs.DifferenceLemmas.{change_asks, patch_asks, rows_given}

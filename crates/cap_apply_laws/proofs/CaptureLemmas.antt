@@ -1,25 +1,10 @@
 -- One captured change, where its key has the row that was there first.
 use Rattle.std.proofs.Common.{◌≡◌, ℕ, Bool, true, false, cond, Option, Some, None, Ok, List, [], ◌∷◌, length, refl, sym, ap, subst, ◌∙◌, arith}
-use Rattle.std.specs.Cmp.{eq_by_cmp_equiv}
-use Rattle.std.proofs.lemmas.Option.{same_Some}
-use Rattle.cap_value.specs.Value.{value_cmp_total, value_eq_decides}
-use Rattle.cap_row.specs.Fields.{Fields}
-use Rattle.cap_row.specs.Key.{fields_cmp, fields_cmp_total, fields_eq, key_fields, key_of}
-use Rattle.cap_tree.specs.Tree.{get}
-use Rattle.cap_table.specs.Table.{TableState}
-use Rattle.cap_database.specs.Tables.{table_of}
 use Rattle.cap_changes.specs.Change.{change_of, full_record, new_field, old_field}
 use Rattle.cap_changes.specs.Column.{by_column}
 use Rattle.cap_changes.specs.Invert.{inverse_of}
-use Rattle.cap_changes.specs.Patch.{update_record}
-use Rattle.cap_changes.specs.declared.row_change.RowChange.{RowChange}
 use Rattle.cap_changes.specs.declared.row_change.RowChange.TheVariants.{Insert, Update, Delete}
-use Rattle.cap_apply.specs.Applied.{AppliedState}
-use Rattle.cap_apply.specs.Apply.{change_applied, counted, with_row_in}
-use Rattle.cap_apply.specs.Requested.{Requested, requested_by_change}
-use Rattle.cap_apply.specs.Difference.{Difference, IsDifference, IsUnder, turned}
-use Rattle.cap_apply.specs.Row.{has_old_values, conflict_of, key_record_of, key_values, new_row, row_after, set_fields}
-use Rattle.cap_apply.specs.Target.{columns_fit}
+use Rattle.cap_apply.proofs.Common.{eq_by_cmp_equiv, same_Some, value_cmp_total, value_eq_decides, Fields, fields_cmp, fields_cmp_total, fields_eq, key_fields, key_of, get, TableState, table_of, update_record, RowChange, AppliedState, change_applied, counted, with_row_in, Requested, requested_by_change, Difference, IsDifference, IsUnder, turned, has_old_values, conflict_of, key_record_of, key_values, new_row, row_after, set_fields, columns_fit}
 use Rattle.cap_apply.specs.declared.conflict.ConflictKind.TheVariants.{Data}
 use Rattle.cap_apply.specs.declared.policy.Policy.{Policy}
 use Rattle.cap_apply.proofs.ChangeLemmas.{applied_at, the_target}
@@ -114,6 +99,7 @@ module _ {A : Type 0} where
   pub captured_one : (policy : Policy) (number : ℕ) (name : List ℕ) (flags : List Bool) (requested : Requested A) (state : AppliedState A) (table : TableState A) (key : Fields A) (before after : Option (Fields A)) →
       table_of state.database name ≡ Some table → table.schema ≡ flags → get fields_cmp table.keyed key ≡ before → AsksFor flags requested key before after →
       change_applied policy number name flags requested state ≡ Ok (counted (with_row_in name table key before after state))
+  unfolding the_target
   captured_one policy number name flags requested state table key before after there columns found h =
       applied_at policy number name flags requested state (the_target state.database name flags table (rw (there, columns, fit_self flags))) before None (ap (get fields_cmp table.keyed) h.names ∙ found) h.met
       ∙ (λ i. Ok (counted (with_row_in name table (h.names i) before (row_after (length (columns i)) requested.patch before) state)))

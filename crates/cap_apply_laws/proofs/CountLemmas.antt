@@ -1,26 +1,7 @@
 -- Each change of a blob is applied, omitted or in a skipped group, and no change and no group comes twice in a report.
-use Rattle.std.proofs.Common.{◌≡◌, ℕ, ◌+◌, ◌<◌, ◌≤◌, inl, inr, Bool, true, false, Some, None, Result, Ok, Err, List, [], ◌∷◌, ◌++◌, length, map, take, drop, get_or, refl, sym, ap, subst, ◌∙◌, arith, length-append}
-use Rattle.std.specs.Prelude.{IfOk, is_some, sum}
-use Rattle.std.specs.List.{AllByRecursion}
-use Rattle.std.proofs.lemmas.List.{drop_more, length-map, take-take}
+use Rattle.std.proofs.Common.{◌≡◌, ℕ, ◌+◌, ◌<◌, ◌≤◌, inl, inr, Bool, true, false, Some, None, Result, Ok, Err, List, [], ◌∷◌, ◌++◌, length, map, take, drop, get_or, refl, sym, ap, subst, ◌∙◌, arith, length-append, IfOk, is_some, sum, take-take}
 use Rattle.std.proofs.lemmas.List.Sums.{sum_by-take-drop, sum_by-take-le, sum_by_more, sum_by_push}
-use Rattle.std.proofs.lemmas.Result.{IfOk-weaker}
-use Rattle.std.proofs.lemmas.Simd.{map-map}
-use Rattle.cap_value.specs.declared.refusal.Refusal.{Refusal}
-use Rattle.cap_row.specs.Key.{fields_cmp}
-use Rattle.cap_tree.specs.Tree.{get}
-use Rattle.cap_database.specs.Tables.{Tables}
-use Rattle.cap_changes.specs.Entries.{TableEntries}
-use Rattle.cap_changes.proofs.LeftLemmas.{taken}
-use Rattle.cap_codec.specs.declared.read.Contents.{Contents}
-use Rattle.cap_codec.specs.declared.read.Contents.TheVariants.{Changes, Patches}
-use Rattle.cap_apply.specs.Applied.{AppliedState}
-use Rattle.cap_apply.specs.Apply.{apply, change_applied, changes_applied, concluded, counted, group_applied, groups_applied, left_out, noted, nothing_applied, skipped, skipped_unless, with_row_in}
-use Rattle.cap_apply.specs.Report.{ReportState}
-use Rattle.cap_apply.specs.Requested.{Requested, requested_of}
-use Rattle.cap_apply.specs.Policy.{is_made}
-use Rattle.cap_apply.specs.Row.{conflict_of, key_record_of, key_values, row_after}
-use Rattle.cap_apply.specs.Target.{target}
+use Rattle.cap_apply.proofs.Common.{AllByRecursion, drop_more, length-map, IfOk-weaker, map-map, Refusal, fields_cmp, get, Tables, TableEntries, taken, Contents, Changes, Patches, AppliedState, apply, change_applied, changes_applied, concluded, counted, group_applied, groups_applied, left_out, noted, nothing_applied, skipped, skipped_unless, with_row_in, ReportState, Requested, requested_of, is_made, conflict_of, key_record_of, key_values, row_after, target}
 use Rattle.cap_apply.specs.declared.policy.Policy.{Policy}
 use Rattle.cap_apply.proofs.ChangeLemmas.{applied_at, has_target}
 use Rattle.cap_apply.proofs.GroupLemmas.{both_keep, changes_keep, changes_skipped, target_stays}

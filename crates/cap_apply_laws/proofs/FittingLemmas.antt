@@ -1,26 +1,11 @@
 -- A captured changeset, its patchset, and what bytes spell fit the columns of their groups.
-use Rattle.std.proofs.Common.{◌≡◌, ℕ, Bool, true, Some, List, [], ◌∷◌, map, ap, arith}
-use Rattle.std.specs.Prelude.{All, is_some}
-use Rattle.std.proofs.lemmas.List.Elements.{All-cons, All-map, All-nil, All-weaker}
-use Rattle.cap_row.specs.Fields.{Fields}
-use Rattle.cap_row.specs.Schema.{has_key}
-use Rattle.cap_table.specs.Table.{TableState}
-use Rattle.cap_database.specs.Tables.{Tables}
-use Rattle.cap_changes.specs.Change.{IsKeyedRow}
-use Rattle.cap_changes.specs.Entries.{IsFitting, TableEntries}
-use Rattle.cap_changes.specs.Fits.{change_fits, patch_fits}
+use Rattle.std.proofs.Common.{◌≡◌, ℕ, Bool, true, Some, List, [], ◌∷◌, map, ap, arith, All, is_some}
 use Rattle.cap_changes.specs.KindByte.{changeset_kind, patchset_kind}
-use Rattle.cap_changes.specs.Patch.{patch_list_of, patch_of, patches_of}
 use Rattle.cap_changes.specs.Spelling.{SpellsChange, SpellsEach, SpellsPatch}
 use Rattle.cap_changes.proofs.ChangeLemmas.{full_fits, update_fits}
-use Rattle.cap_changes.proofs.PatchLemmas.{patch_of-fits}
 use Rattle.cap_codec.specs.Spelling.{Spells, SpellsChanges, SpellsGroup, SpellsPatches}
 use Rattle.cap_codec.specs.Writable.{has_some}
-use Rattle.cap_codec.specs.declared.read.Contents.{Contents}
-use Rattle.cap_codec.specs.declared.read.Contents.TheVariants.{Changes, Patches}
-use Rattle.cap_apply.specs.Captured.{AllBefore, AllDiffer, TableRows, changes_of}
-use Rattle.cap_apply.specs.Difference.{Difference, HoldBefore, IsDifference, IsUnder}
-use Rattle.cap_apply.specs.Fitting.{FitsItsColumns}
+use Rattle.cap_apply.proofs.Common.{All-cons, All-map, All-nil, All-weaker, Fields, has_key, TableState, Tables, IsKeyedRow, IsFitting, TableEntries, change_fits, patch_fits, patch_list_of, patch_of, patches_of, patch_of-fits, Contents, Changes, Patches, AllBefore, AllDiffer, TableRows, changes_of, Difference, HoldBefore, IsDifference, IsUnder, FitsItsColumns}
 use Rattle.cap_apply.proofs.RowLemmas.{no_key}
 use Rattle.cap_apply_laws.proofs.CaptureLemmas.{by_rows}
 

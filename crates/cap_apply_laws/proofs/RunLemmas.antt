@@ -1,56 +1,22 @@
 -- A change that is made is made by the operations that it stands for, and so is a whole blob.
-use Rattle.std.proofs.Common.{◌≡◌, ℕ, ◌≤◌, Bool, true, false, cond, inl, inr, Option, Some, None, Result, Ok, Err, List, [], ◌∷◌, ◌++◌, length, refl, sym, ap, subst, ◌∙◌, append_assoc, arith, T}
-use Rattle.std.specs.Prelude.{IfOk}
+use Rattle.std.proofs.Common.{◌≡◌, ℕ, ◌≤◌, Bool, true, false, cond, inl, inr, Option, Some, None, Result, Ok, Err, List, [], ◌∷◌, ◌++◌, length, refl, sym, ap, subst, ◌∙◌, append_assoc, arith, T, IfOk, zip, append-nil}
 use Rattle.std.specs.FinMap.Entries.{is_sorted, same_entries}
-use Rattle.std.specs.List.{zip}
 use Rattle.std.proofs.lemmas.Bool.{and_parts}
-use Rattle.std.proofs.lemmas.List.{append-nil, length-map}
-use Rattle.std.proofs.lemmas.Result.{IfOk-at_ok, IfOk-weaker}
 use Rattle.std.proofs.lemmas.Slice.Zip.{length-zip}
-use Rattle.cap_value.specs.Bytes.{bytes_cmp}
-use Rattle.cap_value.specs.declared.refusal.Refusal.{Refusal}
-use Rattle.cap_row.specs.Fields.{Fields}
-use Rattle.cap_row.specs.Key.{fields_cmp, fields_cmp_total, fields_eq_decides, key_fields, key_of}
-use Rattle.cap_row.specs.Schema.{has_key}
-use Rattle.cap_tree.specs.Tree.{get, put_entry, take_entry}
-use Rattle.cap_table.specs.Operation.{with_key, without}
-use Rattle.cap_table.specs.Sound.{IsRising}
-use Rattle.cap_table.specs.Table.{TableState}
-use Rattle.cap_table.specs.declared.row_ref.RowRef.TheVariants.{Key}
-use Rattle.cap_table.proofs.BackLemmas.{found-own}
-use Rattle.cap_table.proofs.TableLemmas.{fields_same}
-use Rattle.cap_database.specs.Operation.{changes_to, run}
-use Rattle.cap_database.specs.Tables.{AreRising, Tables}
-use Rattle.cap_database.specs.declared.cause.Cause.TheVariants.{Direct}
-use Rattle.cap_database.specs.declared.change.Change.{Change}
 use Rattle.cap_database.specs.declared.op.Action.TheVariants.{Insert, Update, Delete}
 use Rattle.cap_database.specs.declared.op.Op.{Op}
 use Rattle.cap_database.proofs.WritesLemmas.{get-find, get-set, sorted-set}
 use Rattle.cap_database_laws.proofs.BatchesLemmas.{batches-run}
 use Rattle.cap_database_laws.proofs.UndoneLemmas.{put-again, put-found}
-use Rattle.cap_changes.specs.FieldRecord.{RecordFields}
-use Rattle.cap_changes.specs.Fits.{change_fits, patch_fits}
-use Rattle.cap_changes.specs.Patch.{patch_of, update_record}
-use Rattle.cap_changes.specs.Requirements.{new_requirements, requirements, satisfy}
 use Rattle.cap_changes.specs.declared.record_kind.RecordKind.TheVariants as record_kinds
-use Rattle.cap_changes.specs.declared.row_change.RowChange.{RowChange}
 use Rattle.cap_changes.specs.declared.row_change.RowChange.TheVariants as changed
-use Rattle.cap_changes.specs.declared.patch.Patch.{Patch}
 use Rattle.cap_changes.specs.declared.patch.Patch.TheVariants as patched
 use Rattle.cap_changes.proofs.PatchLemmas.{update_fits}
-use Rattle.cap_codec.specs.declared.read.Contents.{Contents}
-use Rattle.cap_apply.specs.Applied.{AppliedState}
-use Rattle.cap_apply.specs.Apply.{apply, change_applied, change_in, concluded, counted, left_out, noted, nothing_applied, with_row_in}
-use Rattle.cap_apply.specs.Fitting.{FitsItsColumns}
-use Rattle.cap_apply.specs.Operations.{AreRun, IsMadeOrOmitted, deletes, directly, inserts, operations_of_change, operations_of_patch, other_fields, updates}
-use Rattle.cap_apply.specs.Policy.{answer_to, is_made, made_anyway}
-use Rattle.cap_apply.specs.Requested.{Requested, requested_by_change, requested_by_patch, requested_of}
-use Rattle.cap_apply.specs.Row.{conflict_of, key_record_of, key_values, new_row, row_after, set_fields}
-use Rattle.cap_apply.specs.Target.{columns_fit, target}
+use Rattle.cap_apply.proofs.Common.{length-map, IfOk-at_ok, IfOk-weaker, bytes_cmp, Refusal, Fields, fields_cmp, fields_cmp_total, fields_eq_decides, key_fields, key_of, has_key, get, put_entry, take_entry, with_key, without, IsRising, TableState, Key, found-own, fields_same, changes_to, run, AreRising, Tables, Direct, Change, RecordFields, change_fits, patch_fits, patch_of, update_record, new_requirements, requirements, satisfy, RowChange, Patch, Contents, AppliedState, apply, change_applied, change_in, concluded, counted, left_out, noted, nothing_applied, with_row_in, FitsItsColumns, AreRun, IsMadeOrOmitted, deletes, directly, inserts, operations_of_change, operations_of_patch, other_fields, updates, answer_to, is_made, made_anyway, Requested, requested_by_change, requested_by_patch, requested_of, conflict_of, key_record_of, key_values, new_row, row_after, set_fields, columns_fit, target}
 use Rattle.cap_apply.specs.declared.conflict.ConflictKind.{ConflictKind}
+use Rattle.cap_apply.specs.declared.policy.Policy.{Policy}
 use Rattle.cap_apply.specs.declared.policy.Answer.{Answer}
 use Rattle.cap_apply.specs.declared.policy.Answer.TheVariants.{Omit}
-use Rattle.cap_apply.specs.declared.policy.Policy.{Policy}
 use Rattle.cap_apply.proofs.ChangeLemmas.{HasTarget, applied_at, missed_made, the_target}
 use Rattle.cap_apply.proofs.GroupLemmas.{groups_keep}
 use Rattle.cap_apply.proofs.KeyLemmas.{Keyed, change-keyed, patch-keyed}
@@ -173,6 +139,7 @@ module _ {A : Type 0} where
   module _ (policy : Policy) (number : ℕ) (name : List ℕ) (flags : List Bool) where
     requests-are-run : (requested : Requested A) (state : AppliedState A) (table : TableState A) → AreRising state.database → has_key flags ≡ true → Keyed flags requested.patch
         → target state.database name flags ≡ Some table → IfOk (change_applied policy number name flags requested state) (IsMadeOrOmitted number (operations_of_patch name flags table requested.patch) state)
+    unfolding the_target
     requests-are-run requested state table rise keyed fits is =
         let h = the_target state.database name flags table is in
         let key = key_values flags (key_record_of requested.patch) in

@@ -1,8 +1,5 @@
-use Rattle.std.proofs.Common.{◌≡◌, ◌+◌, true, length, map}
-use Rattle.std.specs.Prelude.{is_some}
-use Rattle.cap_changes.specs.Entries.{AllFit}
-use Rattle.cap_apply.specs.Apply.{changes_applied}
-use Rattle.cap_apply.specs.Target.{target}
+use Rattle.std.proofs.Common.{◌≡◌, ◌+◌, true, length, map, is_some}
+use Rattle.cap_apply.proofs.Common.{AllFit, changes_applied, target}
 use Rattle.cap_apply.proofs.apply_blob.apply_group.Given as goal
 
 -- the changes that are left give what all of them give, and the table is still there

@@ -1,8 +1,5 @@
-use Rattle.std.proofs.Common.{◌≡◌, ◌+◌, length, map, drop, ap, sym, ◌∙◌, arith}
-use Rattle.std.specs.Prelude.{is_some}
-use Rattle.cap_apply.specs.Apply.{groups_applied}
-use Rattle.cap_apply.specs.Requested.{requested_in}
-use Rattle.cap_apply.specs.Target.{target}
+use Rattle.std.proofs.Common.{◌≡◌, ◌+◌, length, map, drop, ap, sym, ◌∙◌, arith, is_some}
+use Rattle.cap_apply.proofs.Common.{groups_applied, requested_in, target}
 use Rattle.cap_apply.proofs.GroupLemmas.{group_skipped, group_there, groups_more}
 use Rattle.cap_apply.proofs.apply_blob.apply_groups.Goals as goal
 use Rattle.cap_apply.proofs.apply_blob.apply_groups.Goals.{then-has_target+in_ok-apply_group, else-has_target+in_ok-skip}

@@ -1,6 +1,5 @@
 use Rattle.std.proofs.Common.{◌≡◌, drop, map}
-use Rattle.cap_apply.specs.Apply.{groups_applied}
-use Rattle.cap_apply.specs.Requested.{requested_in}
+use Rattle.cap_apply.proofs.Common.{groups_applied, requested_in}
 use Rattle.cap_apply.proofs.apply_blob.apply_groups.Given as goal
 
 -- the groups that are left give what all of them give

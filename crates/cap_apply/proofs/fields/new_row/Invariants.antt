@@ -1,5 +1,4 @@
-use Rattle.std.proofs.Common.{◌≡◌, ◌++◌, map, replicate}
-use Rattle.std.specs.Option.{unwrap_or}
+use Rattle.std.proofs.Common.{◌≡◌, ◌++◌, map, replicate, unwrap_or}
 use Rattle.cap_value.specs.declared.value.Value.TheVariants.{Null}
 use Rattle.cap_apply.proofs.fields.new_row.Given as goal
 

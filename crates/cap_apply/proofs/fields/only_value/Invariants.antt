@@ -1,8 +1,6 @@
-use Rattle.std.proofs.Common.{◌≡◌, ◌++◌, drop, IfSome}
-use Rattle.std.specs.Option.{option_map, option_to_list}
-use Rattle.cap_value.specs.Value.{IsValue}
+use Rattle.std.proofs.Common.{◌≡◌, ◌++◌, drop, IfSome, option_map, option_to_list}
 use Rattle.cap_field.specs.FieldReading.{value_of}
-use Rattle.cap_apply.specs.Row.{key_values}
+use Rattle.cap_apply.proofs.Common.{IsValue, key_values}
 use Rattle.cap_apply.proofs.fields.only_value.Given as goal
 
 -- what was found, and the key fields of the columns that are left

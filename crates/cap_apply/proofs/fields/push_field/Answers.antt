@@ -1,6 +1,5 @@
 use Rattle.std.proofs.Common.{◌≡◌, ◌∷◌, [], rules, sym, ap, ◌∙◌}
-use Rattle.std.proofs.lemmas.Result.{on_ok_weaker}
-use Rattle.cap_value.specs.Bytes.{bytes_eq}
+use Rattle.cap_apply.proofs.Common.{on_ok_weaker, bytes_eq}
 use Rattle.cap_apply.proofs.FieldLemmas.{field_encodes, next_kept, next_set}
 use Rattle.cap_apply.proofs.fields.push_field.Goals as goal
 

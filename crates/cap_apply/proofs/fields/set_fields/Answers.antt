@@ -1,9 +1,5 @@
-use Rattle.std.proofs.Common.{◌≡◌, ◌++◌, Bool, Bor, List, ℕ, false, drop, get_or, ap, sym, ◌∙◌}
-use Rattle.std.specs.Prelude.{if◌then◌else◌}
-use Rattle.std.proofs.lemmas.Result.{on_ok_weaker}
-use Rattle.cap_changes.specs.Patch.{update_record}
-use Rattle.cap_changes.proofs.PassLemmas.{flags-past}
-use Rattle.cap_apply.specs.Row.{set_fields}
+use Rattle.std.proofs.Common.{◌≡◌, ◌++◌, Bool, Bor, List, ℕ, false, drop, get_or, ap, sym, ◌∙◌, if◌then◌else◌}
+use Rattle.cap_apply.proofs.Common.{on_ok_weaker, update_record, flags-past, set_fields}
 use Rattle.cap_apply.proofs.FieldLemmas.{bytes_chosen, bytes_put, no_kept, no_set}
 use Rattle.cap_apply.proofs.fields.set_fields.Goals as goal
 use Rattle.cap_apply.proofs.fields.set_fields.Goals.{then-flag, else-flag, else-loop-flag-test, then-loop-flag-test+in_default, then-loop-flag-test+in_default-2}

@@ -1,6 +1,5 @@
 use Rattle.std.proofs.Common.{◌≡◌, ◌++◌, drop}
-use Rattle.cap_changes.specs.Patch.{update_record}
-use Rattle.cap_apply.specs.Row.{set_fields}
+use Rattle.cap_apply.proofs.Common.{update_record, set_fields}
 use Rattle.cap_apply.proofs.fields.set_fields.Given as goal
 
 -- what was put, and the fields of the columns that are left

@@ -1,5 +1,4 @@
-use Rattle.cap_changes.specs.Patch.{patch_of}
-use Rattle.cap_apply.specs.Requested.{requested_by_patch}
+use Rattle.cap_apply.proofs.Common.{patch_of, requested_by_patch}
 use Rattle.cap_apply_laws.proofs.DifferenceLemmas.{patch_asks, rows_given}
 use Rattle.cap_apply_laws.proofs.laws.patches_give_the_rows_now.Goals as goal
 
