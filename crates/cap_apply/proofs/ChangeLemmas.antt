@@ -1,6 +1,6 @@
 -- One change: its table, its conflict, and what it leaves.
-use Rattle.std.proofs.Common.{◌≡◌, ℕ, Bool, true, false, Option, Some, None, Result, Ok, Err, List, length, refl, sym, ap, ◌∙◌, arith, IfOk, is_some}
-use Rattle.cap_apply.proofs.Common.{AnswersUnlessMemory, LeavesUnlessMemory, Fault, Refused, OutOfMemory, Refusal, Fields, fields_cmp, get, TableState, Tables, table_of, Change, RecordFields, AppliedState, change_applied, change_at, change_in, concluded, counted, left_out, noted, with_row, with_row_in, Requested, is_made, conflict_of, key_record_of, key_values, missed, row_after, columns_fit, target, ConflictKind, Policy}
+use Rattle.std.proofs.Common.{◌≡◌, ℕ, Bool, true, Option, Some, None, Result, Ok, Err, List, length, refl, sym, ap, ◌∙◌, arith, IfOk, is_some}
+use Rattle.cap_apply.proofs.Common.{AnswersUnlessMemory, LeavesUnlessMemory, Fault, Refused, OutOfMemory, Fields, fields_cmp, get, TableState, Tables, table_of, Change, RecordFields, AppliedState, change_applied, change_at, change_in, with_row, with_row_in, Requested, is_made, conflict_of, key_record_of, key_values, missed, row_after, columns_fit, target, ConflictKind, Policy}
 
 module _ {A : Type 0} where
   -- the table that a group is for
@@ -10,8 +10,11 @@ module _ {A : Type 0} where
     pub fit : columns_fit flags table.schema ≡ true
     pub is : target database name flags ≡ Some table
 
-  unfoldable pub the_target : (database : Tables A) (name : List ℕ) (flags : List Bool) (table : TableState A) → target database name flags ≡ Some table → HasTarget database name flags
-  the_target database name flags table is = record { table = table; there = grind arith; fit = grind arith; is = is }
+  pub target_is : (database : Tables A) (name : List ℕ) (flags : List Bool) (table : TableState A) → target database name flags ≡ Some table → (table_of database name ≡ Some table) × (columns_fit flags table.schema ≡ true)
+  target_is database name flags table is = grind arith
+
+  abbrev pub the_target : (database : Tables A) (name : List ℕ) (flags : List Bool) (table : TableState A) → target database name flags ≡ Some table → HasTarget database name flags
+  the_target database name flags table is = let found = target_is database name flags table is in record { table = table; there = found.0; fit = found.1; is = is }
 
   pub has_target : (database : Tables A) (name : List ℕ) (flags : List Bool) → is_some (target database name flags) ≡ true → HasTarget database name flags
   has_target database name flags e = elim (target database name flags) as (λ t. target database name flags ≡ t → is_some t ≡ true → HasTarget database name flags) [
@@ -38,26 +41,17 @@ module _ {A : Type 0} where
     abbrev IsLeft : AppliedState A → Type 0
     IsLeft state = Holds state.database state.changes
 
-    concluded_leaves : (answer : Result Bool Refusal) (made omitted : AppliedState A) → IsLeft made → IsLeft omitted → IfOk (concluded answer made omitted) IsLeft
-    concluded_leaves (Ok true) made omitted a b = a
-    concluded_leaves (Ok false) made omitted a b = b
-    concluded_leaves (Err why) made omitted a b = tt
-
     pub change_leaves : (policy : Policy) (number : ℕ) (name : List ℕ) (flags : List Bool) (requested : Requested A) (state : AppliedState A) → IsLeft state
         → ((h : HasTarget state.database name flags) (key : Fields A) (before : Option (Fields A)) → key ≡ key_values flags (key_record_of requested.patch) → get fields_cmp h.table.keyed key ≡ before
         → IsLeft (with_row_in name h.table key before (row_after (length h.table.schema) requested.patch before) state))
         → IfOk (change_applied policy number name flags requested state) IsLeft
-    unfolding the_target
     change_leaves policy number name flags requested state still made =
         elim (target state.database name flags) as (λ t. target state.database name flags ≡ t → IfOk (change_in policy number name flags requested t state) IsLeft) [
           | None ↦ λ _. still
           | Some table ↦ λ is.
               let key = key_values flags (key_record_of requested.patch) in
               let before = get fields_cmp table.keyed key in
-              let kept = noted policy number (conflict_of flags requested.old requested.patch before) state in
-              concluded_leaves (is_made policy number (conflict_of flags requested.old requested.patch before))
-              (counted (with_row_in name table key before (row_after (length table.schema) requested.patch before) kept)) (left_out number kept)
-              (made (the_target state.database name flags table is) key before refl refl) still
+              grind (arith, still, made (the_target state.database name flags table is) key before refl refl)
         ] refl
 
 pub same_ok : {X E : Type 0} {x y : X} (answer : Result X E) → answer ≡ Ok x → answer ≡ Ok y → x ≡ y

@@ -1,5 +1,5 @@
 -- Fields that are gone over one after another, beside the columns.
-use Rattle.std.proofs.Common.{◌≡◌, ℕ, ◌+◌, ◌<◌, Bool, true, false, Option, Some, None, is_some, IfSome, List, [], ◌∷◌, ◌++◌, length, map, drop, take, get_or, refl, sym, ap, ◌∙◌, append-nil, append_assoc, arith, if◌then◌else◌, unwrap_or, option_map, option_to_list}
+use Rattle.std.proofs.Common.{◌≡◌, ℕ, ◌+◌, ◌<◌, Bool, true, false, Option, Some, None, is_some, IfSome, List, [], ◌∷◌, ◌++◌, length, map, drop, take, get_or, refl, sym, ap, ◌∙◌, append-nil, append_assoc, arith, if◌then◌else◌, unwrap_or}
 use Rattle.cap_field.specs.Field.{value_bytes}
 use Rattle.cap_row.specs.Encoding.{fields_of, BeginsWith, Encodes}
 use Rattle.cap_row.proofs.EncodingLemmas.{encoded}
@@ -7,7 +7,7 @@ use Rattle.cap_changes.specs.Field.{field_bytes}
 use Rattle.cap_changes.specs.Record.{BeginsWithField}
 use Rattle.cap_changes.specs.declared.record_kind.RecordKind.TheVariants.{Full}
 use Rattle.cap_changes.proofs.WholeLemmas.{undefined}
-use Rattle.cap_apply.proofs.Common.{list_all, bytes_eq, IsValue, Value, Null, Fields, full_record, RecordFields, update_record, requirements, satisfy, flags-cons, has_old_value, has_old_values, key_values, set_fields}
+use Rattle.cap_apply.proofs.Common.{list_all, bytes_eq, IsValue, Value, Null, Fields, full_record, RecordFields, update_record, requirements, satisfy, flags-cons, has_old_values, key_values, set_fields}
 
 module _ {A : Type 0} where
   -- ---- where no fields or no values are left
@@ -35,10 +35,6 @@ module _ {A : Type 0} where
   pub no_row : (flags : List Bool) (old : RecordFields A) → has_old_values flags old [] ≡ true
   no_row (flag ∷ flags) (field ∷ old) = refl
   no_row flags old = refl
-
-  -- the key is one value
-  pub only_is : {V : Type 0} (shows : V → Value A) (only : Option V) (all : Fields A) → option_to_list (option_map shows only) ≡ all → IfSome only (λ value. all ≡ shows value ∷ [])
-  only_is shows only all is = grind arith
 
   -- ---- fields by their bytes
 
@@ -84,10 +80,3 @@ module _ {A : Type 0} where
   pub full_values : (values : Fields A) → map (λ field. unwrap_or field Null) (full_record values) ≡ values
   full_values [] = refl
   full_values (value ∷ values) = ap (λ (l : Fields A). value ∷ l) (full_values values)
-
-  -- ---- the old values
-
-  -- one more column has it
-  pub old_there : (flags : List Bool) (i : ℕ) (old olds : RecordFields A) (field : Option (Value A)) (row rest : Fields A) (value : Value A) (all : Bool) → i < length flags → old ≡ field ∷ olds → row ≡ value ∷ rest
-      → has_old_value (get_or flags i false) field value ≡ true → has_old_values (drop i flags) old row ≡ all → has_old_values (drop (i + 1) flags) olds rest ≡ all
-  old_there flags i old olds field row rest value all lt o r has so_far = let cons = flags-cons flags i lt in grind (arith, cons)

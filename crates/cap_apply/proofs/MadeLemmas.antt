@@ -46,11 +46,8 @@ module _ {A : Type 0} where
     refuses X OutOfMemory now decided = tt
 
     module _ {made : Bool} {judged : ReportState} (decided : is_made policy number conflict ≡ Ok made) (judged_is : judged ≡ cond made kept.report (with_omitted number kept.report)) where
-      by_made : (b : Bool) → made ≡ b → judged ≡ cond b kept.report (with_omitted number kept.report)
-      by_made b is = judged_is ∙ ap (λ (m : Bool). cond m kept.report (with_omitted number kept.report)) is
-
       pub omits : made ≡ false → change_applied policy number name flags requested begun ≡ Ok (record state { report = judged })
-      omits omitted = concludes (Ok false) (decided ∙ ap Ok omitted) ∙ ap (λ (r : ReportState). Ok (record state { report = r })) (sym (by_made false omitted))
+      omits omitted = concludes (Ok false) (decided ∙ ap Ok omitted) ∙ rw (judged_is, omitted)
 
       module _ (agreed : made ≡ true) {width : ℕ} (wide : (table : TableState A) → table_of state.database name ≡ Some table → width ≡ length table.schema)
           {after : Option (Fields A)} (after_is : after ≡ row_after width asks.patch before) where
@@ -66,8 +63,5 @@ module _ {A : Type 0} where
             → count ≡ record replaced.report { applied = replaced.report.applied + 1 } → change_applied policy number name flags requested begun ≡ Ok (record replaced { report = count })
         makes {replaced = replaced} replaced_as count_is =
             concludes (Ok true) (decided ∙ ap Ok agreed)
-            ∙ ap (λ (s : AppliedState A). Ok (counted s)) (sym (replaced_as
-            ∙ (λ i. row_replaced name key (after_row i) (record state { report = by_made true agreed i }))
-            ∙ replaced_is name h.table key row kept h.there
-            ∙ ap (λ (b : Option (Fields A)). with_row_in name h.table key b row kept) found))
-            ∙ ap (λ (r : ReportState). Ok (record replaced { report = r })) (sym count_is)
+            ∙ ap (λ (s : AppliedState A). Ok (counted s)) (sym (replaced_is name h.table key row kept h.there ∙ ap (λ (b : Option (Fields A)). with_row_in name h.table key b row kept) found))
+            ∙ rw (count_is, replaced_as, judged_is, agreed, after_row)

@@ -1,14 +1,11 @@
 -- A capture of several tables, one group after another.
-use Rattle.std.proofs.Common.{◌≡◌, ℕ, ◌+◌, Bool, true, Some, Ok, List, [], ◌∷◌, length, map, refl, sym, ap, ◌∙◌, arith, is_some}
-use Rattle.cap_apply.proofs.Common.{map-map, TableState, Tables, table_of, TableEntries, patch_list_of, patch_of, RowChange, Contents, Changes, Patches, AppliedState, and_then, group_applied, groups_applied, nothing_applied, Requested, requested_by_change, requested_by_patch, requested_of, AllAfter, AllBefore, AreOthers, GivesAllRowsNow, TableRows, changes_of, total, Difference, IsDifference, RowsAfter, ReportState, target}
+use Rattle.std.proofs.Common.{◌≡◌, ℕ, ◌+◌, Bool, Ok, List, [], ◌∷◌, length, map, refl, sym, ap, ◌∙◌, arith}
+use Rattle.cap_apply.proofs.Common.{map-map, Tables, table_of, TableEntries, patch_list_of, patch_of, RowChange, Contents, Changes, Patches, AppliedState, and_then, group_applied, groups_applied, nothing_applied, Requested, requested_by_change, requested_by_patch, requested_of, AllAfter, AllBefore, AreOthers, GivesAllRowsNow, TableRows, changes_of, total, Difference, IsDifference, RowsAfter, ReportState}
 use Rattle.cap_apply.specs.declared.policy.Policy.{Policy}
 use Rattle.cap_apply_laws.proofs.CaptureLemmas.{AsksFor, fit_self}
 use Rattle.cap_apply_laws.proofs.DifferenceLemmas.{change_asks, patch_asks, rows_given}
 
 module _ {A : Type 0} where
-  own_table : (database : Tables A) (name : List ℕ) (table : TableState A) → table_of database name ≡ Some table → is_some (target database name table.schema) ≡ true
-  own_table database name table there = rw (there, fit_self table.schema)
-
   -- the rows of a table are as they were where the table is
   all_before_moves : (name : List ℕ) (ts : List (TableRows A)) (start left : Tables A) → ((other : List ℕ) → (other ≡ name → ⊥) → table_of left other ≡ table_of start other) →
       AreOthers name ts → AllBefore ts start → AllBefore ts left
@@ -47,8 +44,7 @@ module _ {A : Type 0} where
     groups_give (t ∷ ts) place number state before =
         let first = rows_given policy f asks number t.name t.table t.differences state before.0 in
         let next = first.0 in
-        let there = own_table state.database t.name t.table before.0.there in
-        let one : group_applied policy place number (group_of t) state ≡ Ok next = rw (there, first.1) in
+        let one : group_applied policy place number (group_of t) state ≡ Ok next = rw (before.0.there, fit_self t.table.schema, first.1) in
         let rest = groups_give ts (place + 1) (number + length (asked t)) next (all_before_moves t.name ts state.database next.database first.3 before.1 before.2) in
         let more : state.report.applied + length t.differences + total ts ≡ state.report.applied + (length t.differences + total ts) = omega arith in (
           rest.0,

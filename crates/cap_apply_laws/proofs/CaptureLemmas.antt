@@ -99,7 +99,6 @@ module _ {A : Type 0} where
   pub captured_one : (policy : Policy) (number : ℕ) (name : List ℕ) (flags : List Bool) (requested : Requested A) (state : AppliedState A) (table : TableState A) (key : Fields A) (before after : Option (Fields A)) →
       table_of state.database name ≡ Some table → table.schema ≡ flags → get fields_cmp table.keyed key ≡ before → AsksFor flags requested key before after →
       change_applied policy number name flags requested state ≡ Ok (counted (with_row_in name table key before after state))
-  unfolding the_target
   captured_one policy number name flags requested state table key before after there columns found h =
       applied_at policy number name flags requested state (the_target state.database name flags table (rw (there, columns, fit_self flags))) before None (ap (get fields_cmp table.keyed) h.names ∙ found) h.met
       ∙ (λ i. Ok (counted (with_row_in name table (h.names i) before (row_after (length (columns i)) requested.patch before) state)))

@@ -139,7 +139,6 @@ module _ {A : Type 0} where
   module _ (policy : Policy) (number : ℕ) (name : List ℕ) (flags : List Bool) where
     requests-are-run : (requested : Requested A) (state : AppliedState A) (table : TableState A) → AreRising state.database → has_key flags ≡ true → Keyed flags requested.patch
         → target state.database name flags ≡ Some table → IfOk (change_applied policy number name flags requested state) (IsMadeOrOmitted number (operations_of_patch name flags table requested.patch) state)
-    unfolding the_target
     requests-are-run requested state table rise keyed fits is =
         let h = the_target state.database name flags table is in
         let key = key_values flags (key_record_of requested.patch) in
