@@ -1,10 +1,10 @@
 -- A row that no change of a blob names stays as it was, and the first change that names it carries it.
-use Rattle.std.proofs.Common.{◌≡◌, ℕ, true, false, cond, Option, Some, None, Result, Ok, Err, IfOk, List, [], ◌∷◌, ◌++◌, length, refl, sym, ap, append_assoc, ◌∙◌, arith, is_some, option_and_then, find, option_map, append-nil}
+use Rattle.std.proofs.Common.{◌≡◌, ℕ, true, false, Option, Some, None, Result, Ok, Err, IfOk, List, [], ◌++◌, length, refl, sym, ap, append_assoc, ◌∙◌, arith, is_some, option_and_then, find, option_map, append-nil}
 use Rattle.std.specs.Cmp.Lexicographic.{bytes_decides}
 use Rattle.std.proofs.lemmas.List.Folds.{list_any-append}
 use Rattle.cap_database.specs.Carried.{CarryFirstRows, is_of_row}
-use Rattle.cap_database.proofs.StayLemmas.{either_false, found-in, found-row, get-put-other, get-take-other, named-table, other_key, put-stays, same_found, unnamed-rows}
-use Rattle.cap_apply.proofs.Common.{list_any, Equal-is, bytes_cmp, Refusal, Fields, fields_cmp, get, put_entry, take_entry-absent, is_key_of, TableState, Changed, changes_to, row_at, Tables, schema_of, table_of, Direct, Change, schema_of-put, fields_same, Contents, AppliedState, apply, nothing_applied, row_comes, row_goes, with_row, requested_of, row_after, Policy}
+use Rattle.cap_database.proofs.StayLemmas.{either_false, found-in, found-row, get-put-other, get-take-other, named-table, other_key, put-stays, unnamed-rows}
+use Rattle.cap_apply.proofs.Common.{list_any, bytes_cmp, Refusal, Fields, fields_cmp, get, put_entry, take_entry-absent, is_key_of, TableState, Changed, changes_to, row_at, Tables, schema_of, table_of, Direct, Change, schema_of-put, fields_same, Contents, AppliedState, apply, nothing_applied, row_comes, row_goes, with_row, requested_of, row_after, Policy}
 use Rattle.cap_apply.proofs.ChangeLemmas.{change_leaves, same_columns}
 use Rattle.cap_apply.proofs.GroupLemmas.{groups_keep}
 
@@ -66,22 +66,9 @@ module _ {A : Type 0} where
         kept (Some old) None found unnamed = get-take-other table.keyed own key (other_key own key (either_false (is_key_of (Some own) key) false unnamed))
         kept (Some old) (Some row) found unnamed = get-put-other table.keyed own row key (other_key own key (either_false (is_key_of (Some own) key) _ unnamed))
 
-        one-carries : (only : Changed A) → only.1 ≡ get fields_cmp table.keyed own → only.0 ≡ Some own → (rest : List (Changed A)) → (is_key_of (Some own) key ≡ false → find (λ c. is_key_of c.0 key) rest ≡ None)
-            → (changed : Changed A) → find (λ c. is_key_of c.0 key) (only ∷ rest) ≡ Some changed → changed.1 ≡ get fields_cmp table.keyed key
-        one-carries only has of rest none changed at =
-            elim (is_key_of only.0 key) as (λ b. is_key_of only.0 key ≡ b → cond b (Some only) (find (λ c. is_key_of c.0 key) rest) ≡ Some changed → changed.1 ≡ get fields_cmp table.keyed key) [
-              | true ↦ λ here is.
-                  let same : own ≡ key = fields_same own key ((Equal-is (fields_cmp own key)).0 (ap (λ k. is_key_of k key) (sym of) ∙ here)) in
-                  ap (λ (c : Changed A). c.1) (sym (same_found only changed is)) ∙ has ∙ ap (get fields_cmp table.keyed) same
-              | false ↦ λ apart is. let no : None ≡ Some changed = sym (none (ap (λ k. is_key_of k key) (sym of) ∙ apart)) ∙ is in cc
-            ] refl at
-
         carried : (before after : Option (Fields A)) → get fields_cmp table.keyed own ≡ before → (changed : Changed A) → find (λ c. is_key_of c.0 key) (row_goes own before ++ row_comes own after) ≡ Some changed
             → changed.1 ≡ get fields_cmp table.keyed key
-        carried None None found = λ changed at. cc
-        carried None (Some row) found = one-carries (Some own, None) (sym found) refl [] (λ _. refl)
-        carried (Some old) None found = one-carries (Some own, Some old) (sym found) refl [] (λ _. refl)
-        carried (Some old) (Some row) found = one-carries (Some own, Some old) (sym found) refl ((Some own, None) ∷ []) (λ apart. ap (λ b. cond b (Some (Some own, None)) None) apart)
+        carried before after found changed at = grind (arith, fields_same own key)
 
     pub apply-more : (tables : Tables A) (blob : Contents A) (policy : Policy) → AppliedMore (nothing_applied tables) (apply tables blob policy)
     apply-more tables blob policy =

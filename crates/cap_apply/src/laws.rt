@@ -3,7 +3,6 @@ ghost use Rattle.std.specs.Prelude.{◌≡◌, ℕ, List, IfOk};
 ghost use Rattle.cap_database.specs.Tables.{AreRising, Tables, schema_of};
 ghost use Rattle.cap_codec.specs.declared.read.Contents.{Contents};
 ghost use Rattle.cap_apply.specs.Apply.{apply};
-ghost use Rattle.cap_apply.specs.Difference as rows;
 ghost use Rattle.cap_apply.specs.Fitting.{FitsItsColumns};
 ghost use Rattle.cap_apply.specs.declared.policy.Policy.{Policy};
 

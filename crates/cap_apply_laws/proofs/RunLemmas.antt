@@ -3,7 +3,7 @@ use Rattle.std.proofs.Common.{◌≡◌, ℕ, ◌≤◌, Bool, true, false, cond
 use Rattle.std.specs.FinMap.Entries.{is_sorted, same_entries}
 use Rattle.std.proofs.lemmas.Bool.{and_parts}
 use Rattle.std.proofs.lemmas.Slice.Zip.{length-zip}
-use Rattle.cap_database.specs.declared.op.Action.TheVariants.{Insert, Update, Delete}
+use Rattle.cap_database.specs.declared.op.Action.TheVariants.{Insert}
 use Rattle.cap_database.specs.declared.op.Op.{Op}
 use Rattle.cap_database.proofs.WritesLemmas.{get-find, get-set, sorted-set}
 use Rattle.cap_database_laws.proofs.BatchesLemmas.{batches-run}
