@@ -1,10 +1,10 @@
 -- One captured change, where its key has the row that was there first.
-use Rattle.std.proofs.Common.{◌≡◌, ℕ, Bool, true, false, cond, Option, Some, None, Ok, List, [], ◌∷◌, length, refl, sym, ap, subst, ◌∙◌, arith}
+use Rattle.std.proofs.Common.{◌≡◌, ℕ, Bool, true, false, cond, Option, Some, None, Ok, List, [], ◌∷◌, length, refl, sym, ap, ◌∙◌, arith}
 use Rattle.cap_changes.specs.Change.{change_of, full_record, new_field, old_field}
 use Rattle.cap_changes.specs.Column.{by_column}
 use Rattle.cap_changes.specs.Invert.{inverse_of}
 use Rattle.cap_changes.specs.declared.row_change.RowChange.TheVariants.{Insert, Update, Delete}
-use Rattle.cap_apply.proofs.Common.{eq_by_cmp_equiv, same_Some, value_cmp_total, value_eq_decides, Fields, fields_cmp, fields_cmp_total, fields_eq, key_fields, key_of, get, TableState, table_of, update_record, RowChange, AppliedState, change_applied, counted, with_row_in, Requested, requested_by_change, Difference, IsDifference, IsUnder, turned, has_old_values, conflict_of, key_record_of, key_values, new_row, row_after, set_fields, columns_fit}
+use Rattle.cap_apply.proofs.Common.{eq_by_cmp_equiv, value_cmp_total, value_eq_decides, Fields, fields_cmp, fields_cmp_total, fields_eq, key_fields, key_of, get, TableState, table_of, update_record, RowChange, AppliedState, change_applied, counted, with_row_in, Requested, requested_by_change, Difference, IsDifference, IsUnder, turned, has_old_values, conflict_of, key_record_of, key_values, new_row, row_after, set_fields, columns_fit}
 use Rattle.cap_apply.specs.declared.conflict.ConflictKind.TheVariants.{Data}
 use Rattle.cap_apply.specs.declared.policy.Policy.{Policy}
 use Rattle.cap_apply.proofs.ChangeLemmas.{applied_at, the_target}
@@ -69,14 +69,7 @@ module _ {A : Type 0} where
     pub by_rows : ((now : Fields A) → Holds None (Some now) (Insert indirect (full_record now))) → ((image : Fields A) → Holds (Some image) None (Delete indirect (full_record image)))
         → ((image now : Fields A) → fields_eq image now ≡ false → Holds (Some image) (Some now) (update_of image now))
         → (before after : Option (Fields A)) (change : RowChange A) → change_of flags indirect before after ≡ Some change → Holds before after change
-    by_rows comes goes differ None None change is = cc
-    by_rows comes goes differ None (Some now) change is = subst (Holds None (Some now)) (same_Some (Insert indirect (full_record now)) change is) (comes now)
-    by_rows comes goes differ (Some image) None change is = subst (Holds (Some image) None) (same_Some (Delete indirect (full_record image)) change is) (goes image)
-    by_rows comes goes differ (Some image) (Some now) change is =
-        elim (fields_eq image now) as (λ b. fields_eq image now ≡ b → cond b None (Some (update_of image now)) ≡ Some change → Holds (Some image) (Some now) change) [
-          | true ↦ λ same e. cc
-          | false ↦ λ other e. subst (Holds (Some image) (Some now)) (same_Some (update_of image now) change e) (differ image now other)
-        ] refl is
+    by_rows comes goes differ before after change is = grind (arith, comes, goes, differ)
 
   pub asks_by_change : (flags : List Bool) (indirect : Bool) (key : Fields A) (before after : Option (Fields A)) (change : RowChange A) →
       IsUnder flags key before → IsUnder flags key after → change_of flags indirect before after ≡ Some change → AsksFor flags (requested_by_change flags change) key before after
