@@ -1,5 +1,5 @@
 -- Changes and groups, one after another.
-use Rattle.std.proofs.Common.{◌≡◌, ℕ, ◌+◌, ◌<◌, Bool, true, false, Result, Ok, Err, List, [], ◌∷◌, length, map, drop, get_or, refl, ap, subst, ◌∙◌, arith, All, IfOk, is_some}
+use Rattle.std.proofs.Common.{◌≡◌, ℕ, ◌+◌, ◌<◌, Bool, true, false, Result, Ok, List, [], ◌∷◌, length, map, drop, get_or, refl, ap, subst, ◌∙◌, arith, All, IfOk, is_some}
 use Rattle.std.proofs.lemmas.Cmp.{nat_list_cmp_total}
 use Rattle.cap_apply.proofs.Common.{tied_itself, length-map, All-head, All-tail, bytes_cmp, Refusal, put_entry, TableState, Tables, TableEntries, drop_here, AppliedState, and_then, change_applied, changes_applied, group_applied, groups_applied, skipped, skipped_unless, with_row, Requested, requested_in, row_after, columns_fit, target, Policy}
 use Rattle.cap_apply.proofs.ChangeLemmas.{change_leaves, same_columns}
@@ -34,8 +34,7 @@ module _ {A : Type 0} where
 
   pub both_keep : (P Q : AppliedState A → Type 0) (first : Result (AppliedState A) Refusal) (next : AppliedState A → Result (AppliedState A) Refusal) → IfOk first P
       → ((state : AppliedState A) → first ≡ Ok state → P state → IfOk (next state) Q) → IfOk (and_then first next) Q
-  both_keep P Q (Ok state) next holds more = more state refl holds
-  both_keep P Q (Err why) next holds more = tt
+  both_keep P Q first next holds more = grind (arith, more)
 
   -- what each change keeps, with the number of the next one
   pub changes_keep : (policy : Policy) (name : List ℕ) (flags : List Bool) (Asked : Requested A → Type 0) (Holds : ℕ → AppliedState A → Type 0)

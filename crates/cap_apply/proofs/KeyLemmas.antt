@@ -1,5 +1,5 @@
 -- The key that a change names, by the record that has it.
-use Rattle.std.proofs.Common.{◌≡◌, Bool, true, List, refl, sym, ap, ◌∙◌}
+use Rattle.std.proofs.Common.{arith, ◌≡◌, Bool, true, List, sym, ap, ◌∙◌}
 use Rattle.cap_changes.specs.declared.patch.Patch.TheVariants as patched
 use Rattle.cap_changes.specs.declared.record_kind.RecordKind.TheVariants as record_kinds
 use Rattle.cap_changes.specs.declared.row_change.RowChange.TheVariants as changed
@@ -14,24 +14,18 @@ module _ {A : Type 0} where
   Keyed flags patch = satisfy (requirements record_kinds.Keyed flags) (key_record_of patch) ≡ true
 
   pub patch-keyed : (flags : List Bool) (patch : Patch A) → patch_fits flags patch ≡ true → Keyed flags patch
-  patch-keyed flags (patched.Insert indirect new) fits = full_keyed flags new fits
-  patch-keyed flags (patched.Update indirect new) fits = fits
-  patch-keyed flags (patched.Delete indirect key) fits = alone_keyed flags key fits
+  patch-keyed flags patch fits = grind (arith, full_keyed {A = A} flags, alone_keyed {A = A} flags)
 
   pub change-keyed : (flags : List Bool) (change : RowChange A) → change_fits flags change ≡ true → Keyed flags (patch_of flags change)
   change-keyed flags change fits = patch-keyed flags (patch_of flags change) (patch_of-fits flags change fits)
 
   -- a patch is that of the change that it is
   pub same_patch : (flags : List Bool) (patch : Patch A) → patch_fits flags patch ≡ true → patch_of flags (as_change patch) ≡ patch
-  same_patch flags (patched.Insert indirect new) fits = refl
-  same_patch flags (patched.Update indirect new) fits = ap (patched.Update indirect) (update_same flags new fits)
-  same_patch flags (patched.Delete indirect key) fits = ap (patched.Delete indirect) (alone_same flags key fits)
+  same_patch flags patch fits = grind (arith, update_same {A = A} flags, alone_same {A = A} flags)
 
   -- the key of a change is that of its patch
   pub change_key : (flags : List Bool) (change : RowChange A) → Keyed flags (patch_of flags change) → key_values flags (key_record_of (patch_of flags change)) ≡ key_values flags (key_record change)
-  change_key flags (changed.Insert indirect new) keyed = refl
-  change_key flags (changed.Update indirect old new) keyed = update_key flags old new keyed
-  change_key flags (changed.Delete indirect old) keyed = record_key flags old
+  change_key flags change keyed = grind (arith, update_key {A = A} flags, record_key {A = A} flags)
 
   pub its_key : (flags : List Bool) (change : RowChange A) → has_key flags ≡ true → Keyed flags (patch_of flags change) → is_key (key_values flags (key_record change)) ≡ true
   its_key flags change key keyed = ap is_key (sym (change_key flags change keyed)) ∙ is_key-key_values flags (key_record_of (patch_of flags change)) key keyed

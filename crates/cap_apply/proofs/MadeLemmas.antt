@@ -1,7 +1,7 @@
 -- One change as the code applies it: what it leaves is the requested change.
-use Rattle.std.proofs.Common.{◌≡◌, ℕ, ◌+◌, Bool, true, false, cond, Option, Some, None, Result, Ok, Err, List, length, sym, ap, subst, ◌∙◌, IfSome, is_some, option_and_then}
+use Rattle.std.proofs.Common.{arith, ◌≡◌, ℕ, ◌+◌, Bool, true, false, cond, Option, Some, Result, Ok, Err, List, length, sym, ap, subst, ◌∙◌, IfSome, is_some, option_and_then}
 use Rattle.cap_database.specs.Keyed.{IsOwnRow}
-use Rattle.cap_apply.proofs.Common.{same_Some, AnswersUnlessMemory, LeavesUnlessMemory, Fault, Refused, OutOfMemory, Refusal, Fields, fields_cmp, key_of, has_key, get, TableState, row_at, EachRises, Tables, table_of, patch_fits, AppliedState, change_applied, concluded, counted, left_out, noted, with_row_in, is_made, ReportState, with_omitted, Requested, conflict_of, key_record_of, key_values, row_after, target, ConflictKind, Policy}
+use Rattle.cap_apply.proofs.Common.{AnswersUnlessMemory, LeavesUnlessMemory, Fault, Refused, OutOfMemory, Refusal, Fields, fields_cmp, key_of, has_key, get, TableState, row_at, EachRises, Tables, table_of, patch_fits, AppliedState, change_applied, concluded, counted, left_out, noted, with_row_in, is_made, ReportState, with_omitted, Requested, conflict_of, key_record_of, key_values, row_after, target, ConflictKind, Policy}
 use Rattle.cap_apply.specs.Merged.{row_replaced}
 use Rattle.cap_apply.proofs.ChangeLemmas.{HasTarget, applied_at, has_target}
 use Rattle.cap_apply.proofs.KeyLemmas.{patch-keyed}
@@ -10,9 +10,7 @@ use Rattle.cap_apply.proofs.OrderLemmas.{leaves-own}
 module _ {A : Type 0} where
   own_there : (tables : Tables A) (name : List ℕ) (table : TableState A) (key : Fields A) (after : Option (Fields A)) → table_of tables name ≡ Some table
       → IfSome after (λ row. (length row ≡ length table.schema) × (key_of table.schema row ≡ Some key)) → IfSome after (IsOwnRow tables name key)
-  own_there tables name table key None there own = tt
-  own_there tables name table key (Some row) there own =
-      λ found is. subst (λ (t : TableState A). (length row ≡ length t.schema) × (key_of t.schema row ≡ Some key)) (same_Some table found (sym there ∙ is)) own
+  own_there tables name table key after there own = grind arith
 
   replaced_is : (name : List ℕ) (table : TableState A) (key : Fields A) (after : Option (Fields A)) (state : AppliedState A) → table_of state.database name ≡ Some table
       → row_replaced name key after state ≡ with_row_in name table key (get fields_cmp table.keyed key) after state

@@ -1,5 +1,5 @@
 -- Names, keys and ids still rise, and rows are under their own keys, after any blob that fits its tables is applied.
-use Rattle.std.proofs.Common.{◌≡◌, ℕ, Bool, true, Option, Some, None, List, map, length, sym, ap, ◌∙◌, All, IfOk, IfSome}
+use Rattle.std.proofs.Common.{arith, ◌≡◌, ℕ, Bool, true, Option, Some, List, map, length, All, IfOk, IfSome}
 use Rattle.cap_changes.specs.declared.patch.Patch.TheVariants as patched
 use Rattle.cap_apply.proofs.Common.{AllByRecursion, All-map, All-weaker, Fields, fields_cmp, key_of, has_key, get, with_key, without, IsRising, TableState, Key, own-row, AreRising, EachRises, Tables, table_of, each-found, each-put, sorted-put, AreFitting, IsFitting, TableEntries, change_fits, patch_fits, Patch, Contents, Changes, Patches, AppliedState, apply, change_applied, nothing_applied, with_row, Requested, requested_by_change, requested_by_patch, requested_in, requested_of, FitsItsColumns, key_record_of, key_values, row_after, Policy}
 use Rattle.cap_apply.proofs.ChangeLemmas.{HasTarget, change_leaves}
@@ -15,13 +15,9 @@ module _ {A : Type 0} where
   pub leaves-own : (flags : List Bool) (patch : Patch A) (database : Tables A) (name : List ℕ) (h : HasTarget database name flags) → EachRises database → has_key flags ≡ true → Keyed flags patch
       → (key : Fields A) (before : Option (Fields A)) → key ≡ key_values flags (key_record_of patch) → get fields_cmp h.table.keyed key ≡ before
       → IfSome (row_after (length h.table.schema) patch before) (λ row. (length row ≡ length h.table.schema) × (key_of h.table.schema row ≡ Some key))
-  leaves-own flags (patched.Insert indirect new) database name h each has keyed key before is found =
-      (length-new_row flags h.table.schema new h.fit has keyed, key_of-new_row flags h.table.schema new h.fit has keyed ∙ ap Some (sym is))
-  leaves-own flags (patched.Update indirect new) database name h each has keyed key None is found = tt
-  leaves-own flags (patched.Update indirect new) database name h each has keyed key (Some row) is found =
-      let wide = (own-row h.table key row (found-rises database name h.table each h.there).sound found).0 in
-      (length-set_fields new row ∙ wide, key_of-set_fields flags h.table.schema new h.fit has keyed row wide ∙ ap Some (sym is))
-  leaves-own flags (patched.Delete indirect old) database name h each has keyed key before is found = tt
+  leaves-own flags patch database name h each has keyed key before is found =
+      let own = λ (row : Fields A). own-row h.table key row (found-rises database name h.table each h.there).sound in
+      grind (arith, h.fit, length-new_row {A = A} flags h.table.schema, key_of-new_row {A = A} flags h.table.schema, key_of-set_fields {A = A} flags h.table.schema, length-set_fields {A = A}, own)
 
   -- ---- changes that have keys
 
@@ -46,8 +42,7 @@ module _ {A : Type 0} where
       (takes : (table : TableState A) (key : Fields A) → IsRising table → IsRising (without table (Key key))) (policy : Policy) where
     row-rises : (table : TableState A) (key : Fields A) (row : Option (Fields A)) → IsRising table → IfSome row (λ r. (length r ≡ length table.schema) × (key_of table.schema r ≡ Some key))
         → IsRising (with_row table key row)
-    row-rises table key None rise own = takes table key rise
-    row-rises table key (Some row) rise own = puts table key row rise own.0 own.1
+    row-rises table key row rise own = grind (arith, puts, takes)
 
     change-rises : (number : ℕ) (name : List ℕ) (flags : List Bool) (requested : Requested A) (state : AppliedState A) → HasItsKey flags requested → AreRising state.database
         → IfOk (change_applied policy number name flags requested state) (λ left. AreRising left.database)

@@ -3,7 +3,6 @@ use Rattle.std.proofs.Common.{◌≡◌, ℕ, suc, ◌+◌, Bool, cond, Option, 
 use Rattle.cap_database_laws.proofs.UndoneLemmas.{put-found}
 use Rattle.cap_changes.specs.declared.patch.Patch.TheVariants as patched
 use Rattle.cap_apply.proofs.Common.{length-map, map-map, bytes_cmp, bytes_cmp-Equal, Fields, fields_cmp, fields_cmp_total, fields_cmp-Equal, fields_eq, fields_eq_decides, IsOrdered, get, put_entry, ordered_put, ordered_take, put_entry-Updates, take_entry-Updates, TableState, Tables, table_of, RecordFields, patch_of, Patch, RowChange, other_order, AppliedState, and_then, changes_applied, counted, with_row, with_row_in, Requested, old_record, requested_by_change, requested_by_patch, AllApplied, AreApart, Difference, GivesRowsNow, HoldAfter, HoldBefore, IsDifference, OtherTables, RowsAfter, RowsBefore, requested_by_changes, requested_by_inverses, turned, conflict_of}
-use Rattle.cap_apply.specs.declared.conflict.ConflictKind.TheVariants.{Data}
 use Rattle.cap_apply.specs.declared.policy.Policy.{Policy}
 use Rattle.cap_apply.proofs.ChangeLemmas.{same_columns, same_rest}
 use Rattle.cap_apply.proofs.EntryLemmas.{get_put_other}
@@ -95,9 +94,7 @@ module _ {A : Type 0} where
 
   -- a patchset has no old values that could differ
   no_conflict : (flags : List Bool) (old : RecordFields A) (patch : Patch A) (before : Option (Fields A)) → conflict_of flags old patch before ≡ None → conflict_of flags [] patch before ≡ None
-  no_conflict flags old (patched.Insert indirect new) before e = e
-  no_conflict flags old patch None e = cc
-  no_conflict flags old patch (Some row) e = ap (λ b. cond b None (Some Data)) (no_old flags row)
+  no_conflict flags old patch before e = grind (arith, no_old {A = A} flags [])
 
   pub patch_asks : (flags : List Bool) (d : Difference A) → IsDifference flags d → AsksFor flags (requested_by_patch flags (patch_of flags d.change)) d.key d.before d.after
   patch_asks flags d h =

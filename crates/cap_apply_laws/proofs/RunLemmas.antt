@@ -1,7 +1,6 @@
 -- A change that is made is made by the operations that it stands for, and so is a whole blob.
 use Rattle.std.proofs.Common.{◌≡◌, ℕ, ◌≤◌, Bool, true, false, cond, inl, inr, Option, Some, None, Result, Ok, Err, List, [], ◌∷◌, ◌++◌, length, refl, sym, ap, subst, ◌∙◌, append_assoc, arith, T, IfOk, zip, append-nil}
 use Rattle.std.specs.FinMap.Entries.{is_sorted, same_entries}
-use Rattle.std.proofs.lemmas.Bool.{and_parts}
 use Rattle.std.proofs.lemmas.Slice.Zip.{length-zip}
 use Rattle.cap_database.specs.declared.op.Action.TheVariants.{Insert}
 use Rattle.cap_database.specs.declared.op.Op.{Op}
@@ -12,7 +11,7 @@ use Rattle.cap_changes.specs.declared.record_kind.RecordKind.TheVariants as reco
 use Rattle.cap_changes.specs.declared.row_change.RowChange.TheVariants as changed
 use Rattle.cap_changes.specs.declared.patch.Patch.TheVariants as patched
 use Rattle.cap_changes.proofs.PatchLemmas.{update_fits}
-use Rattle.cap_apply.proofs.Common.{length-map, IfOk-at_ok, IfOk-weaker, bytes_cmp, Refusal, Fields, fields_cmp, fields_cmp_total, fields_eq_decides, key_fields, key_of, has_key, get, put_entry, take_entry, with_key, without, IsRising, TableState, Key, found-own, fields_same, changes_to, run, AreRising, Tables, Direct, Change, RecordFields, change_fits, patch_fits, patch_of, update_record, new_requirements, requirements, satisfy, RowChange, Patch, Contents, AppliedState, apply, change_applied, change_in, concluded, counted, left_out, noted, nothing_applied, with_row_in, FitsItsColumns, AreRun, IsMadeOrOmitted, deletes, directly, inserts, operations_of_change, operations_of_patch, other_fields, updates, answer_to, is_made, made_anyway, Requested, requested_by_change, requested_by_patch, requested_of, conflict_of, key_record_of, key_values, new_row, row_after, set_fields, columns_fit, target}
+use Rattle.cap_apply.proofs.Common.{length-map, IfOk-at_ok, IfOk-weaker, bytes_cmp, Refusal, Fields, fields_cmp, fields_cmp_total, fields_eq_decides, key_fields, key_of, has_key, get, put_entry, take_entry, with_key, without, IsRising, TableState, Key, found-own, fields_same, changes_to, run, AreRising, Tables, Direct, Change, RecordFields, change_fits, patch_fits, patch_of, update_record, new_requirements, requirements, satisfy, RowChange, Patch, Contents, AppliedState, apply, change_applied, change_in, concluded, counted, left_out, noted, nothing_applied, with_row_in, FitsItsColumns, AreRun, IsMadeOrOmitted, deletes, directly, inserts, operations_of_change, operations_of_patch, other_fields, answer_to, is_made, made_anyway, Requested, requested_by_change, requested_by_patch, requested_of, conflict_of, key_record_of, key_values, new_row, row_after, set_fields, columns_fit, target}
 use Rattle.cap_apply.specs.declared.conflict.ConflictKind.{ConflictKind}
 use Rattle.cap_apply.specs.declared.policy.Policy.{Policy}
 use Rattle.cap_apply.specs.declared.policy.Answer.{Answer}
@@ -149,11 +148,7 @@ module _ {A : Type 0} where
         (is_made policy number conflict) refl (made-run name flags keyed state rise h policy number requested.old requested.patch before refl fits))
 
     change-operations : (table : TableState A) (change : RowChange A) → change_fits flags change ≡ true → operations_of_patch name flags table (patch_of flags change) ≡ operations_of_change name flags table change
-    change-operations table (changed.Insert indirect new) fits = refl
-    change-operations table (changed.Update indirect old new) fits =
-        let parts = and_parts (satisfy (requirements record_kinds.Keyed flags) old) (satisfy (new_requirements flags old) new) fits in
-        λ i. updates name (update_key flags old new (update_fits flags old new parts.0 parts.1) i) (others-updated flags old new parts.1 i)
-    change-operations table (changed.Delete indirect old) fits = ap (deletes name) (record_key flags old)
+    change-operations table change fits = grind (arith, update_key {A = A} flags, update_fits {A = A} flags, others-updated flags, record_key {A = A} flags)
 
     pub changes-are-run : (change : RowChange A) (state : AppliedState A) (table : TableState A) → AreRising state.database → has_key flags ≡ true → change_fits flags change ≡ true
         → target state.database name flags ≡ Some table
