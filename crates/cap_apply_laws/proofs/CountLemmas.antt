@@ -84,20 +84,11 @@ module _ {A : Type 0} (blob : Contents A) where
   module _ (policy : Policy) (name : List ℕ) (flags : List Bool) (place : ℕ) where
     concluded-told : (number : ℕ) (made kept : AppliedState A) (answer : Result Bool Refusal) → first_of blob place ≤ number → IsTold place number kept → made.report ≡ record kept.report { applied = kept.report.applied + 1 }
         → IfOk (concluded answer made (left_out number kept)) (IsTold place (number + 1))
-    concluded-told number made kept (Ok true) from told is =
-        subst (λ (r : ReportState). Told place (number + 1) r.applied r.omitted r.skipped) (sym is) (record {
-          counted = omega (arith, told.counted);
-          changes = rise-wider 0 number (number + 1) kept.report.omitted told.changes (omega arith);
-          groups = told.groups;
-          apart = told.apart;
-        })
-    concluded-told number made kept (Ok false) from told is = record {
-      counted = omega (arith, told.counted, length-append kept.report.omitted (number ∷ []));
-      changes = rise-more 0 number kept.report.omitted told.changes;
-      groups = told.groups;
-      apart = apart-more place number 0 kept.report.omitted kept.report.skipped from told.groups told.apart;
-    }
-    concluded-told number made kept (Err why) from told is = tt
+    concluded-told number made kept answer from told is =
+        let wider = rise-wider 0 number (number + 1) kept.report.omitted told.changes (omega arith) in
+        let more = rise-more 0 number kept.report.omitted told.changes in
+        let apart = apart-more place number 0 kept.report.omitted kept.report.skipped from told.groups told.apart in
+        grind (arith, told.counted, told.groups, told.apart, wider, more, apart, length-append kept.report.omitted (number ∷ []), is)
 
     -- in a group that is there
     abbrev IsWithin : ℕ → AppliedState A → Type 0
