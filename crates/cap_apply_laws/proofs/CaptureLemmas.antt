@@ -5,7 +5,6 @@ use Rattle.cap_changes.specs.Column.{by_column}
 use Rattle.cap_changes.specs.Invert.{inverse_of}
 use Rattle.cap_changes.specs.declared.row_change.RowChange.TheVariants.{Insert, Update, Delete}
 use Rattle.cap_apply.proofs.Common.{eq_by_cmp_equiv, value_cmp_total, value_eq_decides, Fields, fields_cmp, fields_cmp_total, fields_eq, key_fields, key_of, get, TableState, table_of, update_record, RowChange, AppliedState, change_applied, counted, with_row_in, Requested, requested_by_change, Difference, IsDifference, IsUnder, turned, has_old_values, conflict_of, key_record_of, key_values, new_row, row_after, set_fields, columns_fit}
-use Rattle.cap_apply.specs.declared.conflict.ConflictKind.TheVariants.{Data}
 use Rattle.cap_apply.specs.declared.policy.Policy.{Policy}
 use Rattle.cap_apply.proofs.ChangeLemmas.{applied_at, the_target}
 use Rattle.cap_apply.proofs.RowLemmas.{record_key}
@@ -76,16 +75,10 @@ module _ {A : Type 0} where
   asks_by_change flags indirect key before after change p q is =
       by_rows flags indirect (λ b a c. IsUnder flags key b → IsUnder flags key a → AsksFor flags (requested_by_change flags c) key b a)
       (λ now _ q. record { names = full_key flags now ∙ key_is flags now key q.1; met = refl; leaves = rw (sym q.0, full_row now) })
-      (λ image p _. record {
-        names = record_key flags (full_record image) ∙ full_key flags image ∙ key_is flags image key p.1;
-        met = ap (λ b. cond b None (Some Data)) (full_agrees flags image);
-        leaves = refl;
-      })
-      (λ image now _ p q. record {
-        names = between_key flags image now p.0 q.0 ∙ key_is flags image key p.1;
-        met = ap (λ b. cond b None (Some Data)) (between_agrees flags image now);
-        leaves = ap Some (between_sets flags image now p.0 q.0 (key_is flags image key p.1 ∙ sym (key_is flags now key q.1)));
-      }) before after change is p q
+      (λ image p _. grind (arith, record_key flags (full_record image), full_key flags image, key_is flags image key p.1, full_agrees flags image))
+      (λ image now _ p q.
+      let same = between_sets flags image now p.0 q.0 (key_is flags image key p.1 ∙ sym (key_is flags now key q.1)) in
+      grind (arith, between_key flags image now p.0 q.0, key_is flags image key p.1, between_agrees flags image now, same)) before after change is p q
 
   -- ---- applied
 

@@ -1,7 +1,7 @@
 -- Each change of a blob is applied, omitted or in a skipped group, and no change and no group comes twice in a report.
 use Rattle.std.proofs.Common.{◌≡◌, ℕ, ◌+◌, ◌<◌, ◌≤◌, inl, inr, Bool, true, false, Some, None, Result, Ok, Err, List, [], ◌∷◌, ◌++◌, length, map, take, drop, get_or, refl, sym, ap, subst, ◌∙◌, arith, length-append, IfOk, is_some, sum, take-take}
 use Rattle.std.proofs.lemmas.List.Sums.{sum_by-take-drop, sum_by-take-le, sum_by_more, sum_by_push}
-use Rattle.cap_apply.proofs.Common.{AllByRecursion, drop_more, length-map, IfOk-weaker, map-map, Refusal, fields_cmp, get, Tables, TableEntries, taken, Contents, Changes, Patches, AppliedState, apply, change_applied, changes_applied, concluded, counted, group_applied, groups_applied, left_out, noted, nothing_applied, skipped, skipped_unless, with_row_in, ReportState, Requested, requested_of, is_made, conflict_of, key_record_of, key_values, row_after, target}
+use Rattle.cap_apply.proofs.Common.{AllByRecursion, drop_more, length-map, IfOk-weaker, map-map, Refusal, fields_cmp, get, Tables, TableEntries, taken, Contents, Changes, Patches, AppliedState, apply, change_applied, changes_applied, concluded, counted, group_applied, groups_applied, left_out, noted, nothing_applied, skipped, skipped_unless, with_row_in, Requested, requested_of, is_made, conflict_of, key_record_of, key_values, row_after, target}
 use Rattle.cap_apply.specs.declared.policy.Policy.{Policy}
 use Rattle.cap_apply.proofs.ChangeLemmas.{applied_at, has_target}
 use Rattle.cap_apply.proofs.GroupLemmas.{both_keep, changes_keep, changes_skipped, target_stays}
@@ -117,12 +117,7 @@ module _ {A : Type 0} (blob : Contents A) where
           → IfOk (changes_applied policy number group.table group.schema group.changes (skipped_unless there place state)) (IsTold (place + 1) (number + size group))
       by_target true there =
           IfOk-weaker (changes_applied policy number group.table group.schema group.changes state) (IsWithin policy group.table group.schema place (number + size group)) (IsTold (place + 1) (number + size group))
-          (λ left within. record {
-            counted = within.2.counted;
-            changes = within.2.changes;
-            groups = rise-wider 0 place (place + 1) left.report.skipped within.2.groups (omega arith);
-            apart = within.2.apart;
-          })
+          (λ left within. let wider = rise-wider 0 place (place + 1) left.report.skipped within.2.groups (omega arith) in grind (arith, within.2, wider))
           (changes_keep policy group.table group.schema (λ _. Unit {0}) (IsWithin policy group.table group.schema place) (λ n requested next _. change-told policy group.table group.schema place n requested next)
           group.changes number (number + size group) state refl (λ _ _ _. tt) (there, omega (arith, from), told))
       by_target false there =
