@@ -1,8 +1,6 @@
 -- The key that a change names, by the record that has it.
 use Rattle.std.proofs.Common.{arith, ◌≡◌, Bool, true, List, sym, ap, ◌∙◌}
-use Rattle.cap_changes.specs.declared.patch.Patch.TheVariants as patched
 use Rattle.cap_changes.specs.declared.record_kind.RecordKind.TheVariants as record_kinds
-use Rattle.cap_changes.specs.declared.row_change.RowChange.TheVariants as changed
 use Rattle.cap_changes.proofs.FitLemmas.{full_keyed}
 use Rattle.cap_apply.proofs.Common.{is_key, has_key, change_fits, patch_fits, patch_of, requirements, satisfy, Patch, RowChange, patch_of-fits, key_record_of, key_values}
 use Rattle.cap_apply.specs.Requested.{as_change, key_record}

@@ -1,6 +1,5 @@
 -- Names, keys and ids still rise, and rows are under their own keys, after any blob that fits its tables is applied.
 use Rattle.std.proofs.Common.{arith, ◌≡◌, ℕ, Bool, true, Option, Some, List, map, length, All, IfOk, IfSome}
-use Rattle.cap_changes.specs.declared.patch.Patch.TheVariants as patched
 use Rattle.cap_apply.proofs.Common.{AllByRecursion, All-map, All-weaker, Fields, fields_cmp, key_of, has_key, get, with_key, without, IsRising, TableState, Key, own-row, AreRising, EachRises, Tables, table_of, each-found, each-put, sorted-put, AreFitting, IsFitting, TableEntries, change_fits, patch_fits, Patch, Contents, Changes, Patches, AppliedState, apply, change_applied, nothing_applied, with_row, Requested, requested_by_change, requested_by_patch, requested_in, requested_of, FitsItsColumns, key_record_of, key_values, row_after, Policy}
 use Rattle.cap_apply.proofs.ChangeLemmas.{HasTarget, change_leaves}
 use Rattle.cap_apply.proofs.GroupLemmas.{AllAsked, groups_keep}

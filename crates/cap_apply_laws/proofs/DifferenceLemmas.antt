@@ -1,7 +1,6 @@
 -- All changes of a capture, one after another.
 use Rattle.std.proofs.Common.{◌≡◌, ℕ, suc, ◌+◌, Bool, cond, Option, Some, None, Ok, List, [], ◌∷◌, length, map, refl, sym, ap, ◌∙◌, arith}
 use Rattle.cap_database_laws.proofs.UndoneLemmas.{put-found}
-use Rattle.cap_changes.specs.declared.patch.Patch.TheVariants as patched
 use Rattle.cap_apply.proofs.Common.{length-map, map-map, bytes_cmp, bytes_cmp-Equal, Fields, fields_cmp, fields_cmp_total, fields_cmp-Equal, fields_eq, fields_eq_decides, IsOrdered, get, put_entry, ordered_put, ordered_take, put_entry-Updates, take_entry-Updates, TableState, Tables, table_of, RecordFields, patch_of, Patch, RowChange, other_order, AppliedState, and_then, changes_applied, counted, with_row, with_row_in, Requested, old_record, requested_by_change, requested_by_patch, AllApplied, AreApart, Difference, GivesRowsNow, HoldAfter, HoldBefore, IsDifference, OtherTables, RowsAfter, RowsBefore, requested_by_changes, requested_by_inverses, turned, conflict_of}
 use Rattle.cap_apply.specs.declared.policy.Policy.{Policy}
 use Rattle.cap_apply.proofs.ChangeLemmas.{same_columns, same_rest}

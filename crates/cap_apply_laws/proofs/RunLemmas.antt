@@ -8,7 +8,6 @@ use Rattle.cap_database.proofs.WritesLemmas.{get-find, get-set, sorted-set}
 use Rattle.cap_database_laws.proofs.BatchesLemmas.{batches-run}
 use Rattle.cap_database_laws.proofs.UndoneLemmas.{put-again, put-found}
 use Rattle.cap_changes.specs.declared.record_kind.RecordKind.TheVariants as record_kinds
-use Rattle.cap_changes.specs.declared.row_change.RowChange.TheVariants as changed
 use Rattle.cap_changes.specs.declared.patch.Patch.TheVariants as patched
 use Rattle.cap_changes.proofs.PatchLemmas.{update_fits}
 use Rattle.cap_apply.proofs.Common.{length-map, IfOk-at_ok, IfOk-weaker, bytes_cmp, Refusal, Fields, fields_cmp, fields_cmp_total, fields_eq_decides, key_fields, key_of, has_key, get, put_entry, take_entry, with_key, without, IsRising, TableState, Key, found-own, fields_same, changes_to, run, AreRising, Tables, Direct, Change, RecordFields, change_fits, patch_fits, patch_of, update_record, new_requirements, requirements, satisfy, RowChange, Patch, Contents, AppliedState, apply, change_applied, change_in, concluded, counted, left_out, noted, nothing_applied, with_row_in, FitsItsColumns, AreRun, IsMadeOrOmitted, deletes, directly, inserts, operations_of_change, operations_of_patch, other_fields, answer_to, is_made, made_anyway, Requested, requested_by_change, requested_by_patch, requested_of, conflict_of, key_record_of, key_values, new_row, row_after, set_fields, columns_fit, target}
