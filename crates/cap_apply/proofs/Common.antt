@@ -1,10 +1,9 @@
 -- The names that most proofs of this crate and of its laws cite, passed on from one place. Declares nothing.
 pub use Rattle.std.proofs.lemmas.List.{drop_more, length-map, length-replicate}
 pub use Rattle.std.proofs.lemmas.List.Elements.{All-cons, All-head, All-map, All-nil, All-tail, All-weaker}
-pub use Rattle.std.proofs.lemmas.Option.{same_Some}
-pub use Rattle.std.proofs.lemmas.Result.{IfOk-at_ok, IfOk-weaker, err_from_is_err_and, on_ok_weaker}
+pub use Rattle.std.proofs.lemmas.Result.{IfOk-at_ok, IfOk-weaker, on_ok_weaker}
 pub use Rattle.std.proofs.lemmas.Simd.{map-map}
-pub use Rattle.std.specs.Cmp.{Equal-is, eq_by_cmp_equiv, tied_itself}
+pub use Rattle.std.specs.Cmp.{eq_by_cmp_equiv, tied_itself}
 pub use Rattle.std.specs.List.{AllByRecursion, enumerate_from, list_all, list_any}
 pub use Rattle.cap_value.specs.Bytes.{bytes_cmp, bytes_cmp-Equal, bytes_eq}
 pub use Rattle.cap_value.specs.Memory.{AnswersUnlessMemory, LeavesUnlessMemory}
@@ -32,11 +31,11 @@ pub use Rattle.cap_database.specs.Read.{row_at}
 pub use Rattle.cap_database.specs.Tables.{AreRising, EachRises, Tables, schema_of, table_of}
 pub use Rattle.cap_database.specs.declared.cause.Cause.TheVariants.{Direct}
 pub use Rattle.cap_database.specs.declared.change.Change.{Change}
-pub use Rattle.cap_changes.proofs.ChangeLemmas.{full_fits, other_order}
-pub use Rattle.cap_changes.proofs.LeftLemmas.{drop_here, first_fits, others_fit, taken}
+pub use Rattle.cap_changes.proofs.ChangeLemmas.{other_order}
+pub use Rattle.cap_changes.proofs.LeftLemmas.{drop_here, taken}
 pub use Rattle.cap_changes.proofs.PassLemmas.{flags-cons, flags-past}
 pub use Rattle.cap_changes.proofs.PatchLemmas.{patch_of-fits}
-pub use Rattle.cap_changes.specs.Change.{IsKeyedRow, full_record, new_field, old_field}
+pub use Rattle.cap_changes.specs.Change.{IsKeyedRow, full_record}
 pub use Rattle.cap_changes.specs.Entries.{AllFit, AreFitting, IsFitting, TableEntries}
 pub use Rattle.cap_changes.specs.FieldRecord.{RecordFields}
 pub use Rattle.cap_changes.specs.Fits.{change_fits, patch_fits}
@@ -54,9 +53,8 @@ pub use Rattle.cap_apply.specs.Fitting.{FitsItsColumns}
 pub use Rattle.cap_apply.specs.Operations.{AreRun, IsMadeOrOmitted, deletes, directly, inserts, operations_of_change, operations_of_patch, other_fields, updates}
 pub use Rattle.cap_apply.specs.Policy.{answer_to, is_made, made_anyway}
 pub use Rattle.cap_apply.specs.Report.{ReportState, with_omitted}
-pub use Rattle.cap_apply.specs.Requested.{Requested, as_change, old_record, requested_by_change, requested_by_patch, requested_in, requested_of}
-pub use Rattle.cap_apply.specs.Row.{assigned_from, conflict_of, has_old_value, has_old_values, key_record_of, key_values, missed, new_row, row_after, set_fields}
+pub use Rattle.cap_apply.specs.Requested.{Requested, old_record, requested_by_change, requested_by_patch, requested_in, requested_of}
+pub use Rattle.cap_apply.specs.Row.{assigned_from, conflict_of, has_old_values, key_record_of, key_values, missed, new_row, row_after, set_fields}
 pub use Rattle.cap_apply.specs.Target.{columns_fit, target}
 pub use Rattle.cap_apply.specs.declared.conflict.ConflictKind.{ConflictKind}
-pub use Rattle.cap_apply.specs.declared.conflict.ConflictKind.TheVariants.{Data}
 pub use Rattle.cap_apply.specs.declared.policy.Policy.{Policy}
