@@ -29,5 +29,7 @@ module _ {A : Type 0} where
       let joined = λ (first : OutcomeState A). run-append tables batch (accepted_ops first.database batches) first (batches_left first.database batches) in
       grind (arith, others, joined)
 
-  pub refused-left : (tables : Tables A) (batch : List (Op A)) (batches : List (List (Op A))) (refused : RefusedAt) → run tables batch ≡ Err refused → batches_left tables (batch ∷ batches) ≡ batches_left tables batches
-  refused-left tables batch batches refused is = ap (λ (r : Result (OutcomeState A) RefusedAt). batch_then tables r (λ next. batches_left next batches)) is
+  pub refused_left : (tables : Tables A) (batch : List (Op A)) (batches : List (List (Op A))) (refused : RefusedAt) → run tables batch ≡ Err refused → batches_left tables (batch ∷ batches) ≡ batches_left tables batches
+  refused_left tables batch batches refused is = ap (λ (r : Result (OutcomeState A) RefusedAt). batch_then tables r (λ next. batches_left next batches)) is
+
+pub ruleset batches_accepted = (batches-run)

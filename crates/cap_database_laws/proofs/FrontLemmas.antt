@@ -7,6 +7,8 @@ use Rattle.cap_database.specs.Outcome.{OutcomeState}
 use Rattle.cap_database.specs.Tables.{Tables}
 use Rattle.cap_database.specs.declared.op.Op.{Op}
 use Rattle.cap_database.specs.declared.refused_at.RefusedAt.{RefusedAt}
+use Rattle.cap_database.proofs.RunLemmas.{run-push, run-refused}
+use Rattle.cap_database.proofs.StayLemmas.{run-carries}
 
 module _ {A : Type 0} where
   -- one more operation in front, which is accepted
@@ -36,3 +38,6 @@ module _ {A : Type 0} where
   pub first_refused : (tables : Tables A) (ops : List (Op A)) (refused : RefusedAt) → run tables ops ≡ Err refused → IsFirstRefused tables ops refused
   first_refused tables [] refused is = cc
   first_refused tables (op ∷ ops) refused is = first_of tables op ops refused (λ next e. first_refused next ops e) (step tables op) refl is
+
+-- lists of operations, one more at a time
+pub ruleset run_laws = (run-push, run-refused, run-carries)

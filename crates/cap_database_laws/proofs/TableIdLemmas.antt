@@ -96,3 +96,6 @@ module _ {A : Type 0} where
 
   pub delete-once : (t : TableState A) (name : RowRef A) → Once t (delete_row t name)
   delete-once t name = let goes = without-once t name in grind (arith, goes)
+
+-- what ids owe to each operation
+pub ruleset ids_once = (insert-once, update-once, delete-once, same-once, once-then)
