@@ -13,8 +13,6 @@ use Rattle.std.specs.contracts.hash.FoldHasher as FoldHasher
 use Rattle.indexmap.specs.contracts.map.IndexMap as IndexMap
 use Rattle.indexmap.specs.contracts.columns.Columns as Columns
 use Rattle.indexmap.specs.contracts.index_table.IndexTable as IndexTable
-use Rattle.indexmap.specs.contracts.index_table.Bucket as Bucket
-use Rattle.indexmap.specs.contracts.index_table.group.Group as Group
 use Rattle.cap_value.specs.declared.memory.AllocHandle as handle
 use Rattle.cap_value.proofs.name.Name.TheSendSync as name
 use Rattle.cap_row.proofs.key.Key.TheSendSync as key
@@ -29,24 +27,12 @@ use Rattle.cap_session.specs.contracts.record.Record as Record
 use denote.Struct.Tuple.{Tuple}
 use Rattle.std.proofs.Common.{◌∷◌, []}
 
-bucket_sync : IsSync Bucket.the_row
-bucket_sync = search sendable depth 20
-
-group_sync : IsSync Group.the_row
-group_sync = search sendable depth 20
-
-bucket_send : IsSend Bucket.the_row
-bucket_send = search sendable depth 20
-
-group_send : IsSend Group.the_row
-group_send = search sendable depth 20
-
 module _ (A : RattleType) (a : allocator.Ghosts A.Denot) (al : IsSend A) (ay : IsSync A) (frees : Frees a a.dealloc_token) where
   table_send : IsSend (IndexTable.the_row A a)
-  table_send = search (bucket_send, group_send, sendable, crosses) depth 40
+  table_send = search (sendable, crosses) depth 40
 
   table_sync : IsSync (IndexTable.the_row A a)
-  table_sync = search (bucket_sync, group_sync, sendable, crosses) depth 40
+  table_sync = search (sendable, crosses) depth 40
 
   module _ (K V : RattleType) where
     columns_send : IsSend K → IsSend V → IsSend (Columns.the_row K V A a)

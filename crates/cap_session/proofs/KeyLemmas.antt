@@ -1,5 +1,5 @@
 -- A second change of a key adds no touch.
-use Rattle.std.proofs.Common.{◌≡◌, ℕ, Bool, true, false, cond, Option, Some, None, List, [], ◌∷◌, ◌++◌, ◌&&◌, ◌||◌, refl, ap, ap₂, ◌∙◌}
+use Rattle.std.proofs.Common.{arith, ◌≡◌, ℕ, Bool, true, false, cond, Option, Some, None, List, [], ◌∷◌, ◌++◌, ◌||◌, refl, ap, ap₂, ◌∙◌}
 use Rattle.std.specs.List.{cons_option}
 use Rattle.std.specs.Option.{option_map}
 use Rattle.std.proofs.Math.Bool.{or-true}
@@ -14,19 +14,14 @@ use Rattle.cap_session.specs.declared.record.Record.{Record}
 use Rattle.cap_session.specs.declared.rule.AutomaticRule.{AutomaticRule}
 use Rattle.cap_session.specs.Recording.{attach_by, is_cascade, record_commit, touch_of, touch_tables}
 use Rattle.cap_session.specs.Records.{Records, Touch, record_after, touch, with_touches}
-use Rattle.cap_session.specs.Session.{AttachedTables, SessionState, accepts_by, attach, is_listed}
+use Rattle.cap_session.specs.Session.{AttachedTables, SessionState, attach, is_listed}
 use Rattle.cap_session.specs.Sessions.{NumberedSessions, is_one_of, record_commit_each}
-use Rattle.cap_session.proofs.RecordLemmas.{and_twice, found-touched}
-
-and_same : (b : Bool) → (b && b) ≡ b
-and_same true = refl
-and_same false = refl
+use Rattle.cap_session.proofs.RecordLemmas.{found-touched}
 
 module _ {A : Type 0} where
   after_twice : (found : Option (Record A)) (image other : Option (Fields A)) (indirect : Bool) → record_after (Some (record_after found image indirect)) other indirect ≡ record_after found image indirect
-  after_twice None image other indirect = ap (λ b. record { image = image; indirect = b }) (and_same indirect)
-  after_twice (Some r) image other indirect =
-      ap (λ b. record { image = r.image; indirect = b }) (and_twice r.indirect indirect indirect ∙ ap (λ b. r.indirect && b) (and_same indirect))
+  after_twice None image other indirect = grind arith
+  after_twice (Some r) image other indirect = grind arith
 
   -- a touch again, whatever its image
   touch-twice : (records : Records A) (t : Touch A) (other : Option (Fields A)) → touch (touch records t) (record t { image = other }) ≡ touch records t
@@ -41,18 +36,10 @@ module _ {A : Type 0} where
   listed-last name (t ∷ ts) = ap (λ b. bytes_eq name t.0 || b) (listed-last name ts) ∙ or-true (bytes_eq name t.0)
 
   listed-attached : (name : List ℕ) (tables : AttachedTables A) → is_listed name (attach name tables) ≡ true
-  listed-attached name tables =
-      elim (is_listed name tables) as (λ b. is_listed name tables ≡ b → is_listed name (cond b tables (tables ++ (name, []) ∷ [])) ≡ true) [
-        | true ↦ λ there. there
-        | false ↦ λ _. listed-last name tables
-      ] refl
+  listed-attached name tables = grind (arith, listed-last name tables)
 
   attach-twice : (rule : AutomaticRule A) (name : List ℕ) (tables : AttachedTables A) → attach_by rule (attach_by rule tables name) name ≡ attach_by rule tables name
-  attach-twice rule name tables =
-      elim (accepts_by rule name) as (λ b. cond b (attach name (cond b (attach name tables) tables)) (cond b (attach name tables) tables) ≡ cond b (attach name tables) tables) [
-        | true ↦ ap (λ b. cond b (attach name tables) (attach name tables ++ (name, []) ∷ [])) (listed-attached name tables)
-        | false ↦ refl
-      ]
+  attach-twice rule name tables = grind (arith, listed-attached name tables)
 
   module _ (change : Change A) (row : Option (Fields A)) where
     abbrev later : Change A

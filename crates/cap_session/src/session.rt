@@ -183,6 +183,7 @@ impl<A: AllocHandle> Session<A> {
     }
 
     // Adds what the changes of one commit make of the session at this index.
+    #[tactic(auto, using(crate::proofs::AddedLemmas::adds_nothing))]
     pub(crate) fn reserve(
         &mut self,
         place: usize,
@@ -247,6 +248,7 @@ impl<A: AllocHandle> Session<A> {
     }
 
     // Puts the records of the table at this index in place.
+    #[tactic(auto, using(crate::proofs::PlaceLemmas::replacing))]
     pub(crate) fn replace(&mut self, table: usize, records: Records<A>)
         ensures { self.new ≡ record self.old {
           tables = changed_at table (with_records records) self.old.tables;

@@ -234,6 +234,7 @@ fn reserve_each<A: AllocHandle>(
 }
 
 // What the changes of one commit add to the session at this index, unless it is a quiet one.
+#[tactic(auto, using(crate::proofs::AddedLemmas::adds_nothing))]
 fn reserve_unless<A: AllocHandle>(
     numbered: &mut (u64, Session<A>),
     place: usize,

@@ -37,6 +37,7 @@ pub(crate) fn copy_of<A: AllocHandle>(
 }
 
 // Whether the rule attaches a table of these changes.
+#[tactic(auto, using(crate::proofs::TableLemmas::attaching))]
 pub(crate) fn is_any_new<A: AllocHandle>(
     tables: &Tables<A>,
     rule: &AutomaticRule<A>,
@@ -56,6 +57,7 @@ pub(crate) fn is_any_new<A: AllocHandle>(
 }
 
 // Attaches those tables of these changes that the rule accepts.
+#[tactic(auto, using(crate::proofs::TableLemmas::attaching))]
 pub(crate) fn attach_by_rule<A: AllocHandle>(
     alloc: A,
     tables: &mut Tables<A>,
@@ -71,6 +73,7 @@ pub(crate) fn attach_by_rule<A: AllocHandle>(
 }
 
 // Attaches the table of this name, where it is new and the rule accepts it.
+#[tactic(auto, using(crate::proofs::TableLemmas::attaching))]
 pub(crate) fn attach_by<A: AllocHandle>(
     alloc: A,
     tables: &mut Tables<A>,
@@ -92,6 +95,7 @@ fn is_new<A: AllocHandle>(tables: &Tables<A>, rule: &AutomaticRule<A>, name: &Na
     !is_listed(tables, name) && rule.accepts(name)
 }
 
+#[tactic(auto, using(crate::proofs::TableLemmas::listed))]
 fn is_listed<A: AllocHandle>(tables: &Tables<A>, name: &Name<A>) -> bool
     ensures { result ≡ is_listed name.now tables.now.entries }
 {
@@ -110,6 +114,7 @@ fn push<A: AllocHandle>(alloc: A, tables: &mut Tables<A>, name: &Name<A>) -> Res
 }
 
 // The touches by the changes of a commit.
+#[tactic(auto, using(crate::proofs::TableLemmas::touching))]
 pub(crate) fn touch_changed<A: AllocHandle>(
     tables: &mut Tables<A>,
     indirect: bool,
@@ -124,6 +129,7 @@ pub(crate) fn touch_changed<A: AllocHandle>(
 }
 
 // The touch by a change, if its row has a key.
+#[tactic(auto, using(crate::proofs::TableLemmas::touching))]
 fn touch_by<A: AllocHandle>(
     tables: &mut Tables<A>,
     indirect: bool,
@@ -143,6 +149,7 @@ fn touch_by<A: AllocHandle>(
 }
 
 // The touches by the differences of the table of this name.
+#[tactic(auto, using(crate::proofs::TableLemmas::touching))]
 pub(crate) fn touch_found<A: AllocHandle>(
     tables: &mut Tables<A>,
     indirect: bool,

@@ -4,7 +4,7 @@ use Rattle.cap_row.specs.Key.{fields_cmp}
 use Rattle.cap_tree.specs.Tree.{put_entry}
 use Rattle.cap_session.specs.Records.{Records, Touch, touch}
 use Rattle.cap_session.proofs.AddedLemmas.{makes-push, makes-stay}
-use Rattle.cap_session.proofs.DeltaLemmas.{changed-not, value-same}
+use Rattle.cap_session.proofs.PlaceLemmas.{changed-not, value-same}
 use Rattle.cap_session.proofs.delta.reserve_record.Goals as goal
 
 pub returns-in_ok-push-clause-touched : goal.returns-in_ok-push-clause-touched

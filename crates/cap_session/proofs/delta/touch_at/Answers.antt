@@ -3,7 +3,7 @@ use Rattle.std.proofs.lemmas.Result.{on_ok_weaker}
 use Rattle.std.specs.Option.{option_copied}
 use Rattle.cap_session.specs.Records.{Records, Touch, touch}
 use Rattle.cap_session.proofs.AddedLemmas.{makes-set}
-use Rattle.cap_session.proofs.DeltaLemmas.{set-same}
+use Rattle.cap_session.proofs.PlaceLemmas.{set-same}
 use Rattle.cap_session.proofs.delta.touch_at.Goals as goal
 
 pub returns-in-Some-clause-touched : goal.returns-in-Some-clause-touched

@@ -5,7 +5,7 @@ use Rattle.cap_session.specs.Code.Added.{Makes}
 use Rattle.cap_session.specs.Recording.{touch_table, touches_of}
 use Rattle.cap_session.specs.Records.{Touch}
 use Rattle.cap_session.proofs.AddedLemmas.{makes-none}
-use Rattle.cap_session.proofs.NoteLemmas.{told-none, told-one, touch-no}
+use Rattle.cap_session.proofs.TableLemmas.{told-none, told-one, touch-no}
 use Rattle.cap_session.proofs.delta.touch_by.Goals as goal
 
 pub returns-in-Some-clause-touched : goal.returns-in-Some-clause-touched

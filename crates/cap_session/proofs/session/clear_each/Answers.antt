@@ -2,7 +2,7 @@ use Rattle.std.proofs.Common.{◌<◌, ◌≤◌, ◌++◌, add-one, ap, ap₂, 
 use Rattle.std.proofs.lemmas.List.{append-nil, drop_all, take_all}
 use Rattle.indexmap.specs.Layout.{set_value_at, length-set_value_at}
 use Rattle.cap_session.specs.Session.{forget}
-use Rattle.cap_session.proofs.DeltaLemmas.{forget-step}
+use Rattle.cap_session.proofs.PlaceLemmas.{forget-step}
 use Rattle.cap_session.proofs.session.clear_each.Goals as goal
 
 pub loop-place-preserved : goal.loop-place-preserved

@@ -1,7 +1,6 @@
 use Rattle.std.proofs.Common.{arith, ap, ◌∙◌}
 use Rattle.cap_session.specs.Delta.{with_tables}
-use Rattle.cap_session.proofs.DeltaLemmas.{last-beyond, last-set}
-use Rattle.cap_session.proofs.ListLemmas.{mapped-push}
+use Rattle.cap_session.proofs.PlaceLemmas.{last-beyond, last-set, mapped-push}
 use Rattle.cap_session.proofs.sessions.publish_renewed.Goals as goal
 
 pub loop-place-preserved-then-place-len : goal.loop-place-preserved-then-place-len

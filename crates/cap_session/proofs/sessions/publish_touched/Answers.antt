@@ -1,7 +1,7 @@
 use Rattle.std.proofs.Common.{ℕ, arith, ap, ◌∙◌}
 use Rattle.cap_session.specs.Delta.{with_touched}
 use Rattle.cap_session.specs.Records.{Records}
-use Rattle.cap_session.proofs.DeltaLemmas.{last-beyond, last-set}
+use Rattle.cap_session.proofs.PlaceLemmas.{last-beyond, last-set}
 use Rattle.cap_session.proofs.sessions.publish_touched.Goals as goal
 
 pub loop-place-preserved-then-place-len : goal.loop-place-preserved-then-place-len

@@ -1,6 +1,6 @@
 use Rattle.std.proofs.Common.{◌<◌, arith, get_or, length, map, refl, ap, ◌∙◌}
-use Rattle.cap_session.proofs.DeltaLemmas.{changed-not, set-changed}
-use Rattle.cap_session.proofs.EachLemmas.{all-added, none-added, one-added}
+use Rattle.cap_session.proofs.PlaceLemmas.{changed-not, set-changed}
+use Rattle.cap_session.proofs.AddedLemmas.{all-added, none-added, one-added}
 use Rattle.cap_session.proofs.sessions.reserve_each.Goals as goal
 
 pub loop-place-init : goal.loop-place-init

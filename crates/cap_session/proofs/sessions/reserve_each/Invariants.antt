@@ -1,5 +1,5 @@
 use Rattle.std.proofs.Common.{◌≡◌}
-use Rattle.cap_session.proofs.EachLemmas.{AreAdded}
+use Rattle.cap_session.proofs.AddedLemmas.{AreAdded}
 use Rattle.cap_session.proofs.sessions.reserve_each.Given as goal
 
 abbrev pub invariant-loop-place : goal.invariant-loop-place

@@ -3,8 +3,8 @@ use Rattle.std.proofs.lemmas.Result.{on_ok_weaker}
 use Rattle.std.specs.Map.{keys_of}
 use Rattle.std.specs.Option.{option_copied}
 use Rattle.cap_session.specs.Records.{Touch, touch}
-use Rattle.cap_session.proofs.DeltaLemmas.{set-value, value-same}
-use Rattle.cap_session.proofs.NoteLemmas.{noted, noted-none}
+use Rattle.cap_session.proofs.PlaceLemmas.{set-value, value-same}
+use Rattle.cap_session.proofs.TableLemmas.{noted, noted-none}
 use Rattle.cap_session.proofs.tables.touch_in.Goals as goal
 
 pub returns-in-Some : goal.returns-in-Some

@@ -1,6 +1,6 @@
 use Rattle.std.proofs.Common.{◌∙◌, None, Some, arith, ap, sym, length}
 use Rattle.std.specs.Option.{option_copied}
-use Rattle.cap_session.proofs.LatestLemmas.{counted}
+use Rattle.cap_session.proofs.RecordLemmas.{counted}
 use Rattle.cap_session.proofs.records.Records.count.Goals as goal
 
 pub returns-in-None-get-clause-count : goal.returns-in-None-get-clause-count

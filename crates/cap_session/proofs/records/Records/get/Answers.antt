@@ -1,7 +1,7 @@
 use Rattle.std.proofs.Common.{◌∙◌, ap, sym}
 use Rattle.cap_row.specs.Key.{fields_cmp}
 use Rattle.cap_tree.specs.Tree.{get}
-use Rattle.cap_session.proofs.LatestLemmas.{get_latest, get_below, get_above, get_past}
+use Rattle.cap_session.proofs.RecordLemmas.{get_above, get_below, get_latest, get_past}
 use Rattle.cap_session.proofs.records.Records.get.Goals as goal
 
 pub returns-in-Equal-clause-found : goal.returns-in-Equal-clause-found

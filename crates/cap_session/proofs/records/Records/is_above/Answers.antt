@@ -2,7 +2,7 @@ use Rattle.std.proofs.Common.{sym, subst, ◌∙◌}
 use Rattle.cap_row.specs.Key.{fields_cmp}
 use Rattle.cap_tree.specs.Shape.{EachBelow}
 use Rattle.cap_session.specs.Records.{Records}
-use Rattle.cap_session.proofs.LatestLemmas.{above_both, above_last}
+use Rattle.cap_session.proofs.RecordLemmas.{above_both, above_last}
 use Rattle.cap_session.proofs.records.Records.is_above.Goals as goal
 
 pub returns-then-self : goal.returns-then-self

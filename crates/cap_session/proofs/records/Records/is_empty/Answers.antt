@@ -1,5 +1,5 @@
 use Rattle.std.proofs.Common.{◌∙◌}
-use Rattle.cap_session.proofs.LatestLemmas.{latest_some}
+use Rattle.cap_session.proofs.RecordLemmas.{latest_some}
 use Rattle.cap_session.proofs.records.Records.is_empty.Goals as goal
 
 pub returns-in-Some : goal.returns-in-Some

@@ -1,7 +1,7 @@
 use Rattle.std.proofs.Common.{ap, ◌∙◌}
 use Rattle.std.proofs.lemmas.Result.{on_ok_weaker}
 use Rattle.cap_session.specs.Recording.{record_diff}
-use Rattle.cap_session.proofs.NoteLemmas.{diff-none}
+use Rattle.cap_session.proofs.TableLemmas.{diff-none}
 use Rattle.cap_session.proofs.session.Session.attach.Goals as goal
 
 pub returns-clause-attached : goal.returns-clause-attached

@@ -3,15 +3,9 @@ use Rattle.std.proofs.lemmas.Result.{on_ok_weaker}
 use Rattle.cap_session.specs.declared.delta.Delta.{Delta}
 use Rattle.cap_session.specs.Recording.{record_commit, touch_tables}
 use Rattle.cap_session.specs.Session.{AttachedTables, SessionState}
-use Rattle.cap_session.proofs.EachLemmas.{adds-all, adds-nothing, adds-own, commits, passes}
-use Rattle.cap_session.proofs.ListLemmas.{mapped-push}
+use Rattle.cap_session.proofs.AddedLemmas.{adds-all, adds-own, commits}
+use Rattle.cap_session.proofs.PlaceLemmas.{mapped-push}
 use Rattle.cap_session.proofs.session.Session.reserve.Goals as goal
-
-pub returns-then-not-self-clause-added : goal.returns-then-not-self-clause-added
-returns-then-not-self-clause-added g c =
-    let now = c.args.self.now in
-    adds-nothing c.args.place now (record_commit c.args.changes.now now) c.args.delta.now
-    (passes c.args.changes.now now (sym (ap (λ (s : SessionState g.row.A.Denot). s.enabled) c.self.view_is) ∙ c.if-not-self.true))
 
 pub returns-then-is_any_new-clause-added : goal.returns-then-is_any_new-clause-added
 returns-then-is_any_new-clause-added g c =

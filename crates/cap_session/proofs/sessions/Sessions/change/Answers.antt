@@ -1,13 +1,11 @@
-use Rattle.std.proofs.Common.{ℕ, arith, sym, ap, ◌∙◌}
+use Rattle.std.proofs.Common.{arith, ℕ, sym, ap, ◌∙◌}
 use Rattle.cap_session.specs.Session.{SessionState, changed_by}
-use Rattle.cap_session.proofs.DeltaLemmas.{set-changed}
-use Rattle.cap_session.proofs.NumberLemmas.{has_number, made-first, made-none}
-use Rattle.cap_session.proofs.PlaceLemmas.{is-first, is-none, place-within}
+use Rattle.cap_session.proofs.PlaceLemmas.{has_number, is-first, is-none, made-first, made-none, set-changed, place_within}
 use Rattle.cap_session.proofs.sessions.Sessions.change.Goals as goal
 
 pub index_mut-requires : goal.index_mut-requires
 index_mut-requires g c =
-    let lt = place-within (has_number c.args.number) c.self.inside.sessions.items c.in-Some.place (rw c.deref.ensures.value at (sym c.place_of.ensures ∙ c.in-Some.is)) in
+    let lt = place_within (has_number c.args.number) c.self.inside.sessions.items c.in-Some.place (rw c.deref.ensures.value at (sym c.place_of.ensures ∙ c.in-Some.is)) in
     omega (arith, lt, c.self.inside.sessions.ok)
 
 pub returns-in-Some : goal.returns-in-Some

@@ -1,12 +1,11 @@
-use Rattle.std.proofs.Common.{ℕ, Some, arith, sym, ap, ◌∙◌}
+use Rattle.std.proofs.Common.{arith, ℕ, Some, sym, ap, ◌∙◌}
 use Rattle.cap_session.specs.Session.{SessionState}
-use Rattle.cap_session.proofs.NumberLemmas.{found-first, found-none, has_number}
-use Rattle.cap_session.proofs.PlaceLemmas.{is-first, is-none, place-within}
+use Rattle.cap_session.proofs.PlaceLemmas.{found-first, found-none, has_number, is-first, is-none, place_within}
 use Rattle.cap_session.proofs.sessions.Sessions.get.Goals as goal
 
 pub index-requires : goal.index-requires
 index-requires g c =
-    let lt = place-within (has_number c.args.number) c.self.inside.sessions.items c.in_ok-place.place (rw c.deref.ensures.value at (sym c.place_of.ensures ∙ c.in_ok-place.was)) in
+    let lt = place_within (has_number c.args.number) c.self.inside.sessions.items c.in_ok-place.place (rw c.deref.ensures.value at (sym c.place_of.ensures ∙ c.in_ok-place.was)) in
     omega (arith, lt, c.self.inside.sessions.ok)
 
 pub returns-in_err-place : goal.returns-in_err-place

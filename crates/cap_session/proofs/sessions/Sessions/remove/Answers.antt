@@ -1,11 +1,10 @@
 use Rattle.std.proofs.Common.{arith, sym, ◌∙◌}
-use Rattle.cap_session.proofs.NumberLemmas.{has_number, without-first, without-none}
-use Rattle.cap_session.proofs.PlaceLemmas.{is-first, is-none, place-within}
+use Rattle.cap_session.proofs.PlaceLemmas.{has_number, is-first, is-none, without-first, without-none, place_within}
 use Rattle.cap_session.proofs.sessions.Sessions.remove.Goals as goal
 
 pub remove-requires : goal.remove-requires
 remove-requires g c =
-    let lt = place-within (has_number c.args.number) c.self.inside.sessions.items c.in-Some.place (rw c.deref.ensures.value at (sym c.place_of.ensures ∙ c.in-Some.is)) in
+    let lt = place_within (has_number c.args.number) c.self.inside.sessions.items c.in-Some.place (rw c.deref.ensures.value at (sym c.place_of.ensures ∙ c.in-Some.is)) in
     omega (arith, lt, c.self.inside.sessions.ok)
 
 pub returns-in-Some : goal.returns-in-Some

@@ -3,7 +3,7 @@ use Rattle.std.specs.Option.{option_map}
 use Rattle.std.proofs.lemmas.Result.{IfOk-weaker}
 use Rattle.cap_session.specs.Recording.{record_diff}
 use Rattle.cap_session.specs.Sessions.{session_numbered, with_session_if}
-use Rattle.cap_session.proofs.NoteLemmas.{diff-none}
+use Rattle.cap_session.proofs.TableLemmas.{diff-none}
 use Rattle.cap_session.proofs.sessions.Sessions.reserve_attach.Goals as goal
 
 pub returns-clause-added : goal.returns-clause-added
