@@ -8,7 +8,6 @@ use Rattle.std.proofs.lemmas.Cmp.{nat_cmp_total}
 use Rattle.cap_value.specs.declared.refusal.Refusal.{Refusal}
 use Rattle.cap_row.specs.Fields.{Fields}
 use Rattle.cap_row.specs.Key.{fields_cmp, fields_cmp_total, key_of}
-use Rattle.cap_row.specs.Row.{row_with}
 use Rattle.cap_tree.specs.Tree.{get}
 use Rattle.cap_table.proofs.TableLemmas.{fields_same, was_given}
 use Rattle.cap_table.specs.Operation.{row_of}
@@ -21,7 +20,7 @@ use Rattle.cap_database.specs.Assigned.{Assigned}
 use Rattle.cap_database.specs.Operation.{act}
 use Rattle.cap_database.specs.declared.op.Action.{Action}
 use Rattle.cap_database.specs.declared.op.Action.TheVariants.{Insert, Update, Delete}
-use Rattle.cap_database.proofs.PlanLemmas.{Plan, act-planned, applied, found_by, id_writes, if_left, is_taken, key_given, moved_plan, next_after, plan_of, planned}
+use Rattle.cap_database.proofs.PlanLemmas.{Plan, act-planned, applied, found_by, id_writes, if_left, is_taken, key_given, next_after, plan_of, planned}
 use Rattle.cap_database.proofs.WritesLemmas.{get-sets, sets, sets-commute}
 
 weaker : {X : Type 0} (P Q : X → Type 0) → ((x : X) → P x → Q x) → (xs : List X) → AllByRecursion P xs → AllByRecursion Q xs
@@ -41,13 +40,10 @@ module _ {A : Type 0} where
   spared left (Ok plan) = if is_some plan.fresh then if_left left plan else Ok plan
   spared left (Err why) = Err why
 
-  moved-spared : (name : RowRef A) (row : Fields A) (key : Option (Fields A)) (taken left : Bool) → moved_plan name row key taken left ≡ spared left (moved_plan name row key taken true)
-  moved-spared name row key taken left = grind arith
-
   plan-spared : (schema : List Bool) (a : Action A) (found : Option (Fields A)) (taken left : Bool) → plan_of schema a found taken left ≡ spared left (plan_of schema a found taken true)
   plan-spared schema (Insert row) found taken left = grind arith
   plan-spared schema (Update name fields) None taken left = grind arith
-  plan-spared schema (Update name fields) (Some row) taken left = let moved = moved-spared name (row_with fields row) (key_of schema (row_with fields row)) taken left in grind (arith, moved)
+  plan-spared schema (Update name fields) (Some row) taken left = grind arith
   plan-spared schema (Delete name) found taken left = grind arith
 
   act-spared : (t : TableState A) (a : Action A) → act t a ≡ planned t (spared (nat_lt t.next_id (2 ^ 63)) (whole t a))
@@ -61,7 +57,7 @@ module _ {A : Type 0} where
   was_planned t after a ok = planned-as t after (whole t a) (nat_lt t.next_id (2 ^ 63)) (sym (act-spared t a) ∙ ok)
 
   is_accepted : (t : TableState A) (a : Action A) (p : Plan A) → whole t a ≡ Ok p → Needs t.next_id p → act t a ≡ Ok (applied t p)
-  is_accepted t a p is left = let acts = act-spared t a in grind (arith, acts, is, left)
+  is_accepted t a p is left = grind (arith, act-spared t a, is, left)
 
   -- ---- whatever is written is written at a row that the operation speaks of
 

@@ -2,4 +2,3 @@ pub mod Apart
 pub mod Batches
 pub mod Front
 pub mod Ids
-pub mod TableIds

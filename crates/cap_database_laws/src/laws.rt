@@ -5,7 +5,6 @@ ghost use Rattle.cap_row.specs.Fields.{Fields};
 ghost use Rattle.cap_row.specs.Key.{key_of};
 ghost use Rattle.cap_value.specs.declared.value.Value.{Value};
 ghost use Rattle.cap_tree.specs.Tree.{get};
-ghost use Rattle.cap_database_laws.specs.TableIds.{GivesIdsOnce};
 ghost use Rattle.cap_table.specs.Operation.{delete_row, insert_row, update_row, without};
 ghost use Rattle.cap_table.specs.Table.{TableState};
 ghost use Rattle.cap_table.specs.declared.row_ref.RowRef.{RowRef};
@@ -16,7 +15,7 @@ ghost use Rattle.cap_database_laws.specs.Apart.{AreApart, Commute, CommuteIn, ro
 ghost use Rattle.cap_database_laws.specs.Batches.{accepted_ops, batches_left};
 ghost use Rattle.cap_database.specs.Carried.{CarryFirstRows};
 ghost use Rattle.cap_database_laws.specs.Front.{IsFirstRefused};
-ghost use Rattle.cap_database_laws.specs.Ids.{GiveIdsOnce};
+ghost use Rattle.cap_database_laws.specs.Ids.{GiveIdsOnce, GivesIdsOnce};
 ghost use Rattle.cap_database.specs.Operation.{act, changes, run, step};
 ghost use Rattle.cap_database.specs.Outcome.{OutcomeState};
 ghost use Rattle.cap_database.specs.Tables.{AreRising, Tables, table_of};
@@ -28,14 +27,14 @@ ghost use Rattle.cap_database.specs.declared.refused_at.RefusedAt.{RefusedAt};
 use cap_value::AllocHandle;
 
 /// An insert, and then a delete of the new row's key, leave the table as it was.
-#[tactic(auto, using(crate::proofs::TableLawLemmas::insert_then_delete))]
+#[tactic(auto, using(crate::proofs::IdLemmas::insert_then_delete))]
 pub fn delete_undoes_insert<A: AllocHandle>()
     ensures { (before after : TableState A) (row key : Fields A) → key_of before.schema row ≡ Some key →
         insert_row before row ≡ Ok after → delete_row after (RowRef.Key key) ≡ Ok before }
 {}
 
 /// A new row without a key gets the next id, which is never the next one again.
-#[tactic(auto, using(crate::proofs::TableLawLemmas::next_given))]
+#[tactic(auto, using(crate::proofs::IdLemmas::next_given))]
 pub fn insert_takes_next_id<A: AllocHandle>()
     ensures { (before after : TableState A) (row : Fields A) → key_of before.schema row ≡ None
         → insert_row before row ≡ Ok after →
@@ -45,7 +44,7 @@ pub fn insert_takes_next_id<A: AllocHandle>()
 /// Ids are never given again: the next id never falls, a row under an id that no row had stands under one
 /// that was not given before and is now, and an id that was given and whose row is gone names no row ever
 /// after. It holds from each state to the next, and so over any number of operations.
-#[tactic(auto, using(crate::proofs::TableIdLemmas::ids_once))]
+#[tactic(auto, using(crate::proofs::IdLemmas::ids_once))]
 pub fn ids_are_given_once<A: AllocHandle>()
     ensures insert { (table : TableState A) (row : Fields A) →
         IfOk (insert_row table row) (GivesIdsOnce table) }
@@ -60,7 +59,7 @@ pub fn ids_are_given_once<A: AllocHandle>()
 
 /// Where the operations in front are accepted and the next one is refused on what they leave, the list is
 /// refused at its place, whatever follows.
-#[tactic(auto, using(crate::proofs::FrontLemmas::run_laws))]
+#[tactic(auto, using(crate::proofs::BatchesLemmas::run_laws))]
 pub fn first_refusal_ends_the_list<A: AllocHandle>()
     ensures { (tables : Tables A) (front back : List (Op A)) (op : Op A)
         (left : OutcomeState A) (why : Refusal) →
@@ -70,7 +69,7 @@ pub fn first_refusal_ends_the_list<A: AllocHandle>()
 
 /// A list that is refused has operations in front of the refused one that are all accepted, and leave what
 /// they leave alone; on that the one at the index answered is refused.
-#[tactic(auto, using(crate::proofs::FrontLemmas::first_refused))]
+#[tactic(auto, using(crate::proofs::BatchesLemmas::first_refused))]
 pub fn operations_in_front_are_accepted<A: AllocHandle>()
     ensures { (tables : Tables A) (ops : List (Op A)) (refused : RefusedAt) → run tables ops ≡ Err refused →
         IsFirstRefused tables ops refused }
@@ -78,6 +77,7 @@ pub fn operations_in_front_are_accepted<A: AllocHandle>()
 
 /// Two operations on different tables, of which the second is accepted after the first, are accepted the
 /// other way round as well and leave the same database.
+#[tactic(auto, using(crate::proofs::UndoneLemmas::commute))]
 pub fn operations_on_different_tables_commute<A: AllocHandle>()
     ensures { (tables one both : Tables A) (first second : Op A) → AreRising tables →
         bytes_eq first.table second.table ≡ false → step tables first ≡ Ok one → step one second ≡ Ok both →
@@ -101,7 +101,7 @@ pub fn operations_on_different_rows_commute<A: AllocHandle>()
 {}
 
 /// One operation more, which is accepted on what the others leave, adds its changes to theirs.
-#[tactic(auto, using(crate::proofs::FrontLemmas::run_laws))]
+#[tactic(auto, using(crate::proofs::BatchesLemmas::run_laws))]
 pub fn last_operation_adds_its_changes<A: AllocHandle>()
     ensures { (tables after : Tables A) (front : List (Op A)) (op : Op A) (left : OutcomeState A) →
         run tables front ≡ Ok left → step left.database op ≡ Ok after →
@@ -124,7 +124,7 @@ pub fn refused_batches_leave_nothing<A: AllocHandle>()
 
 /// The first change of each row by a list of operations carries the row that was there before all of them, or
 /// its absence: the first image of whoever follows the changes.
-#[tactic(auto, using(crate::proofs::FrontLemmas::run_laws))]
+#[tactic(auto, using(crate::proofs::BatchesLemmas::run_laws))]
 pub fn first_changes_carry_the_rows_before<A: AllocHandle>()
     ensures { (tables : Tables A) (ops : List (Op A)) →
         IfOk (run tables ops) (λ left. CarryFirstRows tables left.changes) }

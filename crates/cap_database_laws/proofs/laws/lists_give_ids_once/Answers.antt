@@ -1,4 +1,4 @@
-use Rattle.cap_database_laws.specs.TableIds.{GivesIdsOnce}
+use Rattle.cap_database_laws.specs.Ids.{GivesIdsOnce}
 use Rattle.cap_database_laws.proofs.IdLemmas.{run-once}
 use Rattle.cap_database.proofs.KeptLemmas.{each-act}
 use Rattle.cap_database_laws.proofs.laws.lists_give_ids_once.Goals as goal

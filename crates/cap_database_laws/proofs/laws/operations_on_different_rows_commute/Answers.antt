@@ -1,4 +1,4 @@
-use Rattle.cap_database_laws.proofs.RowsInLemmas.{rows-commute-in}
+use Rattle.cap_database_laws.proofs.UndoneLemmas.{rows-commute-in}
 use Rattle.cap_database_laws.proofs.RowsLemmas.{rows-commute}
 use Rattle.cap_database_laws.proofs.laws.operations_on_different_rows_commute.Goals as goal
 
