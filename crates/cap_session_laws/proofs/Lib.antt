@@ -1,2 +1,1 @@
-pub mod RecordingLemmas
 pub mod TouchedLemmas

@@ -26,6 +26,7 @@ use cap_value::AllocHandle;
 /// The records after touches: a record keeps its image, a new record has the image of the first touch of its
 /// key, a record is indirect where it was and every touch of its key is, and no other key gains or loses a
 /// record.
+#[tactic(auto, using(crate::proofs::TouchedLemmas::are_touched))]
 pub fn touches_make_these_records<A: AllocHandle>()
     ensures { (before : Records A) (touches : List (Touch A))
         → AreTouched before touches (with_touches before touches) }
@@ -38,6 +39,7 @@ pub fn records_stay_direct<A: AllocHandle>()
 {}
 
 /// The image of the first touch of a key by a commit is the row of the database before it.
+#[tactic(auto, using(crate::proofs::TouchedLemmas::carried_image))]
 pub fn images_are_the_rows_before<A: AllocHandle>()
     ensures { (before : Tables A) (indirect : Bool) (name : List ℕ) (changes : List (Change A))
         (key : Fields A) (first : Touch A) (others : List (Touch A)) → CarryFirstRows before changes
@@ -46,6 +48,7 @@ pub fn images_are_the_rows_before<A: AllocHandle>()
 {}
 
 /// A commit touches the rows of exactly the tables that are attached after it, each with its own changes.
+#[tactic(auto, using(crate::proofs::TouchedLemmas::record_commit_records))]
 pub fn commits_touch_attached_tables<A: AllocHandle>()
     ensures { (changes : List (Change A)) (session : SessionState A) (name : List ℕ)
         → session.enabled ≡ true → records_of (record_commit changes session).tables name
@@ -55,6 +58,7 @@ pub fn commits_touch_attached_tables<A: AllocHandle>()
 
 /// Attached tables stay attached with their records. Of the others exactly those are attached that the rule
 /// accepts and that have a change, even one of a row without a key.
+#[tactic(auto, using(crate::proofs::TouchedLemmas::newly_attached, crate::proofs::TouchedLemmas::stays_attached))]
 pub fn rule_attaches_changed_tables<A: AllocHandle>()
     ensures stays { (rule : AutomaticRule A) (changes : List (Change A)) (tables : AttachedTables A)
         (name : List ℕ) (records : Records A) → records_of tables name ≡ Some records
