@@ -15,7 +15,7 @@ use Rattle.cap_database.specs.declared.change.Change.{Change}
 use Rattle.cap_session.specs.declared.delta.Delta.{Delta}
 use Rattle.cap_session.specs.Sessions.{NumberedSessions, is_one_of, record_commit_each}
 use Rattle.cap_session.proofs.PlaceLemmas.{IsFirst, NonePass, has_place, is-first, is-none, keys-parts, parts-first, parts-push, parts-stay, changed-not, changed-step, changed-twice, parts-append, parts-other}
-use Rattle.cap_session.proofs.TableLemmas.{noted, noted-none}
+use Rattle.cap_session.proofs.TableLemmas.{noted, noted_none}
 
 module _ {P : Type 0} (place : ℕ) where
   abbrev pub paired : List P → List (ℕ × P)
@@ -117,7 +117,7 @@ module _ {A : Type 0} (session : ℕ) where
 
       pub makes-unnamed : (name : List ℕ) (touches : List (Touch A)) (old : List (ℕ × (ℕ × Records A))) → position (bytes_eq name) (keys_of ts) ≡ None → Makes start session ts (touch_table name touches) old old
       makes-unnamed name touches old none = λ others before len a.
-          reserved-same before (touch_table name touches before) others old (noted-none name touches before (keys_of ts) (named name touches old old before others a) none) a
+          reserved-same before (touch_table name touches before) others old (sym (noted_none name touches before (subst (λ keys. position (bytes_eq name) keys ≡ None) (sym (named name touches old old before others a)) none))) a
 
 -- ---- what a commit adds to each session
 

@@ -1,14 +1,14 @@
 -- The first item of a list that passes a test, and its place.
-use Rattle.std.proofs.Common.{◌≡◌, ◌<◌, ◌+◌, ℕ, zero, suc, Bool, true, false, cond, Some, None, List, [], ◌∷◌, length, get_or, arith, refl, sym, ◌∙◌, ap, nat_eq, ◌++◌, drop, map, ap₂, ◌≤◌, set, take}
+use Rattle.std.proofs.Common.{◌≡◌, ◌<◌, ◌+◌, ℕ, zero, suc, Bool, true, false, cond, Some, None, List, [], ◌∷◌, length, get_or, arith, refl, sym, ◌∙◌, ap, nat_eq, ◌++◌, drop, map, ap₂, ◌≤◌, set, take, add-one}
 use Rattle.std.proofs.lemmas.Iterator.Adapters.{position_from-zero}
 use Rattle.std.proofs.lemmas.List.Quantifiers.{position-Some}
 use Rattle.std.specs.List.{AllByRecursion, position, position_from, remove}
 use Rattle.std.specs.Option.{option_map}
-use Rattle.std.proofs.lemmas.List.{map_push}
+use Rattle.std.proofs.lemmas.List.{append-nil, drop_all, map_push, take_all}
 use Rattle.std.proofs.lemmas.Bool.{eqb-false, eqb-true}
 use Rattle.std.specs.Map.{keys_of, values_of}
 use Rattle.std.specs.Prelude.{slice_get}
-use Rattle.indexmap.specs.Layout.{set_value_at}
+use Rattle.indexmap.specs.Layout.{set_value_at, length-set_value_at}
 use Rattle.cap_session.specs.Delta.{changed_at, with_parts, with_records}
 use Rattle.cap_session.specs.Session.{SessionState, AttachedTables, forget}
 use Rattle.cap_session.specs.Sessions.{NumberedSessions, session_numbered, with_session, with_session_if, without_session}
@@ -173,8 +173,8 @@ module _ {K V : Type 0} where
   value-same f h (t ∷ ts) (suc p) r at same = ap (λ others. t ∷ others) (value-same f h ts p r at same)
 
   -- a value that is set to what it is
-  pub set-same : (ts : List (K × V)) (p : ℕ) (r s : V) → slice_get (values_of ts) p ≡ Some r → s ≡ r → set_value_at ts p s ≡ ts
-  set-same ts p r s at is = set-value ts p s ∙ value-same (λ _. s) (λ y. y) ts p r at is ∙ changed-not ts p
+  pub set_same : (ts : List (K × V)) (p : ℕ) (s : V) → slice_get (values_of ts) p ≡ Some s → set_value_at ts p s ≡ ts
+  set_same ts p s at = set-value ts p s ∙ value-same (λ _. s) (λ y. y) ts p s at refl ∙ changed-not ts p
 
   pub keys-changed : (f : V → V) (ts : List (K × V)) (p : ℕ) → keys_of (changed_at p (λ t. (t.0, f t.1)) ts) ≡ keys_of ts
   keys-changed f [] p = refl
@@ -208,9 +208,14 @@ module _ {A : Type 0} where
     parts-stay is = ap (λ tables. with_parts with_records tables parts) is ∙ parts-other with_records make ts parts place none
 
   -- a table more whose records are forgotten
-  pub forget-step : (ts : AttachedTables A) (i : ℕ) → i < length ts → set_value_at (forget (take i ts) ++ drop i ts) i [] ≡ forget (take (suc i) ts) ++ drop (suc i) ts
+  forget-step : (ts : AttachedTables A) (i : ℕ) → i < length ts → set_value_at (forget (take i ts) ++ drop i ts) i [] ≡ forget (take (suc i) ts) ++ drop (suc i) ts
   forget-step [] i lt = absurd (omega arith)
   forget-step (t ∷ ts) zero lt = refl
   forget-step (t ∷ ts) (suc i) lt = ap (λ others. (t.0, []) ∷ others) (forget-step ts i (omega (arith, lt)))
 
+  pub forget-more : (ts : AttachedTables A) (i : ℕ) → i < length ts → set_value_at (forget (take i ts) ++ drop i ts) i [] ≡ forget (take (i + 1) ts) ++ drop (i + 1) ts
+  forget-more ts i lt = forget-step ts i lt ∙ ap (λ n. forget (take n ts) ++ drop n ts) (sym (add-one i))
+
 pub ruleset replacing = (set-value, changed-beyond)
+
+pub ruleset clearing = (forget-more, length-set_value_at, append-nil, drop_all, take_all)

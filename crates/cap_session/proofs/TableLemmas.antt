@@ -1,9 +1,10 @@
 -- The tables of an attach list by name: the one with a name, and what a change of it makes of all.
-use Rattle.std.proofs.Common.{◌≡◌, ℕ, zero, suc, false, not, cond, Some, None, List, [], ◌∷◌, ◌++◌, ◌&&◌, ◌||◌, refl, sym, ap, ap₂, subst, ◌∙◌, Bool, ◌<◌, ◌+◌, length, get_or, take, arith}
+use Rattle.std.proofs.Common.{◌≡◌, ℕ, zero, suc, false, not, cond, Some, None, List, [], ◌∷◌, ◌++◌, ◌&&◌, ◌||◌, refl, sym, ap, ap₂, subst, ◌∙◌, Bool, ◌<◌, ◌+◌, length, get_or, take, arith, append_assoc}
 use Rattle.std.specs.Prelude.{is_some}
 use Rattle.std.specs.Cmp.Lexicographic.{bytes_decides}
 use Rattle.std.specs.List.{AllByRecursion, IsDistinct, position}
 use Rattle.std.specs.Map.{keys_of}
+use Rattle.indexmap.proofs.CallerLemmas.{insert_entry-new}
 use Rattle.cap_value.specs.Bytes.{bytes_eq}
 use Rattle.cap_database.specs.declared.change.Change.{Change}
 use Rattle.cap_compare.specs.declared.difference.Difference.{Difference}
@@ -77,8 +78,8 @@ module _ {A : Type 0} where
         (subst (IsDistinct bytes_eq) (sym same) apart)
 
     -- no table has the name
-    pub noted-none : (keys : List (List ℕ)) → keys_of ts ≡ keys → position (bytes_eq name) keys ≡ None → ts ≡ touch_table name touches ts
-    noted-none keys same none = sym (touch-none name touches ts (subst (NonePass (bytes_eq name)) (sym same) (is-none (bytes_eq name) keys none)))
+    pub noted_none : position (bytes_eq name) (keys_of ts) ≡ None → touch_table name touches ts ≡ ts
+    noted_none none = touch-none name touches ts (is-none (bytes_eq name) (keys_of ts) none)
 
   -- touches, and then others
   pub touch-more : (name : List ℕ) (t : Touch A) (later : List (Touch A)) (ts : AttachedTables A) → touch_table name later (touch_table name (t ∷ []) ts) ≡ touch_table name (t ∷ later) ts
@@ -103,8 +104,8 @@ module _ {A : Type 0} where
   found_more name indirect ds i d ts lt is = found-last name indirect (take i ds) d ts ∙ ap (λ (all : List (Difference A)). touch_table name (touches_found indirect all) ts) (sym (take_item ds i d lt is))
 
   -- a diff without differences attaches its table
-  pub diff-none : (name : List ℕ) (session : SessionState A) → record_diff name [] session ≡ attached name session
-  diff-none name session = ap (λ tables. record session { tables = tables }) (touch-no name (attach name session.tables))
+  pub diff_none : (name : List ℕ) (session : SessionState A) → record_diff name [] session ≡ attached name session
+  diff_none name session = ap (λ tables. record session { tables = tables }) (touch-no name (attach name session.tables))
 
   -- the touch by a change, of a row that has a key
   pub told-one : (indirect : Bool) (change : Change A) (key : Fields A) → change.key ≡ Some key
@@ -145,3 +146,6 @@ module _ {A : Type 0} (indirect : Bool) where
 
 -- touches of a loop, and of nothing
 pub ruleset touching = (touch_more, no-change, touch-no, told-none)
+
+-- a table is put behind the others
+pub ruleset pushing = (insert_entry-new, none-listed, append_assoc)

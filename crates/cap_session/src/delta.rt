@@ -149,6 +149,7 @@ fn touch_named<A: AllocHandle>(
 
 // The same of the table at this index.
 #[inline(always)]
+#[tactic(auto, using(crate::proofs::PlaceLemmas::set_same))]
 fn touch_at<A: AllocHandle>(
     touched: &mut Touched<A>,
     place: &Place,

@@ -94,6 +94,7 @@ impl<A: AllocHandle> Session<A> {
     }
 
     /// Attaches a table, last in the list, unless it is attached. The table need not exist.
+    #[tactic(auto, using(crate::proofs::TableLemmas::diff_none))]
     pub fn attach(&mut self, name: &Name<A>) -> Result<(), OutOfMemory>
         ensures attached { OnOk result (self.new ≡ attached name.now self.old) }
         ensures err { OnErr result (self.new ≡ self.old) }
@@ -332,6 +333,7 @@ impl<A: AllocHandle> Clone for Session<A> {
 }
 
 // Forgets the records of each table.
+#[tactic(auto, using(crate::proofs::PlaceLemmas::clearing))]
 fn clear_each<A: AllocHandle>(alloc: A, tables: &mut Tables<A>)
     ensures { tables.new.entries ≡ forget tables.old.entries }
 {

@@ -128,6 +128,7 @@ impl<A: AllocHandle> Sessions<A> {
     }
 
     /// What attaching a table adds to the session with this number, if any.
+    #[tactic(auto, using(crate::proofs::TableLemmas::diff_none))]
     pub fn reserve_attach(&mut self, number: u64, name: &Name<A>) -> Result<Delta<A>, OutOfMemory>
         ensures kept { self.new ≡ self.old }
         ensures added { IfOk result (λ delta. published delta self.old ≡ with_session_if self.old number

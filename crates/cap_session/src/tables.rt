@@ -19,6 +19,7 @@ use std::hash::{BuildHasherDefault, FoldHasher};
 pub(crate) type Tables<A> = IndexMap<Name<A>, Records<A>, BuildHasherDefault<FoldHasher>, A>;
 
 // A copy, which shares the records.
+#[tactic(auto, using(crate::proofs::TableLemmas::pushing))]
 pub(crate) fn copy_of<A: AllocHandle>(
     alloc: A,
     tables: &Tables<A>,
@@ -103,6 +104,7 @@ fn is_listed<A: AllocHandle>(tables: &Tables<A>, name: &Name<A>) -> bool
 }
 
 // Attaches one more table, which is not there.
+#[tactic(auto, using(crate::proofs::TableLemmas::pushing))]
 fn push<A: AllocHandle>(alloc: A, tables: &mut Tables<A>, name: &Name<A>) -> Result<(), OutOfMemory>
     requires absent { is_listed name.now tables.old.entries ≡ false }
     ensures { OnOk result (tables.new.entries ≡ tables.old.entries ++ (name.now, []) ∷ []) }
@@ -167,6 +169,7 @@ pub(crate) fn touch_found<A: AllocHandle>(
 }
 
 // Touches a key of the table of this name, if it is there.
+#[tactic(auto, using(crate::proofs::TableLemmas::noted_none))]
 fn touch_in<A: AllocHandle>(
     tables: &mut Tables<A>,
     name: &Name<A>,
