@@ -33,9 +33,6 @@ module _ {K V : Type 0} (R : K → K → Ordering) (o : IsTotalOrder R) where
       let none = λ (less : R k e.0 ≡ Less). get-below R k es (each_turn R (λ y. R e.0 y ≡ Less) (λ y. R k y ≡ Less) (λ y. o.trans k e.0 y less) es s.0) in
       grind (arith, none, same k e.0, there-already same es k v s.1)
 
-pub one_table : {X : Type 0} (found : Option X) (x y : X) → found ≡ Some x → found ≡ Some y → x ≡ y
-one_table found x y first second = cc
-
 module _ {A : Type 0} where
   -- the table of a name that a database has
   pub record Found (tables : Tables A) (name : List ℕ) : Type 0 where

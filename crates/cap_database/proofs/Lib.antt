@@ -2,7 +2,6 @@ pub mod Crossing
 pub mod BackLemmas
 pub mod KeptKeyLemmas
 pub mod KeptLemmas
-pub mod PlaceLemmas
 pub mod PlanLemmas
 pub mod RunLemmas
 pub mod StayLemmas

@@ -1,8 +1,7 @@
 -- An operation on the table at its place, and what it does to the database.
-use Rattle.std.proofs.Common.{Bool, false, ◌≡◌, ℕ, ◌+◌, ◌<◌, Some, None, Result, Ok, Err, List, [], ◌∷◌, ◌++◌, length, take, get_or, sym, ap, ◌∙◌, arith}
+use Rattle.std.proofs.Common.{Bool, false, ◌≡◌, ℕ, zero, suc, ◌+◌, ◌<◌, Some, None, Result, Ok, Err, List, [], ◌∷◌, ◌++◌, length, take, get_or, set, sym, ap, ◌∙◌, arith, Ordering, Equal, Greater}
 use Rattle.std.specs.Prelude.{OnOk, is_some}
 use Rattle.std.proofs.lemmas.Bool.Decides.{nat_tests}
-use Rattle.cap_database.specs.Tables.{refused_create}
 use Rattle.std.proofs.lemmas.Cmp.{nat_list_cmp_total}
 use Rattle.cap_value.specs.Bytes.{bytes_cmp}
 use Rattle.cap_value.specs.declared.memory.Fault.{Fault}
@@ -15,15 +14,14 @@ use Rattle.cap_database.specs.declared.op.Action.{Action}
 use Rattle.cap_database.specs.declared.op.Action.TheVariants.{Insert, Update, Delete}
 use Rattle.cap_table.specs.Sound.{IsRising}
 use Rattle.std.proofs.lemmas.List.{take_more}
-use Rattle.cap_database.specs.Tables.{create}
 use Rattle.cap_table.specs.Table.{TableState}
 use Rattle.cap_table.specs.WithHook.{LeavesIfAllowed}
 use Rattle.cap_table.specs.declared.change_fault.ChangeFault.{ChangeFault}
 use Rattle.cap_database.specs.declared.op.Op.{Op}
 use Rattle.cap_database.specs.Operation.{act, in_place, refused_act, step, stepped}
-use Rattle.cap_database.specs.Tables.{AreTables, Tables, table_of}
+use Rattle.cap_database.specs.Tables.{AreTables, Tables, create, refused_create, table_of}
 use Rattle.cap_database.proofs.KeptLemmas.{put-tables}
-use Rattle.cap_tree.proofs.EntryLemmas.{length-put_entry}
+use Rattle.cap_tree.proofs.EntryLemmas.{Each, length-put_entry}
 
 -- what an operation on its table leaves of the database
 pub act_step : {A : Type 0} (ts : Tables A) (op : Op A) (t after : TableState A) → table_of ts op.table ≡ Some t → act t op.action ≡ Ok after → step ts op ≡ Ok (put_entry bytes_cmp ts op.table after)
@@ -60,4 +58,11 @@ module _ {A : Type 0} (t : TableState A) where
   refused_act_is (Delete name) why is = grind arith
 
   pub refused_act_first : (X : Type 0) (action : Action A) (why : Refusal) → act t action ≡ Err why → RefusesFirst {X = X} (refused_act t action) (Err (Refused why))
-  refused_act_first X action why is = let known = refused_act_is action in grind (arith, known)
+  refused_act_first X action why is = grind (arith, refused_act_is action)
+
+-- a put among entries in order at an equal key, which is the same
+module _ {K V : Type 0} (cmp : K → K → Ordering) where
+  pub put_named : ((x y : K) → cmp x y ≡ Equal → x ≡ y) → (k : K) (v : V) (es : List (K × V)) (i : ℕ) (d x : K × V) → i < length es → Each cmp Greater k (take i es) → cmp k (get_or es i x).0 ≡ Equal → put_entry cmp es k v ≡ set es i ((get_or es i d).0, v)
+  put_named same k v [] i d x within h here = absurd (omega arith)
+  put_named same k v (e ∷ es) zero d x within h here = rw here (ap (λ key. (key, v) ∷ es) (same k e.0 here))
+  put_named same k v (e ∷ es) (suc i) d x within h here = rw h.0 (ap (λ t. e ∷ t) (put_named same k v es i d x (omega arith) h.1 here))

@@ -21,6 +21,7 @@ pub struct Effect<A: AllocHandle> {
 
 impl<A: AllocHandle> Effect<A> {
     // Makes an operation on its table.
+    #[tactic(auto, using(crate::proofs::StepLemmas::refused_act_first))]
     pub(crate) fn make(table: &mut Table<A>, op: &Op<A>) -> Result<Self, Fault<Refusal>>
         ensures table { LeavesUnlessMemory result (act table.old op.now.action) table.new }
         ensures kept { OnErr result (table.new ≡ table.old) }

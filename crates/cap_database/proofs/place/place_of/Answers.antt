@@ -3,7 +3,7 @@ use Rattle.std.specs.Prelude.{is_some}
 use Rattle.std.proofs.lemmas.Cmp.{nat_list_cmp_total}
 use Rattle.cap_value.specs.Bytes.{bytes_cmp, bytes_cmp-Equal}
 use Rattle.cap_tree.proofs.LeafLemmas.{put_less, get_equal, get_less, put_end, get_end}
-use Rattle.cap_database.proofs.PlaceLemmas.{put_named}
+use Rattle.cap_database.proofs.StepLemmas.{put_named}
 use Rattle.cap_database.proofs.place.place_of.Goals as goal
 
 pub returns-in-Less-clause-put : goal.returns-in-Less-clause-put
