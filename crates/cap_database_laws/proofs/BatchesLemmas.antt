@@ -1,6 +1,6 @@
 -- Batches one after another, and the operations of the accepted ones.
 use Rattle.std.proofs.Common.{◌≡◌, Result, Ok, Err, List, [], ◌∷◌, ◌++◌, refl, sym, ap, subst, ◌∙◌, append_assoc, arith, ◌+◌}
-use Rattle.cap_database_laws.specs.Batches.{accepted_ops, batch_then, batches_left}
+use Rattle.cap_database_laws.specs.Batches.{accepted_ops, batches_left}
 use Rattle.cap_database.specs.Operation.{changes, run, and_then, one_later, step, with_changes}
 use Rattle.cap_database.specs.Outcome.{OutcomeState}
 use Rattle.cap_database.specs.Tables.{Tables}
@@ -32,9 +32,6 @@ module _ {A : Type 0} where
       let others = λ (next : Tables A). batches-run next batches in
       let joined = λ (first : OutcomeState A). run-append tables batch (accepted_ops first.database batches) first (batches_left first.database batches) in
       grind (arith, others, joined)
-
-  pub refused_left : (tables : Tables A) (batch : List (Op A)) (batches : List (List (Op A))) (refused : RefusedAt) → run tables batch ≡ Err refused → batches_left tables (batch ∷ batches) ≡ batches_left tables batches
-  refused_left tables batch batches refused is = ap (λ (r : Result (OutcomeState A) RefusedAt). batch_then tables r (λ next. batches_left next batches)) is
 
 pub ruleset batches_accepted = (batches-run)
 

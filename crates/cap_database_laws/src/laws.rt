@@ -113,7 +113,7 @@ pub fn last_operation_adds_its_changes<A: AllocHandle>()
 
 /// A refused batch leaves nothing: batches one after another leave the database and the changes that the
 /// operations of the accepted ones alone leave, made as one list.
-#[tactic(auto, using(crate::proofs::BatchesLemmas::refused_left, crate::proofs::BatchesLemmas::batches_accepted))]
+#[tactic(auto, using(crate::proofs::BatchesLemmas::batches_accepted))]
 pub fn refused_batches_leave_nothing<A: AllocHandle>()
     ensures refused { (tables : Tables A) (batch : List (Op A)) (batches : List (List (Op A)))
         (why : RefusedAt) → run tables batch ≡ Err why →

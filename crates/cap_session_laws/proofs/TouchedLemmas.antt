@@ -20,8 +20,8 @@ use Rattle.cap_database.specs.Carried.{CarryFirstRows, is_of_row}
 use Rattle.cap_database.specs.Tables.{Tables}
 use Rattle.cap_database.specs.declared.change.Change.{Change}
 use Rattle.cap_session.specs.declared.rule.AutomaticRule.{AutomaticRule}
-use Rattle.cap_session.specs.Recording.{is_cascade, attach_by, attach_by_rule, record_commit, touch_tables, touches_of}
-use Rattle.cap_session.specs.Session.{AttachedTables, SessionState, accepts_by, records_of}
+use Rattle.cap_session.specs.Recording.{is_cascade, attach_by, attach_by_rule, touch_tables, touches_of}
+use Rattle.cap_session.specs.Session.{AttachedTables, accepts_by, records_of}
 use Rattle.cap_session.proofs.TableLemmas.{listed}
 
 module _ {A : Type 0} where
@@ -69,23 +69,16 @@ module _ {A : Type 0} where
   records_of-attach_by : (rule : AutomaticRule A) (new name : List ℕ) (tables : AttachedTables A) → records_of (attach_by rule tables new) name ≡ found_or (records_of tables name) (bytes_eq name new && accepts_by rule name)
   records_of-attach_by rule new name tables = grind (arith, listed new tables, records_of-push tables new name, (bytes_decides name new).0)
 
-  records_of-attach_by_rule : (rule : AutomaticRule A) (changes : List (Change A)) (name : List ℕ) (tables : AttachedTables A)
+  pub records_of_attach_by_rule : (rule : AutomaticRule A) (changes : List (Change A)) (name : List ℕ) (tables : AttachedTables A)
       → records_of (attach_by_rule rule changes tables) name ≡ found_or (records_of tables name) (list_any (λ change. bytes_eq name change.table) changes && accepts_by rule name)
-  records_of-attach_by_rule rule [] name tables = grind arith
-  records_of-attach_by_rule rule (change ∷ changes) name tables =
-      grind (arith, records_of-attach_by rule change.table name tables, records_of-attach_by_rule rule changes name (attach_by rule tables change.table))
+  records_of_attach_by_rule rule [] name tables = grind arith
+  records_of_attach_by_rule rule (change ∷ changes) name tables =
+      grind (arith, records_of-attach_by rule change.table name tables, records_of_attach_by_rule rule changes name (attach_by rule tables change.table))
 
-  pub stays_attached : (rule : AutomaticRule A) (changes : List (Change A)) (tables : AttachedTables A) (name : List ℕ) (records : Records A) → records_of tables name ≡ Some records → records_of (attach_by_rule rule changes tables) name ≡ Some records
-  stays_attached rule changes tables name records is = grind (arith, records_of-attach_by_rule rule changes name tables, is)
-
-  pub newly_attached : (rule : AutomaticRule A) (changes : List (Change A)) (tables : AttachedTables A) (name : List ℕ) → records_of tables name ≡ None
-      → records_of (attach_by_rule rule changes tables) name ≡ cond (list_any (λ change. bytes_eq name change.table) changes && accepts_by rule name) (Some []) None
-  newly_attached rule changes tables name is = grind (arith, records_of-attach_by_rule rule changes name tables, is)
-
-  pub records_of-touch_tables : (indirect : Bool) (changes : List (Change A)) (tables : AttachedTables A) (name : List ℕ)
+  pub records_of_touch_tables : (indirect : Bool) (changes : List (Change A)) (tables : AttachedTables A) (name : List ℕ)
       → records_of (touch_tables indirect changes tables) name ≡ option_map (λ records. with_touches records (touches_of indirect name changes)) (records_of tables name)
-  records_of-touch_tables indirect changes [] name = refl
-  records_of-touch_tables indirect changes (t ∷ tables) name = grind (arith, records_of-touch_tables indirect changes tables name, (bytes_decides name t.0).0)
+  records_of_touch_tables indirect changes [] name = refl
+  records_of_touch_tables indirect changes (t ∷ tables) name = grind (arith, records_of_touch_tables indirect changes tables name, (bytes_decides name t.0).0)
 
   other_way : (own key : Fields A) → fields_eq key own ≡ fields_eq own key
   other_way own key = (eq_by_cmp_equiv fields_cmp_total).symm key own
@@ -109,8 +102,3 @@ module _ {A : Type 0} where
   pub carried_image : (before : Tables A) (indirect : Bool) (name : List ℕ) (changes : List (Change A)) (key : Fields A) (first : Touch A) (others : List (Touch A)) → CarryFirstRows before changes
       → touches_at key (touches_of indirect name changes) ≡ first ∷ others → first.image ≡ row_at before name key
   carried_image before indirect name changes key first others carry is = let carried = carry name key in first-image before indirect name key changes first others (grind (arith, carried)) is
-
-  pub record_commit_records : (changes : List (Change A)) (session : SessionState A) (name : List ℕ) → session.enabled ≡ true
-      → records_of (record_commit changes session).tables name ≡ option_map (λ records. with_touches records (touches_of session.indirect name changes)) (records_of (attach_by_rule session.rule changes session.tables) name)
-  record_commit_records changes session name enabled =
-      let touched = records_of-touch_tables session.indirect changes (attach_by_rule session.rule changes session.tables) name in grind (arith, touched, enabled)

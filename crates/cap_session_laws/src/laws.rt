@@ -48,7 +48,7 @@ pub fn images_are_the_rows_before<A: AllocHandle>()
 {}
 
 /// A commit touches the rows of exactly the tables that are attached after it, each with its own changes.
-#[tactic(auto, using(crate::proofs::TouchedLemmas::record_commit_records))]
+#[tactic(auto, using(crate::proofs::TouchedLemmas::records_of_touch_tables))]
 pub fn commits_touch_attached_tables<A: AllocHandle>()
     ensures { (changes : List (Change A)) (session : SessionState A) (name : List ℕ)
         → session.enabled ≡ true → records_of (record_commit changes session).tables name
@@ -58,7 +58,7 @@ pub fn commits_touch_attached_tables<A: AllocHandle>()
 
 /// Attached tables stay attached with their records. Of the others exactly those are attached that the rule
 /// accepts and that have a change, even one of a row without a key.
-#[tactic(auto, using(crate::proofs::TouchedLemmas::newly_attached, crate::proofs::TouchedLemmas::stays_attached))]
+#[tactic(auto, using(crate::proofs::TouchedLemmas::records_of_attach_by_rule))]
 pub fn rule_attaches_changed_tables<A: AllocHandle>()
     ensures stays { (rule : AutomaticRule A) (changes : List (Change A)) (tables : AttachedTables A)
         (name : List ℕ) (records : Records A) → records_of tables name ≡ Some records
