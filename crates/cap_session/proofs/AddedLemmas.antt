@@ -219,8 +219,8 @@ module _ {A : Type 0} (changes : List (Change A)) (quiet : List ℕ) where
       pub all : AreBefore place (renewed delta)
       pub own : AreBefore place delta.touched.items
 
-    pub none-added : (delta : Delta A) → renewed delta ≡ [] → delta.touched.items ≡ [] → AreAdded 0 delta
-    none-added delta all own = record {
+    pub none_added : (delta : Delta A) → renewed delta ≡ [] → delta.touched.items ≡ [] → AreAdded 0 delta
+    none_added delta all own = record {
       published_is = published-all delta start own [] all;
       all = subst (AreBefore 0) (sym all) tt;
       own = subst (AreBefore 0) (sym own) tt;

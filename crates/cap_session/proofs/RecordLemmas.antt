@@ -1,5 +1,5 @@
 -- The records of a table after touches.
-use Rattle.std.proofs.Common.{arith, ◌≡◌, Bool, true, false, cond, Option, Some, None, List, [], ◌&&◌, ◌||◌, not, refl, ap, ◌∙◌, ◌+◌, ℕ, ◌∷◌, length, sym, ap₂, subst, Ordering, Less, Equal, Greater}
+use Rattle.std.proofs.Common.{arith, ◌≡◌, Bool, true, false, cond, Option, Some, None, List, [], ◌||◌, not, refl, ap, ◌∙◌, ◌+◌, ℕ, ◌∷◌, length, sym, ap₂, subst, Ordering, Less, Equal, Greater}
 use Rattle.std.specs.List.{cons_option}
 use Rattle.std.specs.Cmp.{Equal-is, eq_by_cmp_equiv, tied_itself}
 use Rattle.std.specs.Ordering.{is_eq}
@@ -7,7 +7,7 @@ use Rattle.std.specs.Prelude.{is_some}
 use Rattle.cap_row.specs.Fields.{Fields}
 use Rattle.cap_row.specs.Key.{fields_cmp, fields_cmp_total, fields_eq}
 use Rattle.cap_tree.specs.Tree.{IsOrdered, get, put_entry}
-use Rattle.cap_tree.proofs.EntryLemmas.{put_entry-Updates, each_put, each_turn, length-put_entry, reversed}
+use Rattle.cap_tree.proofs.EntryLemmas.{ordered_put, put_entry-Updates, each_put, each_turn, length-put_entry, reversed}
 use Rattle.cap_table.proofs.TableLemmas.{fields_same}
 use Rattle.cap_database.proofs.BackLemmas.{there-already}
 use Rattle.cap_session.specs.declared.record.Record.{Record}
@@ -15,16 +15,11 @@ use Rattle.cap_session.specs.Records.{Records, Touch, record_after, touch, with_
 use Rattle.cap_tree.specs.Shape.{EachBelow}
 use Rattle.cap_session.specs.Code.Latest.{IsLast, with_latest}
 
-unchanged_mark : (a b : Bool) → (not a || b) ≡ true → (a && b) ≡ a
-unchanged_mark true b is = is
-unchanged_mark false b is = refl
-
 module _ {A : Type 0} where
   -- a key that was touched directly, or indirectly as now, stays as it is
   pub touch-unchanged : (records : Records A) (t : Touch A) (r : Record A) → IsOrdered fields_cmp records → get fields_cmp records t.key ≡ Some r → (not r.indirect || t.indirect) ≡ true → touch records t ≡ records
   touch-unchanged records t r ordered is unchanged =
-      let kept : record_after (get fields_cmp records t.key) t.image t.indirect ≡ r =
-      ap (λ found. record_after found t.image t.indirect) is ∙ ap (λ b. record { image = r.image; indirect = b }) (unchanged_mark r.indirect t.indirect unchanged) in
+      let kept : record_after (get fields_cmp records t.key) t.image t.indirect ≡ r = grind arith in
       ap (put_entry fields_cmp records t.key) kept ∙ there-already fields_cmp fields_cmp_total fields_same records t.key r ordered is
 
   -- a touch more or none, and then others
@@ -62,6 +57,11 @@ module _ {A : Type 0} where
   above_none : (q : Fields A) (records : Records A) → EachBelow fields_cmp q records → get fields_cmp records q ≡ None
   above_none q [] each = refl
   above_none q (r ∷ rs) each = rw each.0 (above_none q rs each.1)
+
+  -- a record that is put beside a tree
+  pub put-last : (tree all : Records A) (k : Fields A) (r : Record A) (above : Bool) → tree ≡ all → IsOrdered fields_cmp all → (above ≡ true → EachBelow fields_cmp k all)
+      → IsOrdered fields_cmp (put_entry fields_cmp tree k r) × (above ≡ true → EachBelow fields_cmp k tree)
+  put-last tree all k r above same ordered below = rw same (ordered_put fields_cmp fields_cmp_total k r all ordered, below)
 
   -- The records of a tree and the one that was put last, where there is one.
   module _ (tree : Records A) (latest : Option (Fields A × Record A)) (last : Fields A × Record A) (is : latest ≡ Some last) where

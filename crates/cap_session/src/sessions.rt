@@ -215,6 +215,7 @@ fn place_of<A: AllocHandle>(sessions: &[(u64, Session<A>)], number: u64) -> Opti
 }
 
 // What the changes of one commit add to each session but the quiet ones.
+#[tactic(auto, using(crate::proofs::AddedLemmas::none_added))]
 fn reserve_each<A: AllocHandle>(
     sessions: &mut Vec<(u64, Session<A>), A>,
     changes: &[Change<A>],

@@ -1,10 +1,7 @@
-use Rattle.std.proofs.Common.{◌<◌, arith, get_or, length, map, refl, ap, ◌∙◌}
+use Rattle.std.proofs.Common.{◌<◌, arith, get_or, length, ap, ◌∙◌}
 use Rattle.cap_session.proofs.PlaceLemmas.{changed-not, set-changed}
-use Rattle.cap_session.proofs.AddedLemmas.{all-added, none-added, one-added}
+use Rattle.cap_session.proofs.AddedLemmas.{all-added, one-added}
 use Rattle.cap_session.proofs.sessions.reserve_each.Goals as goal
-
-pub loop-place-init : goal.loop-place-init
-loop-place-init g c = (refl, none-added c.args.changes.now c.args.quiet.now c.args.sessions.now.items c.args.delta.now (ap (map _) c.requires.none.0) c.requires.none.1)
 
 pub loop-place-preserved : goal.loop-place-preserved
 loop-place-preserved g c =

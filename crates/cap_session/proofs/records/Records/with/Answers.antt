@@ -1,13 +1,7 @@
-use Rattle.std.proofs.Common.{subst, sym, ◌∙◌}
-use Rattle.cap_row.specs.Key.{fields_cmp, fields_cmp_total}
-use Rattle.cap_tree.specs.Shape.{EachBelow}
-use Rattle.cap_tree.specs.Tree.{IsOrdered}
-use Rattle.cap_tree.proofs.EntryLemmas.{ordered_put}
-use Rattle.cap_session.specs.Records.{Records}
+use Rattle.std.proofs.Common.{◌∙◌}
+use Rattle.cap_session.proofs.RecordLemmas.{put-last}
 use Rattle.cap_session.proofs.records.Records.with.Goals as goal
 
 pub invariant_of-result : goal.invariant_of-result
-invariant_of-result g c = (
-  ordered_put fields_cmp fields_cmp_total c.args.key c.args.kept c.in_ok-snapshot.field-0 (subst (IsOrdered fields_cmp) (sym (c.in_ok-snapshot.ensures ∙ c.in_ok-move_latest.ensures.moved)) c.self.invariant.0),
-  λ is. subst (λ (all : Records g.row.A.Denot). EachBelow fields_cmp c.args.key all) (sym ((c.in_ok-snapshot.ensures ∙ c.in_ok-move_latest.ensures.moved) ∙ c.self.view_is)) (c.is_above-is_last.ensures is),
-)
+invariant_of-result g c =
+    put-last c.in_ok-snapshot.field-0 c.args.self.now c.args.key c.args.kept c.is_above-is_last.result ((c.in_ok-snapshot.ensures ∙ c.in_ok-move_latest.ensures.moved) ∙ c.self.view_is) (rw c.self.view_is at c.self.invariant.0) c.is_above-is_last.ensures
