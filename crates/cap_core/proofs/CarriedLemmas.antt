@@ -11,7 +11,6 @@ use Rattle.cap_tree.specs.Tree.{get}
 use Rattle.cap_table.specs.Sound.{is_key_of}
 use Rattle.cap_database.specs.Carried.{CarryFirstRows, is_of_row}
 use Rattle.cap_database.specs.Operation.{run}
-use Rattle.cap_database.specs.Outcome.{OutcomeState}
 use Rattle.cap_database.specs.Read.{row_at}
 use Rattle.cap_database.specs.Snapshot.{SnapshotState}
 use Rattle.cap_database.specs.Tables.{Tables, create}
@@ -21,7 +20,6 @@ use Rattle.cap_database.specs.declared.refused_at.RefusedAt.{RefusedAt}
 use Rattle.cap_database.proofs.StayLemmas.{run-carries}
 use Rattle.cap_codec.specs.declared.read.Contents.{Contents}
 use Rattle.cap_apply.specs.declared.policy.Policy.{Policy}
-use Rattle.cap_apply.specs.Applied.{AppliedState}
 use Rattle.cap_apply.specs.Apply.{apply}
 use Rattle.cap_apply.proofs.StayLemmas.{apply-carries}
 use Rattle.cap_txn.specs.Stale.{stale}
@@ -35,7 +33,7 @@ use Rattle.cap_core.specs.Flags.{changes_shown}
 use Rattle.cap_core.specs.History.{effect_of, event_effect}
 use Rattle.cap_core.specs.Outcome.{Effect, applied, commit_unless, created, made, no_effect, outcome}
 use Rattle.cap_core.specs.Past.{is_accepted}
-use Rattle.cap_core.proofs.FitLemmas.{each-ok}
+use Rattle.cap_core.proofs.SmallLemmas.{each-ok}
 
 -- what holds of the effects that a new table, operations and an application have on these tables, and of none
 module _ {A : Type 0} (now : SnapshotState A) (P : Effect A → Type 0) (none : P (no_effect now.database)) where
@@ -68,9 +66,6 @@ module _ {A : Type 0} where
   touch-same : (records : Records A) (t : Touch A) (image : Option (Fields A)) → (get fields_cmp records t.key ≡ None → t.image ≡ image) → touch records t ≡ touch records (record t { image = image })
   touch-same records t image same = grind (arith, same)
 
-  itself : (key : Fields A) → fields_eq key key ≡ true
-  itself key = (Equal-is (fields_cmp key key)).1 (tied_itself fields_cmp_total key)
-
   module _ (before : Tables A) (indirect : Bool) (name : List ℕ) where
     -- the first change of a key without a record carries the row
     abbrev Carried : Records A → List (Change A) → Type 0
@@ -101,7 +96,7 @@ module _ {A : Type 0} where
                 (λ q found none at.
                 let apart = touched-other records t q none in
                 here q found apart.1 (ap (λ b. cond b (Some change) (find (is_of_row name q) changes)) apart.0 ∙ at))
-                ∙ ap (λ after. with_touches after others) (touch-same records t (row_at before name key) (λ none. here key change none (ap (λ b. cond b (Some change) (find (is_of_row name key) changes)) (itself key))))
+                ∙ ap (λ after. with_touches after others) (touch-same records t (row_at before name key) (λ none. here key change none (ap (λ b. cond b (Some change) (find (is_of_row name key) changes)) ((Equal-is (fields_cmp key key)).1 (tied_itself fields_cmp_total key)))))
           ]
         ] carry
 
@@ -115,13 +110,6 @@ module _ {A : Type 0} where
   event-carries now event =
       event-each now (λ effect. CarryFirstRows now.database effect.changes) (λ name key change is. cc) event
       (λ name schema. each-ok (create now.database name schema) (λ tables name key change is. cc)) (run-carries now.database) (λ blob policy quiet _. apply-carries now.database blob policy)
-
-  -- what was left has changes that carry the rows before
-  pub ran-carries : (tables : Tables A) (ops : List (Op A)) (left : OutcomeState A) → run tables ops ≡ Ok left → CarryFirstRows tables left.changes
-  ran-carries tables ops left is = subst (λ r. IfOk r (λ (o : OutcomeState A). CarryFirstRows tables o.changes)) is (run-carries tables ops)
-
-  pub was-applied-carries : (tables : Tables A) (blob : Contents A) (policy : Policy) (left : AppliedState A) → apply tables blob policy ≡ Ok left → CarryFirstRows tables left.changes
-  was-applied-carries tables blob policy left is = subst (λ r. IfOk r (λ (a : AppliedState A). CarryFirstRows tables a.changes)) is (apply-carries tables blob policy)
 
   -- a session is shown all of them, or none
   pub shown-carries : (tables : Tables A) (changes : List (Change A)) (session : ℕ) (c : Command A) → CarryFirstRows tables changes → (name : List ℕ) (key : Fields A) (change : Change A)

@@ -43,18 +43,12 @@ module _ {A : Type 0} (schema : List Bool) where
       merged-stand seconds (put_beside fields_cmp rows row)
       (list_all-put_entry fields_cmp stands rows row.0 (first_of (get fields_cmp rows row.0), Some row.1) all (found-stands rows row.0 (get fields_cmp rows row.0) all refl))
 
-  alone-stand : (rows : List (Fields A × Fields A)) → list_all (λ row. is_keyed_row schema row.0 row.1) rows ≡ true → list_all stands (alone {W = Fields A} rows) ≡ true
-  unfolding stands
-  alone-stand rows all = list_all-map (λ (row : Fields A × Fields A). is_keyed_row schema row.0 row.1) stands (λ row. (row.0, (Some row.1, None))) (λ row is. is) rows all
-
-  difference-stands : (key : Fields A) (old new : Option (Fields A)) → is_own_image (Some schema) key old ≡ true → IfSome (difference_at key (image_at old new)) (λ difference. is_own_image (Some schema) difference.key difference.image ≡ true)
-  difference-stands key old new is = grind arith
-
   differences-stand : (from to : List (Fields A × Fields A)) → list_all (λ row. is_keyed_row schema row.0 row.1) from ≡ true → are_own_differences (Some schema) (differences from to) ≡ true
   unfolding stands beside
   differences-stand from to all =
       list_all-filter_map stands (λ (difference : Difference A). is_own_image (Some schema) difference.key difference.image) (λ row. difference_at row.0 (image_at row.1.0 row.1.1))
-      (λ row is. difference-stands row.0 row.1.0 row.1.1 is) (beside fields_cmp from to) (merged-stand to (alone from) (alone-stand from all))
+      (λ row is. grind arith) (beside fields_cmp from to) (merged-stand to (alone from)
+      (list_all-map (λ (row : Fields A × Fields A). is_keyed_row schema row.0 row.1) stands (λ row. (row.0, (Some row.1, None))) (λ row is. is) from all))
 
 module _ {A : Type 0} where
   -- two tables that were compared

@@ -79,9 +79,6 @@ first_of_each-append names [] = ap first_of_each (append-nil names)
 first_of_each-append names (name ∷ more) =
     ap first_of_each (sym (append_assoc names (name ∷ []) more)) ∙ first_of_each-append (names ++ name ∷ []) more ∙ ap (λ ns. fold push_name ns more) (first_of_each-push names name)
 
-among-before : (names : List (List ℕ)) (name other : List ℕ) → is_among other (push_name names name) ≡ false → is_among other names ≡ false
-among-before names name other = grind (arith, list_any-append (bytes_eq other) names (name ∷ []))
-
 abbrev pub table_names : List Attaching → List (List ℕ)
 table_names moments = map (λ moment. moment.table) moments
 
@@ -99,20 +96,13 @@ all_attached : (place k : ℕ) → nat_lt place k ≡ true → (names : List (Li
 all_attached place k lt [] = refl
 all_attached place k lt (name ∷ names) = grind (arith, all_attached place k lt names)
 
-said_earlier : (place k : ℕ) → nat_lt place k ≡ true → (said : Bool) (names : List (List ℕ)) → list_all {X = Attaching} (λ moment. nat_lt moment.event k) (cond said (map (attaching_at place 0) names) []) ≡ true
-said_earlier place k lt true names = all_attached place k lt names
-said_earlier place k lt false names = refl
-
-joined : {X : Type 0} (test : X → Bool) (before said compared changed : List X) → list_all test before ≡ true → list_all test said ≡ true → list_all test compared ≡ true → list_all test changed ≡ true
-    → list_all test (before ++ (said ++ compared ++ changed)) ≡ true
-joined test before said compared changed b s c d = grind (arith, list_all-append test)
+joined : {X : Type 0} (test : X → Bool) (before : List X) (b : Bool) (said compared changed : List X) → list_all test before ≡ true → list_all test said ≡ true → list_all test compared ≡ true → list_all test changed ≡ true
+    → list_all test (before ++ (cond b said [] ++ compared ++ changed)) ≡ true
+joined test before b said compared changed bs s c d = grind (arith, list_all-append test)
 
 regroup : (moments more : List Attaching) (found : Option Attaching) (later : List Attaching) → (moments ++ more) ++ cons_option found later ≡ (moments ++ (more ++ cons_option found [])) ++ later
 regroup moments more None later = grind (arith, append_assoc, append-nil)
 regroup moments more (Some moment) later = grind (arith, append_assoc)
-
-at_once : (event place : ℕ) → (nat_lt event event || (nat_eq event event && nat_le place place)) ≡ true
-at_once event place = grind (arith, nat_tests)
 
 module _ {A : Type 0} where
   -- ---- attached tables, each with what is kept of it
@@ -131,7 +121,7 @@ module _ {A : Type 0} where
       → fold (attach_by rule) (tables_with records names) more ≡ tables_with records (fold (push_by rule) names more)
   attach_by-named rule records [] names none = refl
   attach_by-named rule records (name ∷ more) names none =
-      let pushed = attach_by-named rule records more (push_name names name) (λ other absent. none other (among-before names name other absent)) in
+      let pushed = attach_by-named rule records more (push_name names name) (λ other absent. none other (grind (arith, list_any-append (bytes_eq other) names (name ∷ [])))) in
       let left = attach_by-named rule records more names none in
       grind (arith, attach-named records name names (none name))
 
@@ -191,8 +181,8 @@ module _ {A : Type 0} where
   attachings-earlier session k [] le = refl
   attachings-earlier session k (event ∷ past) le =
       let lt : nat_lt (length past) k ≡ true = grind (arith, nat_tests) in
-      joined (λ moment. nat_lt moment.event k) (attachings session past) _ _ _ (attachings-earlier session k past (omega arith))
-      (said_earlier (length past) k lt (is_accepted event.reply) (names_attached (command_to session event.command)))
+      joined (λ moment. nat_lt moment.event k) (attachings session past) (is_accepted event.reply) _ _ _ (attachings-earlier session k past (omega arith))
+      (all_attached (length past) k lt (names_attached (command_to session event.command)))
       (all_attached (length past) k lt (names_compared (event_diff session event past)))
       (all_by_changes session past k lt 0 (changes_shown session event.command (event_effect (snapshot past) event).changes))
 
@@ -269,4 +259,4 @@ module _ {A : Type 0} where
       → is_recorded ((moments ++ more) ++ cons_option (attaching_by session past (place, change)) later) (touch_at session past place change key) ≡ true
   seen_now session past name accepted moments more place change key later same =
       let touch = touch_at session past place change key in
-      grind (arith, (bytes_decides name change.table).0 same, same_bytes, at_once (length past) place, list_any-append (λ (moment : Attaching). bytes_eq touch.table moment.table && is_in_time touch moment))
+      grind (arith, (bytes_decides name change.table).0 same, same_bytes, nat_tests, list_any-append (λ (moment : Attaching). bytes_eq touch.table moment.table && is_in_time touch moment))

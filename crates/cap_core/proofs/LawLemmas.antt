@@ -1,5 +1,5 @@
 -- Laws of histories, sessions and captures.
-use Rattle.std.proofs.Common.{◌≡◌, ℕ, Bool, true, false, Option, Some, None, List, [], ◌∷◌, ◌++◌, map, refl, sym, ap, ap₂, ◌∙◌, T, IsTrue, arith}
+use Rattle.std.proofs.Common.{◌≡◌, ℕ, Bool, true, false, Option, Some, None, List, [], ◌∷◌, ◌++◌, map, refl, sym, ap, ap₂, ◌∙◌, T, IsTrue, arith, subst, ◌<◌, ◌+◌, length, get_or, length-append}
 use Rattle.std.specs.Option.{option_map}
 use Rattle.cap_row.specs.Fields.{Fields}
 use Rattle.cap_row.specs.Key.{fields_cmp, fields_cmp-Equal}
@@ -17,7 +17,7 @@ use Rattle.cap_core.specs.declared.session_command.SessionCommand.{SessionComman
 use Rattle.cap_core.specs.declared.session_command.SessionCommand.TheVariants.{Change}
 use Rattle.cap_core.specs.declared.event.Event.{Event}
 use Rattle.cap_core.specs.declared.reply.Reply.{Reply}
-use Rattle.cap_core.specs.Answer.{IsLegal, IsLegalPast, State, answer, event_by, reply_of, session_answer, session_reply, state, state_after}
+use Rattle.cap_core.specs.Answer.{IsLegal, IsLegalPast, State, answer, event_by, reply_of, session_answer, session_reply, state, state_after, history_of}
 use Rattle.cap_core.specs.Capture.{change_now, changes_of, session_changes, table_changes}
 use Rattle.cap_core.specs.History.{main}
 use Rattle.cap_core.specs.Past.{Past, is_accepted}
@@ -25,8 +25,13 @@ use Rattle.cap_core.specs.Replies.{replies_after}
 use Rattle.cap_core.specs.Session.{all_indirect, records_of, session_of}
 use Rattle.cap_core.specs.Touch.{Touch, attach_list, touches, touches_of}
 use Rattle.cap_core.specs.Transition.{next, one_more}
-use Rattle.cap_core.proofs.NextLemmas.{IsLegal-push, after_refusal, next-is, state-push}
+use Rattle.cap_core.proofs.NextLemmas.{after_refusal, next-is, state-push}
 use Rattle.cap_core.proofs.TouchedLemmas.{find-records_of, get-find, records_of-none, touched_at}
+use Rattle.std.specs.Prelude.{All, reverse}
+use Rattle.std.specs.List.{AllByRecursion}
+use Rattle.std.proofs.lemmas.List.{reverse-append}
+use Rattle.std.proofs.lemmas.List.Elements.{recursion_from_All}
+use Rattle.cap_core.specs.Table.{BlobFits, BlobsFit, BlobsFitPast}
 
 module _ {A : Type 0} where
   pub no_changes : (name : List ℕ) (table : Option (TableState A)) → table_changes (name, []) table ≡ None
@@ -56,11 +61,12 @@ module _ {A : Type 0} where
   -- ---- a history that goes on
 
   pub grown : (h : List (Event A)) (by : ℕ) (c : Command A) → IsLegal h → IsLegal (h ++ event_by by c (reply_of h c) ∷ [])
-  grown h by c legal = IsLegal-push h (event_by by c (reply_of h c)) legal refl
+  unfolding reply_of
+  grown h by c legal = (state-push h by c (state h) (next (state h) c) (answer (state h) c) legal refl refl refl).2
 
   pub grown-state : (h : List (Event A)) (by : ℕ) (c : Command A) → IsLegal h → state (h ++ event_by by c (reply_of h c) ∷ []) ≡ next (state h) c
   unfolding reply_of
-  grown-state h by c legal = sym (state-push h by c (state h) (answer (state h) c) legal refl refl).1
+  grown-state h by c legal = sym (state-push h by c (state h) (next (state h) c) (answer (state h) c) legal refl refl refl).1
 
   pub answered : (h : List (Event A)) (c : Command A) → reply_of h c ≡ answer (state h) c
   unfolding reply_of
@@ -101,3 +107,78 @@ module _ {A : Type 0} where
 pub truth : (b : Bool) → T b → IsTrue b
 truth true t = refl
 truth false t = absurd t
+
+pub fits-none : (A : Type 0) → BlobsFit {A = A} []
+unfolding BlobsFit
+fits-none A = tt
+
+module _ {A : Type 0} where
+  fit-both : (xs ys : Past A) → BlobsFitPast xs → BlobsFitPast ys → BlobsFitPast (xs ++ ys)
+  fit-both [] ys fits more = more
+  fit-both (x ∷ xs) ys fits more = (fits.0, fit-both xs ys fits.1 more)
+
+  fit-rest : (xs ys : Past A) → BlobsFitPast (xs ++ ys) → BlobsFitPast ys
+  fit-rest [] ys fits = fits
+  fit-rest (x ∷ xs) ys fits = fit-rest xs ys fits.1
+
+  pub fits_push : (h : List (Event A)) (by : ℕ) (c : Command A) (reply : Reply A) → BlobsFit h → BlobFits c → BlobsFit (h ++ event_by by c reply ∷ [])
+  unfolding BlobsFit
+  fits_push h by c reply fits one = subst BlobsFitPast (sym (reverse-append h (event_by by c reply ∷ []))) (one, fits)
+
+  pub fits-begins : (h more : List (Event A)) → BlobsFit (h ++ more) → BlobsFit h
+  unfolding BlobsFit
+  fits-begins h more fits = fit-rest (reverse more) (reverse h) (subst BlobsFitPast (reverse-append h more) fits)
+
+  pub fits-past : (h : List (Event A)) → BlobsFit h → BlobsFitPast (reverse h)
+  unfolding BlobsFit
+  fits-past h fits = fits
+
+  -- the history of commands whose blobs fit
+  history-fits-from : (commands : List (Command A)) (replies : List (Reply A)) → AllByRecursion BlobFits commands → BlobsFit (history_of commands replies)
+  unfolding BlobsFit
+  history-fits-from [] replies fits = tt
+  history-fits-from (c ∷ commands) [] fits = tt
+  history-fits-from (c ∷ commands) (reply ∷ replies) fits =
+      let event = event_by 0 c reply in
+      subst BlobsFitPast (sym (reverse-append (event ∷ []) (history_of commands replies)))
+      (fit-both (reverse (history_of commands replies)) (event ∷ []) (history-fits-from commands replies fits.1) (fits.0, tt))
+
+  pub history-fits : (commands : List (Command A)) (replies : List (Reply A)) → All BlobFits commands → BlobsFit (history_of commands replies)
+  history-fits commands replies fits = history-fits-from commands replies (recursion_from_All BlobFits commands fits)
+
+module _ {A : Type 0} where
+  -- these replies are to as many of the commands, and leave this server
+  pub record Ran (commands : List (Command A)) (replies : List (Reply A)) (core : State A) : Type 0 where
+    pub legal : IsLegal (history_of commands replies)
+    pub left : state (history_of commands replies) ≡ core
+    pub fits : BlobsFit (history_of commands replies)
+    pub events : core.events ≡ length replies
+
+  pub ran-none : (commands : List (Command A)) (core : State A) → core ≡ state [] → Ran commands [] core
+  unfolding IsLegal state BlobsFit
+  ran-none [] core is = record { legal = tt; left = sym is; fits = tt; events = ap (λ s. s.events) is }
+  ran-none (c ∷ commands) core is = record { legal = tt; left = sym is; fits = tt; events = ap (λ s. s.events) is }
+
+  next-events : (s : State A) (c : Command A) → (next s c).events ≡ s.events + 1
+  next-events s c = grind arith
+
+  history_of-push : (commands : List (Command A)) (replies : List (Reply A)) (c : Command A) (r : Reply A) → length replies < length commands → c ≡ get_or commands (length replies) c
+      → history_of commands (replies ++ r ∷ []) ≡ history_of commands replies ++ event_by 0 c r ∷ []
+  history_of-push [] replies c r lt at = absurd (omega arith)
+  history_of-push (x ∷ []) [] c r lt at = ap (λ d. event_by 0 d r ∷ []) (sym at)
+  history_of-push (x ∷ y ∷ commands) [] c r lt at = ap (λ d. event_by 0 d r ∷ []) (sym at)
+  history_of-push (x ∷ commands) (y ∷ replies) c r lt at = ap (λ h. event_by 0 x y ∷ h) (history_of-push commands replies c r (omega arith) at)
+
+  -- one more command
+  pub ran-push : (commands : List (Command A)) (replies : List (Reply A)) (core new : State A) (i : ℕ) (c : Command A) (r : Reply A) → Ran commands replies core → length replies ≡ i → i < length commands → c ≡ get_or commands i c
+      → BlobFits c → new ≡ next core c → r ≡ answer core c → Ran commands (replies ++ r ∷ []) new
+  ran-push commands replies core new i c r ran same lt at fits is answered =
+      let h = history_of commands replies in
+      let push = history_of-push commands replies c r (omega arith) (subst (λ n. c ≡ get_or commands n c) (sym same) at) in
+      let met = state-push h 0 c core new r ran.legal ran.left is answered in
+      record {
+        legal = subst IsLegal (sym push) met.2;
+        left = ap state push ∙ sym met.1;
+        fits = subst BlobsFit (sym push) (fits_push h 0 c r ran.fits fits);
+        events = ap (λ (s : State A). s.events) is ∙ next-events core c ∙ omega (arith, ran.events, length-append replies (r ∷ []));
+      }

@@ -1,7 +1,7 @@
 -- The state after one more event is what its command makes of the state before.
 use Rattle.std.proofs.lemmas.List.{length-reverse, map-append, reverse-append}
-use Rattle.std.proofs.Common.{◌≡◌, ℕ, ◌+◌, ◌<◌, Bool, true, false, cond, Option, Some, None, Ok, Err, List, [], ◌∷◌, ◌++◌, ◌&&◌, ◌||◌, not, map, length, refl, sym, ap, ap₂, subst, ◌∙◌, arith, nat_eq, add-one}
-use Rattle.std.specs.Prelude.{filter, reverse}
+use Rattle.std.proofs.Common.{◌≡◌, ℕ, ◌+◌, ◌<◌, Bool, true, false, cond, Option, Some, None, Ok, Err, List, [], ◌∷◌, ◌++◌, ◌&&◌, ◌||◌, not, map, length, refl, sym, ap, ap₂, subst, ◌∙◌, arith, nat_eq, add-one, Result}
+use Rattle.std.specs.Prelude.{filter, reverse, IfSome}
 use Rattle.std.specs.List.{range_with_len}
 use Rattle.std.specs.Option.{unwrap_or}
 use Rattle.cap_value.specs.Bytes.{bytes_cmp}
@@ -11,7 +11,7 @@ use Rattle.cap_tree.specs.Tree.{put_entry, take_entry}
 use Rattle.cap_codec.specs.declared.read.Contents.{Contents}
 use Rattle.cap_apply.specs.Report.{ReportState}
 use Rattle.cap_apply.specs.declared.policy.Policy.{Policy}
-use Rattle.cap_database.specs.Tables.{Tables}
+use Rattle.cap_database.specs.Tables.{Tables, table_of}
 use Rattle.cap_session.specs.Recording.{record_commit}
 use Rattle.cap_session.specs.Session.{SessionState, new_session}
 use Rattle.cap_session.specs.Sessions.{session_numbered, with_session}
@@ -22,23 +22,29 @@ use Rattle.cap_core.specs.declared.session_command.SessionCommand.{SessionComman
 use Rattle.cap_core.specs.declared.session_command.SessionCommand.TheVariants.{Change, Delete, Diff}
 use Rattle.cap_core.specs.declared.reply.Reply.{Reply}
 use Rattle.cap_core.specs.declared.reply.Reply.TheVariants.{Done, Refused, Session as SessionMade}
-use Rattle.cap_core.specs.Answer.{IsLegal, IsLegalPast, State, answer, drop_reply, event_by, new_session_reply, refusal, reply_of, save_reply, session_answer, session_reply, state, state_after, version_reply, write_reply}
+use Rattle.cap_core.specs.Answer.{IsLegal, IsLegalPast, State, answer, drop_reply, event_by, new_session_reply, refusal, reply_of, save_reply, session_answer, session_reply, state, state_after, version_reply, write_reply, diffed}
 use Rattle.cap_core.specs.Flags.{changes_shown, command_to, deletes, is_dropped, is_quiet, live_sessions, makes_session, quiet_sessions, sessions_made}
 use Rattle.cap_core.specs.History.{Databases, effect_of, event_effect, is_write, main, saved, saved_after, snapshot, version}
-use Rattle.cap_core.specs.Outcome.{Effect, no_effect, outcome}
+use Rattle.cap_core.specs.Outcome.{Effect, no_effect, outcome, Refused as Why, made}
 use Rattle.cap_core.specs.Past.{Past, is_accepted}
 use Rattle.cap_core.specs.Session.{session_of, sessions}
 use Rattle.cap_core.specs.Transition.{after_drop, after_new_session, after_save, after_write, next, one_more, session_left, with_left, with_sessions, written}
 use Rattle.cap_core.proofs.HistoryLemmas.{map-both}
 use Rattle.cap_core.proofs.SessionLemmas.{effect-refused, effect-told, record_commit-new, session-apart, session-elsewhere, session-refused, shown-recorded}
-use Rattle.cap_core.proofs.NumberLemmas.{lookup-beyond, lookup-passing, made_before, numbered, passing, passing-push, with-passing, without-passing}
-use Rattle.cap_core.proofs.SessionStandLemmas.{with-same}
+use Rattle.cap_core.proofs.NumberLemmas.{lookup-beyond, lookup-passing, numbered, passing, passing-push, with-passing, without-passing}
 use Rattle.cap_core.proofs.ChangeLemmas.{change-accepted}
 use Rattle.cap_core.proofs.FlagLemmas.{session-here}
 use Rattle.cap_core.proofs.ToldLemmas.{is_told, to_itself, to_others}
-
-accepted_version : (A : Type 0) (number : ℕ) (report : Option ReportState) → is_accepted {A = A} (version_reply number report) ≡ true
-accepted_version A number report = grind arith
+use Rattle.cap_core.proofs.SoundLemmas.{with_same}
+use Rattle.std.specs.Result.{result_err}
+use Rattle.cap_value.specs.declared.memory.Fault.{Fault}
+use Rattle.cap_compare.specs.declared.difference.Difference.{Difference}
+use Rattle.cap_table.specs.Table.{TableState}
+use Rattle.cap_database.specs.Operation.{in_place, refused_in, refused_step, run, step, stepped}
+use Rattle.cap_database.specs.declared.op.Op.{Op}
+use Rattle.cap_database.proofs.StepLemmas.{refused_act_is}
+use Rattle.cap_core.specs.Code.CommandOutcome.{Reports}
+use Rattle.cap_core.specs.RefusedFirst.{RepliesFirst, no_session, refusal_in, refused_first, refused_op, whole}
 
 module _ {A : Type 0} where
   same_state : (s t : State A) → s.events ≡ t.events → s.main ≡ t.main → s.version ≡ t.version → s.saved ≡ t.saved → s.sessions_made ≡ t.sessions_made → s.sessions ≡ t.sessions → s ≡ t
@@ -48,9 +54,6 @@ module _ {A : Type 0} where
   is_live past number = not (is_dropped past number)
 
   -- ---- a session that is not made yet
-
-  numbered-none : (past : Past A) (number : ℕ) → sessions_made past < number → session_numbered (sessions past) number ≡ None
-  numbered-none past number lt = lookup-beyond (is_live past) (session_of past) 1 (sessions_made past) number (omega arith)
 
   unknown-refused : (s : State A) (number : ℕ) → session_numbered s.sessions number ≡ None → (c : Command A) (told : SessionCommand A) → command_to number c ≡ Some told → is_accepted (answer s c) ≡ false
   unknown-refused s number none c told is =
@@ -62,9 +65,9 @@ module _ {A : Type 0} where
   not_made : (past : Past A) (number : ℕ) → IsLegalPast past → sessions_made past < number → (session_of past number ≡ new_session) × (is_dropped past number ≡ false)
   not_made [] number legal lt = (refl, refl)
   not_made (event ∷ past) number legal lt =
-      let before = made_before (is_accepted event.reply && makes_session event.command) (sessions_made past) number lt in
+      let before : sessions_made past < number = grind arith in
       let known = not_made past number legal.1 before in
-      let none = numbered-none past number before in
+      let none = lookup-beyond (is_live past) (session_of past) 1 (sessions_made past) number (omega arith) in
       let changes = changes_shown number event.command (event_effect (snapshot past) event).changes in (
         elim (command_to number event.command) as (λ o. command_to number event.command ≡ o → session_of (event ∷ past) number ≡ new_session) [
           | Some told ↦ λ is. session-refused number event past (ap is_accepted legal.0 ∙ unknown-refused (state_after past) number none event.command told is) ∙ known.0
@@ -124,7 +127,7 @@ module _ {A : Type 0} where
   next-write past by c write =
       elim (outcome (snapshot past) c) as (λ r. outcome (snapshot past) c ≡ r → after_write (state_after past) (quiet_sessions c) r ≡ state_after (event_by by c (write_reply (state_after past) r) ∷ past)) [
         | Err why ↦ λ is. after_refusal (event_by by c (Refused why.0 why.1)) past refl
-        | Ok effect ↦ λ is. next-written past (event_by by c (version_reply (version past + 1) effect.report)) effect write (accepted_version A (version past + 1) effect.report) is
+        | Ok effect ↦ λ is. next-written past (event_by by c (version_reply (version past + 1) effect.report)) effect write (grind arith) is
       ] refl
 
   -- an application, which is refused where a session that it leaves as it is is not live
@@ -184,14 +187,6 @@ module _ {A : Type 0} where
       (session : SessionState A) → session_numbered (sessions past) number ≡ Some session
       → with_sessions (state_after past) (with_left (sessions past) number (session_left (main past) (saved past) told session)) ≡ state_after (event_by by (command.Session number told) (session_reply (state_after past) told session) ∷ past)
 
-  leaves-deleted : (past : Past A) (by number : ℕ) → Leaves past by number Delete
-  leaves-deleted past by number session is =
-      let event : Event A = event_by by (command.Session number Delete) Done in
-      same_state _ _ (add-one (length past)) refl refl refl refl
-      (without-passing (is_live past) (is_live (event ∷ past)) (session_of past) (session_of (event ∷ past)) 1 (sessions_made past) number
-      (ap (λ told. not (deletes told || is_dropped past number)) (to_itself number Delete))
-      (λ j apart. (sym (others-stay past event number Delete refl j apart), sym (ap (λ told. not (deletes told || is_dropped past j)) (to_others j number Delete apart)))))
-
   -- a session that is there and goes on
   leaves-left : (past : Past A) (by number : ℕ) (told : SessionCommand A) → deletes (Some told) ≡ false → (session left : SessionState A) → session_numbered (sessions past) number ≡ Some session
       → session_left (main past) (saved past) told session ≡ Some left → (reply : Reply A) → is_accepted reply ≡ true
@@ -220,13 +215,18 @@ module _ {A : Type 0} where
   refused-left s _ session is = cc
 
   leaves : (past : Past A) (by number : ℕ) (told : SessionCommand A) → Leaves past by number told
-  leaves past by number Delete = leaves-deleted past by number
+  leaves past by number Delete = λ session is.
+      let event : Event A = event_by by (command.Session number Delete) Done in
+      same_state _ _ (add-one (length past)) refl refl refl refl
+      (without-passing (is_live past) (is_live (event ∷ past)) (session_of past) (session_of (event ∷ past)) 1 (sessions_made past) number
+      (ap (λ told. not (deletes told || is_dropped past number)) (to_itself number Delete))
+      (λ j apart. (sym (others-stay past event number Delete refl j apart), sym (ap (λ told. not (deletes told || is_dropped past j)) (to_others j number Delete apart)))))
   leaves past by number told = λ session is.
       let s = state_after past in
       let reply = session_reply s told session in
       let left = unwrap_or (session_left (main past) (saved past) told session) session in
       let refused = after_refusal (event_by by (command.Session number told) reply) past in
-      grind (arith, leaves-left past by number told refl session left is refl reply, refused-left s told session, with-same number (sessions past) session is)
+      grind (arith, leaves-left past by number told refl session left is refl reply, refused-left s told session, with_same number (sessions past) session is)
 
   next-told : (past : Past A) (by number : ℕ) (told : SessionCommand A)
       → next (state_after past) (command.Session number told) ≡ state_after (event_by by (command.Session number told) (answer (state_after past) (command.Session number told)) ∷ past)
@@ -250,25 +250,19 @@ module _ {A : Type 0} where
 
   -- ---- histories, the first event first
 
-  reverse-push : (history : List (Event A)) (event : Event A) → reverse (history ++ event ∷ []) ≡ event ∷ reverse history
-  reverse-push history event = reverse-append history (event ∷ [])
-
-  -- the state after one more event whose reply is that of its command
-  pub state-push : (history : List (Event A)) (by : ℕ) (c : Command A) (s : State A) (reply : Reply A) → IsLegal history → state history ≡ s → reply ≡ answer s c
-      → (reply ≡ reply_of history c) × (next s c ≡ state (history ++ event_by by c reply ∷ []))
+  -- the state after one more event whose reply is that of its command, and that the history stays legal
+  pub state-push : (history : List (Event A)) (by : ℕ) (c : Command A) (s new : State A) (reply : Reply A) → IsLegal history → state history ≡ s → new ≡ next s c → reply ≡ answer s c
+      → (reply ≡ reply_of history c) × (new ≡ state (history ++ event_by by c reply ∷ [])) × IsLegal (history ++ event_by by c reply ∷ [])
   unfolding IsLegal state reply_of
-  state-push history by c s reply legal is answered =
-      let replied : reply ≡ answer (state_after (reverse history)) c = answered ∙ ap (λ t. answer t c) (sym is) in (
+  state-push history by c s new reply legal is left answered =
+      let replied : reply ≡ answer (state_after (reverse history)) c = answered ∙ ap (λ t. answer t c) (sym is) in
+      let push = reverse-append history (event_by by c reply ∷ []) in (
         replied,
-        ap (λ t. next t c) (sym is) ∙ next-is (reverse history) by c legal
+        left ∙ ap (λ t. next t c) (sym is) ∙ next-is (reverse history) by c legal
             ∙ ap (λ r. state_after (event_by by c r ∷ reverse history)) (sym replied)
-            ∙ ap state_after (sym (reverse-push history (event_by by c reply))),
+            ∙ ap state_after (sym push),
+        subst IsLegalPast (sym push) (replied, legal),
       )
-
-  -- a history stays legal with an event whose reply is that of its command
-  pub IsLegal-push : (history : List (Event A)) (event : Event A) → IsLegal history → event.reply ≡ reply_of history event.command → IsLegal (history ++ event ∷ [])
-  unfolding IsLegal reply_of state
-  IsLegal-push history event legal replied = subst IsLegalPast (sym (reverse-push history event)) (replied, legal)
 
   pub events-state : (history : List (Event A)) → (state history).events ≡ length history
   unfolding state
@@ -285,3 +279,61 @@ IsLegal-none A = tt
 pub state-none : (A : Type 0) → state {A = A} [] ≡ record { events = 0; main = []; version = 0; saved = []; sessions_made = 0; sessions = [] }
 unfolding state
 state-none A = refl
+
+module _ {A : Type 0} where
+  -- ---- the reply
+
+  refused-is : (reply : Reply A) (why : Why) → refusal_in reply ≡ Some why → reply ≡ Refused why.0 why.1
+  refused-is (Refused at why) known is = let same : (at, why) ≡ known = cc in ap (λ (w : Why). Refused w.0 w.1) same
+  refused-is _ known is = cc
+
+  step-refused : (tables : Tables A) (op : Op A) (why : Refusal) → refused_step tables op ≡ Some why → step tables op ≡ Err why
+  step-refused tables op why is = grind (arith, λ (table : TableState A). refused_act_is table op.action why)
+
+  op-refused : (s : State A) (ops : List (Op A)) (why : Why) → refused_op s.main ops ≡ Some why → write_reply s (made (run s.main ops)) ≡ Refused why.0 why.1
+  op-refused s [] why is = cc
+  op-refused s (op ∷ ops) why is = grind (arith, step-refused s.main op)
+
+  pub first-answer : (s : State A) (c : Command A) (why : Why) → refused_first s c ≡ Some why → answer s c ≡ Refused why.0 why.1
+  first-answer s (command.Commit batch) why is = grind (arith, op-refused s batch.ops why)
+  first-answer s (command.Apply blob policy quiet) why is = grind arith
+  first-answer s c why is = refused-is (answer s c) why is
+
+  -- ---- the state after it
+
+  refused-next : (s : State A) (c : Command A) (why : Why) → refusal_in (answer s c) ≡ Some why → next s c ≡ one_more s
+  refused-next s (command.Session number told) why is =
+      let left = λ (session : SessionState A) (refused : refusal_in (session_reply s told session) ≡ Some why). refused-left s told session (ap is_accepted (refused-is (session_reply s told session) why refused)) in
+      grind (arith, left, with_same number s.sessions)
+  refused-next s c why is = grind arith
+
+  pub first-next : (s : State A) (c : Command A) (why : Why) → refused_first s c ≡ Some why → next s c ≡ one_more s
+  first-next s c why is = refused-next s c why (ap refusal_in (first-answer s c why is))
+
+  -- ---- what a step answers
+
+  pub ok-first : (E : Type 0) (s : State A) (c : Command A) (told : Reply A) → told ≡ answer s c → RepliesFirst {E = E} (refused_first s c) (Ok told)
+  ok-first E s c told is = inner (refused_first s c) refl
+    where
+      inner : (known : Option Why) → refused_first s c ≡ known → IfSome known (λ why. told ≡ Refused why.0 why.1)
+      inner None refuses = tt
+      inner (Some why) refuses = is ∙ first-answer s c why refuses
+
+  -- ---- what is known of a command to a session
+
+  pub diff_known : (r : Result (Option (List (Difference A))) Refusal) → whole (result_err r) ≡ refusal_in {A = A} (diffed r)
+  diff_known r = grind arith
+
+  -- the session is live
+  pub live-known : (found : Option (SessionState A)) (reply : SessionState A → Reply A) (known : Option Why) → no_session found ≡ None
+      → ((session : SessionState A) → known ≡ refusal_in (reply session)) → known ≡ refusal_in (session_answer found reply)
+  live-known None reply known none each = cc
+  live-known (Some session) reply known none each = each session
+
+module _ {A S E : Type 0} (gives : S → Reply A → Result Unit E → S → Type 0) where
+  -- a command that is refused so has that reply, and leaves that
+  pub refused-reports : (s new : State A) (c : Command A) (before after : S) (why : Why) (r : Result (Reply A) (Fault E)) → Some why ≡ refused_first s c
+      → Reports gives (Refused why.0 why.1) (one_more s) s new before after r → Reports gives (answer s c) (next s c) s new before after r
+  refused-reports s new c before after why r is told =
+      subst (λ (n : State A). Reports gives (answer s c) n s new before after r) (sym (first-next s c why (sym is)))
+      (subst (λ (reply : Reply A). Reports gives reply (one_more s) s new before after r) (sym (first-answer s c why (sym is))) told)

@@ -64,6 +64,3 @@ module _ {A : Type 0} (p : ℕ → Bool) where
       let here = λ (t : nat_eq number a ≡ true). passing-same p f g q (a + 1) n (λ j le. others j (λ e. let at = equal_numbers number a t in omega arith)) in
       let apart = λ (t : nat_eq number a ≡ false). others a (λ e. unequal_numbers number a t (sym e)) in
       grind (arith, equal_numbers number a)
-
-pub made_before : (b : Bool) (n number : ℕ) → cond b (n + 1) n < number → n < number
-made_before b n number lt = grind arith

@@ -64,9 +64,6 @@ module _ {A : Type 0} where
   pub silent-elsewhere : (session : ℕ) (event : Event A) (past : Past A) → command_to session event.command ≡ None → IsSilent session event past
   silent-elsewhere session event past none = silent-by session past _ _ (ap (λ told. cond (is_accepted event.reply) told None) none ∙ cond-same (is_accepted event.reply) None)
 
-  silent-refused : (session : ℕ) (event : Event A) (past : Past A) → is_accepted event.reply ≡ false → IsSilent session event past
-  silent-refused session event past refused = silent-by session past _ _ (ap (λ b. cond b (command_to session event.command) None) refused)
-
   module _ (session : ℕ) (event : Event A) (past : Past A) (silent : IsSilent session event past) where
     abbrev changes_made : List (Change A)
     changes_made = changes_shown session event.command (event_effect (snapshot past) event).changes
@@ -92,13 +89,6 @@ module _ {A : Type 0} where
         ∙ ap (λ more. touches session past ++ more) (append-nil (changes_touch session event past))
 
     module _ (on : is_enabled session past ≡ true) where
-      list-on : attach_list session (event ∷ past) ≡ fold (push_by (rule_of session past)) names_before (map (λ change. change.table) changes_made)
-      list-on =
-          ap (λ moments. first_of_each (table_names moments)) attachings-silent
-          ∙ ap first_of_each (table_names-append moments_before by_changes)
-          ∙ first_of_each-append (table_names moments_before) (table_names by_changes)
-          ∙ names-by-changes session past on 0 changes_made (first_of_each (table_names moments_before))
-
       pub told-on : (name : List ℕ) → is_among name (attach_list session (event ∷ past)) ≡ true → map told (touches_of name (changes_touch session event past)) ≡ told_of_table name
       told-on name listed =
           let found = filter_map (touch_of session past) (enumerate_from 0 changes_made) in
@@ -124,17 +114,16 @@ module _ {A : Type 0} where
           ∙ ap (with_touches (kept past session name)) (told-on name listed)
 
       -- the rows that the changes carry are the rows before the event, where they come first
-      recorded-on : (name : List ℕ) → is_among name (attach_list session (event ∷ past)) ≡ true → kept (event ∷ past) session name ≡ with_touches (kept past session name) (carried_by (is_indirect session past) name changes_made)
-      recorded-on name listed =
-          kept-on name listed
-          ∙ sym (carried-told (main past) (is_indirect session past) name changes_made (kept past session name) (shown-carries (main past) (event_effect (snapshot past) event).changes session event.command (event-carries (snapshot past) event) name))
-
       tables-on : (session_of (event ∷ past) session).tables ≡ touch_tables (is_indirect session past) changes_made (attach_by_rule (rule_of session past) changes_made (session_of past session).tables)
       tables-on =
           let more : List ℕ → List ℕ × Records A = λ name. (name, with_touches (kept past session name) (carried_by (is_indirect session past) name changes_made)) in
           let pushed = fold (push_by (rule_of session past)) names_before (map (λ change. change.table) changes_made) in
-          map-listed (λ name. (name, kept (event ∷ past) session name)) more (attach_list session (event ∷ past)) (λ name listed. ap (λ records. (name, records)) (recorded-on name listed))
-          ∙ ap (map more) list-on
+          map-listed (λ name. (name, kept (event ∷ past) session name)) more (attach_list session (event ∷ past)) (λ name listed. ap (λ records. (name, records)) (kept-on name listed
+          ∙ sym (carried-told (main past) (is_indirect session past) name changes_made (kept past session name) (shown-carries (main past) (event_effect (snapshot past) event).changes session event.command (event-carries (snapshot past) event) name))))
+          ∙ ap (map more) (ap (λ moments. first_of_each (table_names moments)) attachings-silent
+          ∙ ap first_of_each (table_names-append moments_before by_changes)
+          ∙ first_of_each-append (table_names moments_before) (table_names by_changes)
+          ∙ names-by-changes session past on 0 changes_made (first_of_each (table_names moments_before)))
           ∙ sym (map-both (λ attached. (attached.0, with_touches attached.1 (carried_by (is_indirect session past) attached.0 changes_made))) (λ name. (name, kept past session name)) more (λ name. refl) pushed)
           ∙ sym (ap (touch_tables (is_indirect session past) changes_made) (attach_by-named (rule_of session past) (kept past session) (map (λ change. change.table) changes_made) names_before (kept-none past session)))
 
@@ -199,7 +188,7 @@ module _ {A : Type 0} where
 
   pub session-refused : (session : ℕ) (event : Event A) (past : Past A) → is_accepted event.reply ≡ false → session_of (event ∷ past) session ≡ session_of past session
   session-refused session event past refused =
-      session-quiet session event past (silent-refused session event past refused) (ap (λ effect. effect.changes) (effect-refused event (snapshot past) refused))
+      session-quiet session event past (silent-by session past _ _ (ap (λ b. cond b (command_to session event.command) None) refused)) (ap (λ effect. effect.changes) (effect-refused event (snapshot past) refused))
 
   -- a session that the command is not to
   pub session-apart : (session : ℕ) (event : Event A) (past : Past A) → command_to session event.command ≡ None → (event_effect (snapshot past) event).changes ≡ [] → session_of (event ∷ past) session ≡ session_of past session

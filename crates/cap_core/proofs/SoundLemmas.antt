@@ -1,5 +1,5 @@
--- Images that stand under their own keys: after what changes sessions, and where one is found.
-use Rattle.std.proofs.Common.{◌≡◌, ℕ, ◌+◌, ◌<◌, Bool, true, false, cond, Option, Some, None, List, [], ◌∷◌, ◌++◌, map, length, refl, sym, ap, subst, ◌∙◌, arith, Ordering, Result, Ok, get_or, take, add-one, nat_eq}
+-- Images that stand under their own keys: after what changes sessions, where one is found, and in the code.
+use Rattle.std.proofs.Common.{◌≡◌, ℕ, ◌+◌, ◌<◌, Bool, true, false, cond, Option, Some, None, List, [], ◌∷◌, ◌++◌, map, length, refl, sym, ap, subst, ◌∙◌, arith, Ordering, Result, Ok, get_or, take, add-one, nat_eq, ◌&&◌}
 use Rattle.std.specs.Prelude.{IfSome, IfOk, nat_le, is_some, filter_map, option_and_then}
 use Rattle.std.specs.Option.{option_map}
 use Rattle.std.specs.List.{cons_option, list_all}
@@ -12,19 +12,16 @@ use Rattle.std.proofs.lemmas.Bool.Decides.{nat_tests}
 use Rattle.std.proofs.lemmas.List.Folds.{list_all-append}
 use Rattle.cap_value.specs.Bytes.{bytes_eq}
 use Rattle.cap_row.specs.Fields.{Fields}
-use Rattle.cap_row.specs.Key.{fields_cmp, fields_cmp-Equal, key_of, key_from, key_fields}
+use Rattle.cap_row.specs.Key.{fields_cmp, fields_cmp-Equal, key_of, key_from, key_fields, fields_eq, fields_eq_decides, is_key}
 use Rattle.cap_row.specs.Schema.{has_key}
-use Rattle.cap_changes.specs.Change.{IsKeyedRow}
+use Rattle.cap_changes.specs.Change.{HaveSameKey, IsKeyedRow}
 use Rattle.cap_compare.specs.declared.difference.Difference.{Difference}
 use Rattle.cap_table.specs.Sound.{IsRising, IsTable, is_key_of, is_keyed_row}
 use Rattle.cap_table.specs.Table.{TableState}
 use Rattle.cap_tree.specs.Tree.{get, put_entry}
-use Rattle.cap_database.specs.Operation.{run}
-use Rattle.cap_database.specs.Outcome.{OutcomeState}
 use Rattle.cap_database.specs.Read.{row_at}
-use Rattle.cap_database.specs.Tables.{EachRises, Tables, create, schema_of, table_of}
+use Rattle.cap_database.specs.Tables.{EachRises, Tables, schema_of, table_of}
 use Rattle.cap_database.specs.declared.change.Change.{Change}
-use Rattle.cap_database.specs.declared.op.Op.{Op}
 use Rattle.cap_database.proofs.KeptLemmas.{each-found}
 use Rattle.cap_session.specs.declared.record.Record.{Record}
 use Rattle.cap_session.specs.declared.rule.AutomaticRule.{AutomaticRule}
@@ -32,14 +29,16 @@ use Rattle.cap_session.specs.Recording.{attach_by, attach_by_rule, record_commit
 use Rattle.cap_core.proofs.CarriedLemmas.{carried-told, told_by}
 use Rattle.cap_database.specs.Carried.{CarryFirstRows}
 use Rattle.cap_session.specs.Records.{Records, Touch, record_after, touch, with_touches}
-use Rattle.cap_session.specs.Session.{AttachedTables, SessionState, attach, forget}
-use Rattle.cap_session.specs.Sessions.{NumberedSessions, is_one_of, record_commit_each, session_numbered, with_session, without_session}
+use Rattle.cap_session.specs.Session.{AttachedTables, SessionState, attach, forget, changed_by}
+use Rattle.cap_session.specs.Sessions.{NumberedSessions, is_one_of, record_commit_each, session_numbered, with_session, without_session, with_session_if}
 use Rattle.cap_core.specs.Capture.{change_now}
 use Rattle.cap_core.specs.CanCapture.{are_own_records, are_own_tables, is_own_image, is_own_session}
 use Rattle.cap_core.specs.Code.Sound.{KeepsColumns, are_own_differences, are_own_sessions}
 pub use Rattle.cap_table.proofs.TableLemmas.{found-passes}
 use Rattle.cap_core.proofs.TouchedLemmas.{fields_same, tied}
 use Rattle.cap_core.proofs.SmallLemmas.{first, second}
+use Rattle.cap_session.specs.declared.session_change.SessionChange.{SessionChange}
+use Rattle.cap_core.proofs.ChangeLemmas.{is_changed}
 
 module _ {K X : Type 0} (R : K → K → Ordering) (test : K × X → Bool) where
   -- what passes the test of a list passes it after a put of what passes it
@@ -165,9 +164,9 @@ module _ {A : Type 0} where
   with_session-stands database [] number new all one = refl
   with_session-stands database (s ∷ sessions) number new all one = grind (arith, with_session-stands database sessions number new)
 
-  pub without_session-stands : (database : Tables A) (sessions : NumberedSessions A) (number : ℕ) → are_own_sessions database sessions ≡ true → are_own_sessions database (without_session sessions number) ≡ true
-  without_session-stands database [] number all = refl
-  without_session-stands database (s ∷ sessions) number all = grind (arith, without_session-stands database sessions number)
+  pub without_session_stands : (database : Tables A) (sessions : NumberedSessions A) (number : ℕ) → are_own_sessions database sessions ≡ true → are_own_sessions database (without_session sessions number) ≡ true
+  without_session_stands database [] number all = refl
+  without_session_stands database (s ∷ sessions) number all = grind (arith, without_session_stands database sessions number)
 
   -- ---- rows with keys
 
@@ -186,36 +185,29 @@ module _ {A : Type 0} where
   pub is_keyed_row-key_of : (schema : List Bool) (key row : Fields A) → is_keyed_row schema key row ≡ true → key_of schema row ≡ Some key
   is_keyed_row-key_of schema key row is = own_key (key_of schema row) key (second (nat_eq (length row) (length schema)) (is_key_of (key_of schema row) key) is)
 
-  pub is_keyed_row-IsKeyedRow : (schema : List Bool) (key row : Fields A) → is_keyed_row schema key row ≡ true → IsKeyedRow schema row
-  is_keyed_row-IsKeyedRow schema key row is = record { wide = is_keyed_row-wide schema key row is; keyed = ap is_some (is_keyed_row-key_of schema key row is) }
-
   pub is_keyed_row-has_key : (schema : List Bool) (key row : Fields A) → is_keyed_row schema key row ≡ true → has_key schema ≡ true
   is_keyed_row-has_key schema key row is = let own = is_keyed_row-key_of schema key row is in key_fields-has_key schema row (grind arith)
 
   pub image-IsKeyedRow : (schema : List Bool) (key : Fields A) (image : Option (Fields A)) (row : Fields A) → is_own_image (Some schema) key image ≡ true → image ≡ Some row → is_keyed_row schema key row ≡ true
   image-IsKeyedRow schema key image row is some = subst (λ found. is_own_image (Some schema) key found ≡ true) some is
 
--- what is so of an answer is so of what it gives
-kept_by : {X E : Type 0} (P : X → Type 0) (r : Result X E) (x : X) → r ≡ Ok x → IfOk r P → P x
-kept_by P r x is met = subst (λ answer. IfOk answer P) is met
+  -- an image that stands is a row of its table, under its key
+  own-keyed : (schema flags : List Bool) (key : Fields A) (image found : Option (Fields A)) → flags ≡ schema → image ≡ found → is_own_image (Some schema) key found ≡ true
+      → (x : Fields A) → image ≡ Some x → IsKeyedRow flags x × (key_of flags x ≡ Some key)
+  own-keyed schema flags key image found same is own x at =
+      let row = image-IsKeyedRow schema key found x own (sym is ∙ at) in
+      let under = is_keyed_row-key_of schema key x row in
+      subst (λ (fs : List Bool). IsKeyedRow fs x × (key_of fs x ≡ Some key)) (sym same) (record { wide = is_keyed_row-wide schema key x row; keyed = ap is_some under }, under)
 
-module _ {A : Type 0} where
-  -- what a new table and what operations leave, by the laws of tables
-  pub created-columns : ((tables : Tables A) (name : List ℕ) (schema : List Bool) → IfOk (create tables name schema) (λ after. (other : List ℕ) (columns : List Bool) → schema_of tables other ≡ Some columns → schema_of after other ≡ Some columns))
-      → (tables : Tables A) (name : List ℕ) (schema : List Bool) (after : Tables A) → create tables name schema ≡ Ok after → KeepsColumns tables after
-  created-columns law tables name schema after is = record { each = kept_by (λ after. (other : List ℕ) (columns : List Bool) → schema_of tables other ≡ Some columns → schema_of after other ≡ Some columns) (create tables name schema) after is (law tables name schema) }
-
-  pub run-columns : ((tables : Tables A) (ops : List (Op A)) → IfOk (run tables ops) (λ left. (name : List ℕ) → schema_of left.database name ≡ schema_of tables name))
-      → (tables : Tables A) (ops : List (Op A)) (left : OutcomeState A) → run tables ops ≡ Ok left → KeepsColumns tables left.database
-  run-columns law tables ops left is =
-      let same = kept_by (λ (o : OutcomeState A). (name : List ℕ) → schema_of o.database name ≡ schema_of tables name) (run tables ops) left is (law tables ops) in
-      record { each = λ name columns there. same name ∙ there }
-
-module _ {A : Type 0} where
-  pub images-same_key : (schema : List Bool) (key : Fields A) (image now : Option (Fields A)) → is_own_image (Some schema) key image ≡ true → is_own_image (Some schema) key now ≡ true
-      → (x : Fields A) → image ≡ Some x → (y : Fields A) → now ≡ Some y → key_of schema x ≡ key_of schema y
-  images-same_key schema key image now a b x is y at =
-      is_keyed_row-key_of schema key x (image-IsKeyedRow schema key image x a is) ∙ sym (is_keyed_row-key_of schema key y (image-IsKeyedRow schema key now y b at))
+  -- so are the first image of a record and the row now, between which a change goes
+  pub between-keyed : (table : TableState A) → IsTable table → (flags : List Bool) → flags ≡ table.schema → (key : Fields A) (kept : Record A) (rest : Records A) → are_own_records (Some table.schema) ((key, kept) ∷ rest) ≡ true
+      → (image now : Option (Fields A)) → image ≡ kept.image → now ≡ get fields_cmp table.keyed key
+      → ((x : Fields A) → image ≡ Some x → IsKeyedRow flags x) × ((x : Fields A) → now ≡ Some x → IsKeyedRow flags x)
+      × ((x : Fields A) → image ≡ Some x → (y : Fields A) → now ≡ Some y → HaveSameKey flags x y)
+  between-keyed table sound flags same key kept rest all image now image_is now_is =
+      let old = own-keyed table.schema flags key image kept.image same image_is (first (is_own_image (Some table.schema) key kept.image) (are_own_records (Some table.schema) rest) all) in
+      let new = own-keyed table.schema flags key now (get fields_cmp table.keyed key) same now_is (row-stands table key sound) in
+      (λ x is. (old x is).0, λ x is. (new x is).0, λ x is y at. (old x is).1 ∙ sym (new y at).1)
 
   own-none : (schema : List Bool) (key : Fields A) (image : Option (Fields A)) → is_own_image (Some schema) key image ≡ true → has_key schema ≡ false → image ≡ None
   own-none schema key None own none = refl
@@ -228,3 +220,38 @@ module _ {A : Type 0} where
       let image = own-none table.schema kept.0 kept.1.image in
       let now = own-none table.schema kept.0 (get fields_cmp table.keyed kept.0) (row-stands table kept.0 sound) none in
       grind (arith, image, now, unkeyed-unchanged table sound none records)
+
+module _ {A : Type 0} (number : ℕ) where
+  -- a session in its own place leaves all
+  pub with_same : (sessions : NumberedSessions A) (same : SessionState A) → session_numbered sessions number ≡ Some same → with_session sessions number same ≡ sessions
+  with_same [] same found = refl
+  with_same (session ∷ sessions) same found = grind (arith, with_same sessions same)
+
+-- a session goes on to stand where its caller changes it
+pub change-stands : {A : Type 0} (database : Tables A) (change : SessionChange A) (session : SessionState A) → is_own_session database session ≡ true → is_own_session database (changed_by change session) ≡ true
+change-stands database change session all = grind (arith, (is_changed change session).tables, forgotten-stand database session.tables)
+
+-- sessions go on to stand where one of them is changed so that it does
+module _ {A : Type 0} (database : Tables A) (number : ℕ) (change : SessionState A → SessionState A) where
+  pub changed-stands : ((session : SessionState A) → is_own_session database session ≡ true → is_own_session database (change session) ≡ true) → (sessions : NumberedSessions A) → are_own_sessions database sessions ≡ true
+      → are_own_sessions database (with_session_if sessions number (option_map change (session_numbered sessions number))) ≡ true
+  changed-stands keeps sessions all = grind (arith, numbered-stands database sessions number, keeps, with_session-stands database sessions number)
+
+module _ {A : Type 0} where
+  own_fields : (b : Bool) (fields key : Fields A) → is_key fields ≡ b → is_key key ≡ true → fields_eq fields key ≡ is_key_of (cond b (Some fields) None) key
+  own_fields b fields key is own = grind (arith, (fields_eq_decides fields key).0)
+
+  -- a row of the table's width has a key where it has these values in its key columns
+  pub is_keyed_row_fields : (schema : List Bool) (row key : Fields A) → is_key key ≡ true → length row ≡ length schema → fields_eq (key_fields schema row) key ≡ is_keyed_row schema key row
+  is_keyed_row_fields schema row key own wide =
+      own_fields (is_key (key_fields schema row)) (key_fields schema row) key refl own
+      ∙ (let same : nat_eq (length row) (length schema) ≡ true = grind (arith, nat_tests) in ap (λ b. b && is_key_of (key_of schema row) key) (sym same))
+
+  -- ---- after the last column
+
+  pub no_row : (flags : List Bool) → key_fields {A = A} flags [] ≡ []
+  no_row [] = refl
+  no_row (flag ∷ flags) = refl
+
+  pub no_fields : (key : Fields A) → nat_eq (length key) 0 ≡ fields_eq [] key
+  no_fields key = grind (arith, nat_tests)

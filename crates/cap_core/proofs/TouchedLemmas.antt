@@ -47,18 +47,12 @@ module _ {A : Type 0} where
   unfoldable pub touched_at : List (Fields A × Touch A) → Fields A → Option (Record A)
   touched_at touches key = option_map (λ touch. record { image = touch.image; indirect = all_indirect touches key }) (find fields_cmp key touches)
 
-  first_images : List (Fields A × Touch A) → List (Fields A × Touch A)
-  first_images touches = map_of.entries (map_of.from_entries {R = fields_cmp} touches)
-
-  find-first_images : (touches : List (Fields A × Touch A)) (key : Fields A) → find fields_cmp key (first_images touches) ≡ find fields_cmp key touches
-  unfolding first_images
-  find-first_images touches key = sym (map_of.get-entries (map_of.from_entries {R = fields_cmp} touches) key) ∙ map_of.get-from_entries fields_cmp_total touches key
-
   pub find-records_of : (touches : List (Fields A × Touch A)) (key : Fields A) → find fields_cmp key (records_of touches) ≡ touched_at touches key
-  unfolding records_of touched_at first_images
+  unfolding records_of touched_at
   find-records_of touches key =
-      find-map fields_cmp (λ k touch. record { image = touch.image; indirect = all_indirect touches k }) fields_same key (first_images touches)
-      ∙ ap (option_map (λ touch. record { image = touch.image; indirect = all_indirect touches key })) (find-first_images touches key)
+      let firsts = map_of.from_entries {R = fields_cmp} touches in
+      find-map fields_cmp (λ k touch. record { image = touch.image; indirect = all_indirect touches k }) fields_same key (map_of.entries firsts)
+      ∙ ap (option_map (λ touch. record { image = touch.image; indirect = all_indirect touches key })) (sym (map_of.get-entries firsts key) ∙ map_of.get-from_entries fields_cmp_total touches key)
 
   pub is_sorted-records_of : (touches : List (Fields A × Touch A)) → T (is_sorted fields_cmp (records_of touches))
   unfolding records_of

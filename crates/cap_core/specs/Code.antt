@@ -1,4 +1,3 @@
 -- What private contracts need. No rule is defined here.
 pub mod Sound
 pub mod CommandOutcome
-pub mod SessionChange

@@ -12,7 +12,7 @@ ghost use Rattle.cap_core.specs.Capture.{changes_of, session_changes, table_chan
 ghost use Rattle.cap_core.specs.CanCapture.{are_own_records, are_own_tables, is_own_session};
 
 use cap_changes::{ChangeList, Group, is_changed, to_patches};
-use cap_codec::{KeyFlags, write_changes_with, write_patches, write_patches_with};
+use cap_codec::{KeyFlags, write_changes_with, write_patches_with};
 use cap_database::Database;
 use cap_session::{Attached, Records, Session};
 use cap_table::Table;
@@ -85,9 +85,7 @@ impl<A: AllocHandle> Capture<A> {
     pub fn patchset(&self, alloc: A) -> Result<Vec<u8, A>, OutOfMemory>
         ensures { IfOk result (λ bytes. bytes.items ≡ patch_list_bytes (patch_list_of self.now.changes)) }
     {
-        let changes = self.changes(alloc)?;
-        let patches = to_patches(alloc, &changes)?;
-        write_patches(alloc, &patches)
+        self.patchset_with(alloc, KeyFlags::Ones)
     }
 
     /// The bytes of the patchset, with these key flags.

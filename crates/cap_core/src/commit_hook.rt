@@ -1,5 +1,5 @@
 //! The commit hook, which may refuse a command before it takes effect.
-ghost use Rattle.std.specs.Prelude.{◌≡◌, Result, Ok, IfErr, OnOk};
+ghost use Rattle.std.specs.Prelude.{◌≡◌, ⊤, Result, Ok, IfErr, OnOk};
 ghost use Rattle.cap_core.specs.declared.reply.Reply.{Reply};
 ghost use Rattle.cap_value.specs.Memory.{MatchFault};
 
@@ -59,6 +59,7 @@ pub(crate) fn ask<A: AllocHandle, C: CommitHook<A>>(
     ensures ok { OnOk result (C.gives hook.old reply.now (Ok tt) hook.new) }
     ensures err { IfErr result (λ fault. MatchFault fault (hook.new ≡ hook.old)
         (λ why. C.gives hook.old reply.now (Err why) hook.new)) }
+    ensures refused { IfErr result (λ fault. MatchFault fault ⊥ (λ why. ⊤)) }
 {
     match hook.before_commit(reply) {
         Ok(()) => Ok(()),

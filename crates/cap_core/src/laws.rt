@@ -81,12 +81,3 @@ pub fn rows_are_under_own_keys<A: AllocHandle>()
     cap_database::laws::tables_keep_order::<A>();
     cap_apply::laws::applied_blobs_keep_order::<A>();
 }
-
-// The blobs of these commands fit their tables.
-pub(crate) fn blobs_fit<A: AllocHandle>(commands: &[Command<A>])
-    ensures { All BlobFits commands.now }
-{
-    for command in commands {
-        command.blob_fits();
-    }
-}

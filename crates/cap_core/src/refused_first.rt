@@ -58,6 +58,7 @@ impl<A: AllocHandle> Core<A> {
     }
 
     // A command to a session that is live.
+    #[tactic(auto, using(crate::proofs::NextLemmas::diff_known))]
     fn refused_session_command(&self, command: &SessionCommand<A>) -> Option<Why>
         ensures { (session : SessionState A) → result
             ≡ refusal_in (session_reply self.now command.now session) }
@@ -164,14 +165,5 @@ fn are_live<A: AllocHandle>(sessions: &Sessions<A>, numbers: &[u64]) -> bool
     ensures { result
         ≡ list_all (λ number. is_some (session_numbered sessions.now number)) numbers.now }
 {
-    numbers.iter().all(|number| is_live(sessions, *number))
-}
-
-fn is_live<A: AllocHandle>(sessions: &Sessions<A>, number: u64) -> bool
-    ensures { result ≡ is_some (session_numbered sessions.now number) }
-{
-    match sessions.get(number) {
-        Some(_) => true,
-        None => false,
-    }
+    numbers.iter().all(|number| sessions.get(*number).is_some())
 }

@@ -8,6 +8,7 @@ ghost use Rattle.cap_tree.specs.Tree.{put_entry, take_entry};
 ghost use Rattle.cap_value.specs.Bytes.{bytes_cmp};
 ghost use Rattle.cap_value.specs.Memory.{MatchFault};
 ghost use Rattle.cap_core.specs.Code.CommandOutcome.{Reports};
+ghost use Rattle.cap_core.specs.Outcome.{Refused as Why};
 ghost use Rattle.cap_core.specs.Past.{HasRoom};
 ghost use Rattle.cap_core.specs.RefusedFirst.{RepliesFirst, refused_first};
 ghost use Rattle.cap_core.specs.Table.{BlobsFit};
@@ -15,7 +16,7 @@ ghost use Rattle.cap_core.specs.Transition.{next, one_more, after_drop, after_sa
 
 use crate::commit_hook::{ReplyHook, ask};
 use crate::names::names_of;
-use crate::{Command, CommitHook, Dump, NoHook, Reply, SAVED_MAX, SessionList, TableList, laws};
+use crate::{Command, CommitHook, Dump, NoHook, Reply, SAVED_MAX, SessionList, TableList};
 use cap_database::{Database, Snapshot};
 use cap_session::Sessions;
 use cap_tree::Tree;
@@ -61,6 +62,7 @@ impl<A: AllocHandle> Model for Core<A> {
 
 impl<A: AllocHandle> Core<A> {
     /// An empty server.
+    #[tactic(auto, unfolding(crate::specs::Answer::state))]
     pub fn new(alloc: A) -> Self
         ensures { result ≡ state [] }
     {
@@ -85,6 +87,7 @@ impl<A: AllocHandle> Core<A> {
     /// Carries out a command if the commit hook allows it. The hook is asked at most once, after all memory
     /// is reserved. Where memory runs out, or the hook refuses, nothing changes. A refusal that is known
     /// without memory is the reply also where memory is out.
+    #[tactic(auto, using(crate::proofs::LawLemmas::fits_push))]
     pub fn step<C: CommitHook<A>>(
         &mut self,
         command: &Command<A>,
@@ -139,10 +142,10 @@ impl<A: AllocHandle> Core<A> {
         ensures state { IfOk result (λ r. r.0 ≡ state (history_of commands.now r.1.items)) }
         ensures fits { IfOk result (λ r. BlobsFit (history_of commands.now r.1.items)) }
     {
-        laws::blobs_fit(commands);
         let mut core = Core::new(alloc);
         let mut replies = Vec::with_capacity(alloc, commands.len())?;
         for command in commands {
+            command.blob_fits();
             let reply = core.run_command(command)?;
             replies.push(reply)?;
         }
@@ -165,32 +168,9 @@ impl<A: AllocHandle> Core<A> {
             Ok(reply) => Ok(reply),
             Err(Fault::Refused(why)) => Err(Fault::Refused(why)),
             Err(Fault::OutOfMemory) => match self.refused_first(command) {
-                Some((at, why)) => self.refuse(at, why, hook),
+                Some((at, why)) => self.reply_only(Reply::Refused { at, why }, hook),
                 None => Err(Fault::OutOfMemory),
             },
-        }
-    }
-
-    // Refuses a command, if the hook allows it. It takes no memory.
-    fn refuse<C: CommitHook<A>>(
-        &mut self,
-        at: Option<u64>,
-        why: Refusal,
-        hook: &mut C,
-    ) -> Result<Reply<A>, Fault<C::Refusal>>
-        requires room { HasRoom self.old.events }
-        requires can_ask { C.can_ask hook.old (Reply.Refused at why) }
-        ensures outcome { Reports C.gives (Reply.Refused at why) (one_more self.old)
-            self.old self.new hook.old hook.new result }
-        ensures first { RepliesFirst (Some (at, why)) result }
-    {
-        let reply = Reply::Refused { at, why };
-        match hook.before_commit(&reply) {
-            Ok(()) => {
-                self.events += 1;
-                Ok(reply)
-            }
-            Err(why) => Err(Fault::Refused(why)),
         }
     }
 
@@ -376,7 +356,7 @@ impl<A: AllocHandle> Core<A> {
         }
     }
 
-    // Replies to a command that changes only the number of events.
+    // Replies to a command that changes only the number of events. It takes no memory.
     pub(crate) fn reply_only<C: CommitHook<A>>(
         &mut self,
         reply: Reply<A>,
@@ -384,8 +364,9 @@ impl<A: AllocHandle> Core<A> {
     ) -> Result<Reply<A>, Fault<C::Refusal>>
         requires room { HasRoom self.old.events }
         requires can_ask { C.can_ask hook.old reply }
-        ensures { Reports C.gives reply (one_more self.old)
+        ensures outcome { Reports C.gives reply (one_more self.old)
             self.old self.new hook.old hook.new result }
+        ensures first { (why : Why) → reply ≡ Reply.Refused why.0 why.1 → RepliesFirst (Some why) result }
     {
         ask(hook, &reply)?;
         self.events += 1;

@@ -70,6 +70,7 @@ fn is_own_image<A: AllocHandle>(
 }
 
 // Whether the row is as wide as the table, and has this key.
+#[tactic(auto, using(crate::proofs::SoundLemmas::is_keyed_row_fields))]
 fn is_keyed_row<A: AllocHandle>(schema: &Schema<A>, key: &Key<A>, row: &Row<A>) -> bool
     ensures { result ≡ is_keyed_row schema.now key.now row.now }
 {
@@ -77,6 +78,7 @@ fn is_keyed_row<A: AllocHandle>(schema: &Schema<A>, key: &Key<A>, row: &Row<A>) 
 }
 
 // Whether these are the values of the key columns.
+#[tactic(auto, using(crate::proofs::SoundLemmas::no_row, crate::proofs::SoundLemmas::no_fields))]
 fn has_key_fields<A: AllocHandle>(flags: &[bool], row: RowFields<'_, A>, key: &[Value<A>]) -> bool
     ensures { result ≡ fields_eq (key_fields flags.now row.entry) key.now }
 {

@@ -5,8 +5,7 @@ ghost use Rattle.cap_core.specs.Answer.{capture_reply, change_reply, diffed, new
 ghost use Rattle.cap_core.specs.Answer.{session_answer, session_reply};
 ghost use Rattle.cap_core.specs.CanCapture.{is_own_session};
 ghost use Rattle.cap_core.specs.Code.Sound.{are_own_differences};
-ghost use Rattle.cap_core.specs.Code.CommandOutcome.{Reports};
-ghost use Rattle.cap_core.specs.Code.SessionChange.{changed_session};
+ghost use Rattle.cap_core.specs.Code.CommandOutcome.{Reports, changed_session};
 ghost use Rattle.cap_core.specs.Diff.{diff};
 ghost use Rattle.cap_core.specs.Past.{HasRoom};
 ghost use Rattle.cap_core.specs.Transition.{after_new_session, after_session, compared, one_more};
@@ -72,6 +71,7 @@ impl<A: AllocHandle> Core<A> {
 
     // Carries out a command to the session with this number, if there is one.
     #[inline(never)]
+    #[tactic(auto, using(crate::proofs::SoundLemmas::with_same))]
     pub(crate) fn session_command<C: CommitHook<A>>(
         &mut self,
         number: u64,
@@ -100,32 +100,18 @@ impl<A: AllocHandle> Core<A> {
             }
             SessionCommand::IsEmpty => {
                 let empty = session.is_empty();
-                self.keep_session(number, Reply::Flag(empty), hook)
+                self.reply_only(Reply::Flag(empty), hook)
             }
             SessionCommand::Diff { from, table } => self.diff(number, from, table, hook),
             SessionCommand::Capture => {
                 let reply = capture_reply(self.version, session, &self.main)?;
-                self.keep_session(number, reply, hook)
+                self.reply_only(reply, hook)
             }
         }
     }
 
-    // Leaves the session with this number as it is, and answers this.
-    fn keep_session<C: CommitHook<A>>(
-        &mut self,
-        number: u64,
-        reply: Reply<A>,
-        hook: &mut C,
-    ) -> Result<Reply<A>, Fault<C::Refusal>>
-        requires room { HasRoom self.old.events }
-        requires can_ask { C.can_ask hook.old reply }
-        ensures { Reports C.gives reply (changed_session self.old number (λ session. session))
-            self.old self.new hook.old hook.new result }
-    {
-        self.reply_only(reply, hook)
-    }
-
     // Ends the session with this number.
+    #[tactic(auto, using(crate::proofs::SoundLemmas::without_session_stands))]
     fn drop_session<C: CommitHook<A>>(
         &mut self,
         number: u64,
@@ -165,6 +151,7 @@ impl<A: AllocHandle> Core<A> {
     }
 
     // Records the differences of a table from a saved one in the session with this number.
+    #[tactic(auto, using(crate::proofs::SoundLemmas::with_same))]
     fn diff<C: CommitHook<A>>(
         &mut self,
         number: u64,
@@ -181,10 +168,10 @@ impl<A: AllocHandle> Core<A> {
     {
         match differences(self.alloc, &self.main, &self.saved, from, name) {
             Ok(Some(found)) => self.record_found(number, name, &found, hook),
-            Ok(None) => self.keep_session(number, Reply::Done, hook),
+            Ok(None) => self.reply_only(Reply::Done, hook),
             Err(Fault::Refused(why)) => {
                 let reply = Reply::Refused { at: None, why };
-                self.keep_session(number, reply, hook)
+                self.reply_only(reply, hook)
             }
             Err(Fault::OutOfMemory) => Err(Fault::OutOfMemory),
         }

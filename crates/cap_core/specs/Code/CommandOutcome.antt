@@ -10,11 +10,19 @@ use Rattle.cap_database.specs.declared.change.Change.{Change}
 use Rattle.cap_database.specs.declared.refused_at.RefusedAt.{RefusedAt}
 use Rattle.cap_session.specs.declared.delta.Delta.{Delta}
 use Rattle.cap_session.specs.Delta.{published}
-use Rattle.cap_session.specs.Sessions.{NumberedSessions, record_commit_each}
+use Rattle.cap_session.specs.Session.{SessionState}
+use Rattle.cap_session.specs.Sessions.{NumberedSessions, record_commit_each, session_numbered, with_session_if}
 use Rattle.cap_core.specs.declared.reply.Reply.{Reply}
 use Rattle.cap_core.specs.Answer.{State, write_reply}
 use Rattle.cap_core.specs.Outcome.{Effect, Refused}
-use Rattle.cap_core.specs.Transition.{after_write}
+use Rattle.cap_core.specs.Transition.{after_write, with_sessions}
+
+module _ {A : Type 0} where
+  -- the session with the number is changed, where there is one
+  abbrev pub changed_session : State A → ℕ → (SessionState A → SessionState A) → State A
+  changed_session state number change =
+      with_sessions state
+      (with_session_if state.sessions number (option_map change (session_numbered state.sessions number)))
 
 module _ {A S E : Type 0} (gives : S → Reply A → Result Unit E → S → Type 0) where
   -- The hook allowed this reply, and this is the next state; or the hook refused, or memory ran out, and

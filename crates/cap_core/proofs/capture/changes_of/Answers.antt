@@ -4,8 +4,7 @@ use Rattle.cap_session.specs.Session.{AttachedTables}
 use Rattle.cap_database.specs.Tables.{schema_of, table_of}
 use Rattle.cap_core.specs.Capture.{changes_of, table_changes}
 use Rattle.cap_core.specs.CanCapture.{are_own_records, are_own_tables}
-use Rattle.cap_core.proofs.GroupLemmas.{filter_map-more}
-use Rattle.cap_core.proofs.SmallLemmas.{second}
+use Rattle.cap_core.proofs.SmallLemmas.{second, filter_map-more}
 use Rattle.cap_core.proofs.capture.changes_of.Goals as goal
 
 pub loop-name-preserved : goal.loop-name-preserved

@@ -2,8 +2,8 @@ use Rattle.std.proofs.Common.{[], ap, ◌∙◌}
 use Rattle.cap_session.specs.declared.delta.Delta.{Delta}
 use Rattle.cap_session.specs.Delta.{published}
 use Rattle.cap_session.specs.Sessions.{record_commit_each}
-use Rattle.cap_core.proofs.InPlaceLemmas.{shown-recorded, taken}
 use Rattle.cap_core.proofs.writes.write_and_record.Goals as goal
+use Rattle.cap_core.proofs.SmallLemmas.{shown-recorded, taken}
 
 pub returns-in-Ok-Some : goal.returns-in-Ok-Some
 returns-in-Ok-Some g c =

@@ -1,8 +1,7 @@
 use Rattle.std.proofs.Common.{arith, ap, ◌∙◌}
 use Rattle.cap_session.specs.Delta.{published}
 use Rattle.cap_core.specs.Code.Sound.{are_own_sessions}
-use Rattle.cap_core.proofs.SessionStandLemmas.{changed-stands}
-use Rattle.cap_core.proofs.SoundLemmas.{attach-stands}
+use Rattle.cap_core.proofs.SoundLemmas.{attach-stands, changed-stands}
 use Rattle.cap_core.proofs.server.Core.attach.Goals as goal
 use Rattle.cap_session.specs.Session.{attached}
 

@@ -1,8 +1,8 @@
 use Rattle.std.proofs.Common.{arith, ap, ◌∙◌}
 use Rattle.cap_core.specs.Code.Sound.{are_own_sessions}
-use Rattle.cap_core.proofs.SessionStandLemmas.{change-stands, changed-stands}
 use Rattle.cap_core.proofs.server.Core.change_session.Goals as goal
 use Rattle.cap_session.specs.Session.{changed_by}
+use Rattle.cap_core.proofs.SoundLemmas.{change-stands, changed-stands}
 
 pub invariant_of-self : goal.invariant_of-self
 invariant_of-self g c = (

@@ -2,8 +2,7 @@ use Rattle.std.proofs.Common.{◌≡◌, true, arith, sym, ap, subst, ◌∙◌}
 use Rattle.cap_session.specs.Delta.{published}
 use Rattle.cap_core.specs.Answer.{State}
 use Rattle.cap_core.specs.Code.Sound.{are_own_differences, are_own_sessions}
-use Rattle.cap_core.proofs.SessionStandLemmas.{changed-stands}
-use Rattle.cap_core.proofs.SoundLemmas.{record_diff-stands}
+use Rattle.cap_core.proofs.SoundLemmas.{record_diff-stands, changed-stands}
 use Rattle.cap_core.proofs.server.Core.record_found.Goals as goal
 use Rattle.cap_session.specs.Recording.{record_diff}
 use Rattle.cap_database.specs.Tables.{schema_of}

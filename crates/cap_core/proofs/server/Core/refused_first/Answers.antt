@@ -1,8 +1,8 @@
 use Rattle.std.proofs.Common.{sym}
 use Rattle.cap_session.specs.Sessions.{session_numbered}
 use Rattle.cap_core.specs.Answer.{session_reply}
-use Rattle.cap_core.proofs.RefusedLemmas.{live-known}
 use Rattle.cap_core.proofs.server.Core.refused_first.Goals as goal
+use Rattle.cap_core.proofs.NextLemmas.{live-known}
 
 pub returns-in-None : goal.returns-in-None
 returns-in-None g c =

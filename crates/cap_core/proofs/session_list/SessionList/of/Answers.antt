@@ -1,8 +1,8 @@
 use Rattle.std.proofs.Common.{arith, ap, ◌∙◌}
 use Rattle.std.proofs.lemmas.List.{take_all}
 use Rattle.cap_core.specs.Listed.{listed_session, listed_sessions}
-use Rattle.cap_core.proofs.ListedLemmas.{list-each}
 use Rattle.cap_core.proofs.session_list.SessionList.of.Goals as goal
+use Rattle.cap_core.proofs.SmallLemmas.{list-each}
 
 pub loop-number-preserved : goal.loop-number-preserved
 loop-number-preserved g c =

@@ -1,8 +1,8 @@
 use Rattle.std.proofs.Common.{arith, ap, ◌∙◌}
 use Rattle.std.proofs.lemmas.List.{take_all}
 use Rattle.cap_core.specs.Listed.{listed_table, listed_tables}
-use Rattle.cap_core.proofs.ListedLemmas.{list-each}
 use Rattle.cap_core.proofs.table_list.TableList.of.Goals as goal
+use Rattle.cap_core.proofs.SmallLemmas.{list-each}
 
 pub loop-named-preserved : goal.loop-named-preserved
 loop-named-preserved g c =
