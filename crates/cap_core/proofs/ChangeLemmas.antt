@@ -5,7 +5,6 @@ use Rattle.cap_filter.specs.Rule.{Rule}
 use Rattle.cap_database.specs.Tables.{Tables}
 use Rattle.cap_session.specs.Session.{SessionState, changed_by, forget}
 use Rattle.cap_session.specs.declared.session_change.SessionChange.{SessionChange}
-use Rattle.cap_session.specs.declared.session_change.SessionChange.TheVariants.{AttachAll, SetFilter}
 use Rattle.cap_core.specs.declared.session_command.SessionCommand.{SessionCommand}
 use Rattle.cap_core.specs.declared.session_command.SessionCommand.TheVariants.{Change}
 use Rattle.cap_core.specs.Answer.{change_reply}
@@ -27,10 +26,8 @@ module _ {A : Type 0} where
     pub tables : left.tables ≡ cond (restarts (Some (Change change))) (forget session.tables) session.tables
 
   pub is_changed : (change : SessionChange A) (session : SessionState A) → IsChanged change session (changed_by change session)
-  is_changed AttachAll session =
-      record { flags = record { enabled = refl; indirect = refl; rule = λ filter all is. grind arith }; tables = refl }
-  is_changed (SetFilter chosen) session = record { flags = record { enabled = refl; indirect = refl; rule = λ filter all is. refl }; tables = refl }
-  is_changed _ session = record { flags = record { enabled = refl; indirect = refl; rule = λ filter all is. is }; tables = refl }
+  is_changed change session =
+      record { flags = record { enabled = grind arith; indirect = grind arith; rule = λ filter all is. grind arith }; tables = grind arith }
 
   -- a change is never refused
   pub change-accepted : (change : SessionChange A) (version : ℕ) (main : Tables A) (session : SessionState A) → is_accepted (change_reply change version main session) ≡ true

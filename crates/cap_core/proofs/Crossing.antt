@@ -24,7 +24,6 @@ use Rattle.cap_core.specs.contracts.capture.Capture as Capture
 use Rattle.cap_core.specs.contracts.server.Core as Core
 use Rattle.cap_core.specs.contracts.command.Command as Command
 use Rattle.cap_core.specs.contracts.session_command.SessionCommand as SessionCommand
-use Rattle.cap_core.specs.contracts.dump.Dump as Dump
 use Rattle.cap_core.specs.contracts.listed_session.ListedSession as ListedSession
 use Rattle.cap_core.specs.contracts.listed_table.ListedTable as ListedTable
 use Rattle.cap_core.specs.contracts.names.NameList as NameList
@@ -111,16 +110,10 @@ module _ (A : RattleType) (h : handle.Ghosts A.Denot) (a : allocator.Ghosts A.De
   tables_listed_sync : IsSync (TableList.the_row A a)
   tables_listed_sync = search (listed_table_sync, sendable, crosses) depth 20
 
-  dump_send : IsSend (Dump.the_row A h a c)
-  dump_send = search (snapshot_send, sendable) depth 40 fits 100000
-
-  dump_sync : IsSync (Dump.the_row A h a c)
-  dump_sync = search (snapshot_sync, sendable) depth 40 fits 100000
-
   pub reply_send : IsSend (Reply.the_row A h a c)
   reply_send = let O = Reply.the_type A h a c in recorded_send (Enum (shape O)) O.D O.to O.to_one (enum_send (shape O)
-      (search (report.the_send, snapshot_send, capture_send, names_send, sessions_listed_send, tables_listed_send, dump_send, refusal.the_field_send, sendable) depth 60 fits 100000))
+      (search (report.the_send, snapshot_send, capture_send, names_send, sessions_listed_send, tables_listed_send, refusal.the_field_send, sendable) depth 60 fits 100000))
 
   pub reply_sync : IsSync (Reply.the_row A h a c)
   reply_sync = let O = Reply.the_type A h a c in recorded_sync (Enum (shape O)) O.D O.to O.to_one (enum_sync (shape O)
-      (search (report.the_sync, snapshot_sync, capture_sync, names_sync, sessions_listed_sync, tables_listed_sync, dump_sync, refusal.the_field_sync, sendable) depth 60 fits 100000))
+      (search (report.the_sync, snapshot_sync, capture_sync, names_sync, sessions_listed_sync, tables_listed_sync, refusal.the_field_sync, sendable) depth 60 fits 100000))

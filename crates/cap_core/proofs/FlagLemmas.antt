@@ -117,11 +117,7 @@ module _ {A : Type 0} where
 
   flags-left : (main : Tables A) (databases : Databases A) (told : SessionCommand A) (session : SessionState A) → HasFlags told session (unwrap_or (session_left main databases told session) session)
   flags-left main databases (Change change) session = (is_changed change session).flags
-  flags-left main databases (Diff from name) session = found (diff main databases from name)
-    where
-      found : (r : Result (Option (List (Difference A))) Refusal) → HasFlags (Diff from name) session (compared name r session)
-      found (Ok (Some differences)) = record { enabled = refl; indirect = refl; rule = λ filter all is. is }
-      found _ = record { enabled = refl; indirect = refl; rule = λ filter all is. is }
+  flags-left main databases (Diff from name) session = record { enabled = grind arith; indirect = grind arith; rule = λ filter all is. grind arith }
   flags-left main databases _ session = record { enabled = refl; indirect = refl; rule = λ filter all is. is }
 
   -- ---- any command that was accepted
@@ -149,9 +145,6 @@ module _ {A : Type 0} where
   session_after number c now saved session =
       left_by (command_to number c) now.database saved session (record_commit (changes_shown number c (effect_of now.database (outcome now c)).changes) session)
 
-  done-session : (past : Past A) (number : ℕ) (c : Command A) → session_of (done c ∷ past) number ≡ session_after number c (snapshot past) (saved past) (session_of past number)
-  done-session past number c = grind (arith, is_told number c, here past number, session-elsewhere number (done c) past)
-
   -- a session depends on no reply, but on whether the command was accepted
   done-reply : (past : Past A) (by : ℕ) (c : Command A) (reply : Reply A) (number : ℕ) → is_accepted reply ≡ true → session_of (event_by by c reply ∷ past) number ≡ session_of (done c ∷ past) number
   done-reply past by c (Refused at why) number accepted = cc
@@ -164,4 +157,6 @@ module _ {A : Type 0} where
 
   pub session-of-command : (past : Past A) (event : Event A) (number : ℕ) → is_accepted event.reply ≡ true
       → session_of (event ∷ past) number ≡ session_after number event.command (snapshot past) (saved past) (session_of past number)
-  session-of-command past event number accepted = done-reply past event.by event.command event.reply number accepted ∙ done-session past number event.command
+  session-of-command past event number accepted =
+      done-reply past event.by event.command event.reply number accepted
+      ∙ grind (arith, is_told number event.command, here past number, session-elsewhere number (done event.command) past)

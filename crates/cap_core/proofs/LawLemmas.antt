@@ -108,10 +108,6 @@ pub truth : (b : Bool) → T b → IsTrue b
 truth true t = refl
 truth false t = absurd t
 
-pub fits-none : (A : Type 0) → BlobsFit {A = A} []
-unfolding BlobsFit
-fits-none A = tt
-
 module _ {A : Type 0} where
   fit-both : (xs ys : Past A) → BlobsFitPast xs → BlobsFitPast ys → BlobsFitPast (xs ++ ys)
   fit-both [] ys fits more = more
@@ -128,10 +124,6 @@ module _ {A : Type 0} where
   pub fits-begins : (h more : List (Event A)) → BlobsFit (h ++ more) → BlobsFit h
   unfolding BlobsFit
   fits-begins h more fits = fit-rest (reverse more) (reverse h) (subst BlobsFitPast (reverse-append h more) fits)
-
-  pub fits-past : (h : List (Event A)) → BlobsFit h → BlobsFitPast (reverse h)
-  unfolding BlobsFit
-  fits-past h fits = fits
 
   -- the history of commands whose blobs fit
   history-fits-from : (commands : List (Command A)) (replies : List (Reply A)) → AllByRecursion BlobFits commands → BlobsFit (history_of commands replies)
@@ -159,9 +151,6 @@ module _ {A : Type 0} where
   ran-none [] core is = record { legal = tt; left = sym is; fits = tt; events = ap (λ s. s.events) is }
   ran-none (c ∷ commands) core is = record { legal = tt; left = sym is; fits = tt; events = ap (λ s. s.events) is }
 
-  next-events : (s : State A) (c : Command A) → (next s c).events ≡ s.events + 1
-  next-events s c = grind arith
-
   history_of-push : (commands : List (Command A)) (replies : List (Reply A)) (c : Command A) (r : Reply A) → length replies < length commands → c ≡ get_or commands (length replies) c
       → history_of commands (replies ++ r ∷ []) ≡ history_of commands replies ++ event_by 0 c r ∷ []
   history_of-push [] replies c r lt at = absurd (omega arith)
@@ -175,10 +164,11 @@ module _ {A : Type 0} where
   ran-push commands replies core new i c r ran same lt at fits is answered =
       let h = history_of commands replies in
       let push = history_of-push commands replies c r (omega arith) (subst (λ n. c ≡ get_or commands n c) (sym same) at) in
+      let one : (next core c).events ≡ core.events + 1 = grind arith in
       let met = state-push h 0 c core new r ran.legal ran.left is answered in
       record {
         legal = subst IsLegal (sym push) met.2;
         left = ap state push ∙ sym met.1;
         fits = subst BlobsFit (sym push) (fits_push h 0 c r ran.fits fits);
-        events = ap (λ (s : State A). s.events) is ∙ next-events core c ∙ omega (arith, ran.events, length-append replies (r ∷ []));
+        events = ap (λ (s : State A). s.events) is ∙ one ∙ omega (arith, ran.events, length-append replies (r ∷ []));
       }

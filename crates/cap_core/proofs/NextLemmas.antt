@@ -44,7 +44,7 @@ use Rattle.cap_database.specs.Operation.{in_place, refused_in, refused_step, run
 use Rattle.cap_database.specs.declared.op.Op.{Op}
 use Rattle.cap_database.proofs.StepLemmas.{refused_act_is}
 use Rattle.cap_core.specs.Code.CommandOutcome.{Reports}
-use Rattle.cap_core.specs.RefusedFirst.{RepliesFirst, no_session, refusal_in, refused_first, refused_op, whole}
+use Rattle.cap_core.specs.RefusedFirst.{RepliesFirst, refusal_in, refused_first, refused_op, whole}
 
 module _ {A : Type 0} where
   same_state : (s t : State A) → s.events ≡ t.events → s.main ≡ t.main → s.version ≡ t.version → s.saved ≡ t.saved → s.sessions_made ≡ t.sessions_made → s.sessions ≡ t.sessions → s ≡ t
@@ -130,62 +130,12 @@ module _ {A : Type 0} where
         | Ok effect ↦ λ is. next-written past (event_by by c (version_reply (version past + 1) effect.report)) effect write (grind arith) is
       ] refl
 
-  -- an application, which is refused where a session that it leaves as it is is not live
-  next-apply : (past : Past A) (by : ℕ) (blob : Contents A) (policy : Policy) (quiet : List ℕ)
-      → next (state_after past) (command.Apply blob policy quiet) ≡ state_after (event_by by (command.Apply blob policy quiet) (answer (state_after past) (command.Apply blob policy quiet)) ∷ past)
-  next-apply past by blob policy quiet =
-      let c : Command A = command.Apply blob policy quiet in
-      grind (arith, next-write past by c (record { writes = refl; makes = refl; saves = λ _ _. refl; apart = λ _. refl }), λ (why : Refusal). after_refusal (event_by by c (Refused None why)) past refl)
-
-  next-save : (past : Past A) (by : ℕ) (name : List ℕ) → after_save (state_after past) name ≡ state_after (event_by by (command.SaveAs name) (save_reply (saved past) name) ∷ past)
-  next-save past by name =
-      let event : Event A = event_by by (command.SaveAs name) Done in
-      let saved : record (one_more (state_after past)) { saved = put_entry bytes_cmp (saved past) name (main past) } ≡ state_after (event ∷ past) =
-      same_state _ _ (add-one (length past)) refl refl refl refl (sessions-still event past (λ _. refl) refl) in
-      let refused = after_refusal (event_by by (command.SaveAs name) (refusal TooMany)) past refl in
-      grind arith
-
-  next-drop : (past : Past A) (by : ℕ) (name : List ℕ) → after_drop (state_after past) name ≡ state_after (event_by by (command.DropDatabase name) (drop_reply (saved past) name) ∷ past)
-  next-drop past by name =
-      let event : Event A = event_by by (command.DropDatabase name) Done in
-      let dropped : record (one_more (state_after past)) { saved = take_entry bytes_cmp (saved past) name } ≡ state_after (event ∷ past) =
-      same_state _ _ (add-one (length past)) refl refl refl refl (sessions-still event past (λ _. refl) refl) in
-      let refused = after_refusal (event_by by (command.DropDatabase name) (refusal NoDatabase)) past refl in
-      grind arith
-
-  -- ---- the sessions
-
-  next-new_session : (past : Past A) (by : ℕ) → IsLegalPast past
-      → after_new_session (state_after past) ≡ state_after (event_by by command.NewSession (new_session_reply (state_after past)) ∷ past)
-  next-new_session past by legal =
-      let event : Event A = event_by by command.NewSession (SessionMade (sessions_made past + 1)) in
-      let n = sessions_made past in
-      let lt : n < 1 + n = omega arith in
-      let same : 1 + n ≡ n + 1 = omega arith in
-      let new = not_made past (1 + n) legal lt in
-      let here = session-apart (1 + n) event past refl refl ∙ new.0 in
-      let added : sessions past ++ (n + 1, new_session) ∷ [] ≡ sessions (event ∷ past) =
-      sym (ap (λ k. numbered (session_of (event ∷ past)) (passing (is_live past) 1 k)) (add-one n)
-      ∙ ap (numbered (session_of (event ∷ past))) (passing-push (is_live past) n ∙ ap (λ b. live_sessions past ++ cond (not b) ((1 + n) ∷ []) []) new.1)
-      ∙ map-append (λ number. (number, session_of (event ∷ past) number)) (live_sessions past) ((1 + n) ∷ [])
-      ∙ ap₂ (λ xs x. xs ++ x ∷ []) (sym (sessions-still event past (λ _. refl) refl)) (ap₂ (λ k x. (k, x)) same here)) in
-      let made : record (one_more (state_after past)) { sessions_made = n + 1; sessions = sessions past ++ (n + 1, new_session) ∷ [] } ≡ state_after (event ∷ past) =
-      same_state _ _ (add-one (length past)) refl refl refl refl added in
-      let refused = after_refusal (event_by by command.NewSession (refusal TooMany)) past refl in
-      grind arith
-
   -- ---- one session
 
   -- a command to one session leaves the others as they are
   others-stay : (past : Past A) (event : Event A) (number : ℕ) (told : SessionCommand A) → event.command ≡ command.Session number told → (other : ℕ) → (other ≡ number → ⊥) → session_of (event ∷ past) other ≡ session_of past other
   others-stay past event number told is other apart =
       session-apart other event past (ap (command_to other) is ∙ to_others other number told apart) (ap (λ e. e.changes) (effect-told past event number told is))
-
-  -- what a command to a session leaves where it is there
-  abbrev Leaves : Past A → ℕ → ℕ → SessionCommand A → Type 0
-  Leaves past by number told =
-      (session : SessionState A) → session_numbered (sessions past) number ≡ Some session
-      → with_sessions (state_after past) (with_left (sessions past) number (session_left (main past) (saved past) told session)) ≡ state_after (event_by by (command.Session number told) (session_reply (state_after past) told session) ∷ past)
 
   -- a session that is there and goes on
   leaves-left : (past : Past A) (by number : ℕ) (told : SessionCommand A) → deletes (Some told) ≡ false → (session left : SessionState A) → session_numbered (sessions past) number ≡ Some session
@@ -214,25 +164,21 @@ module _ {A : Type 0} where
   refused-left s (Diff from name) session is = grind arith
   refused-left s _ session is = cc
 
-  leaves : (past : Past A) (by number : ℕ) (told : SessionCommand A) → Leaves past by number told
-  leaves past by number Delete = λ session is.
+  -- what a command to a session leaves where it is there
+  leaves : (past : Past A) (by number : ℕ) (told : SessionCommand A) (session : SessionState A) → session_numbered (sessions past) number ≡ Some session
+      → with_sessions (state_after past) (with_left (sessions past) number (session_left (main past) (saved past) told session)) ≡ state_after (event_by by (command.Session number told) (session_reply (state_after past) told session) ∷ past)
+  leaves past by number Delete session is =
       let event : Event A = event_by by (command.Session number Delete) Done in
       same_state _ _ (add-one (length past)) refl refl refl refl
       (without-passing (is_live past) (is_live (event ∷ past)) (session_of past) (session_of (event ∷ past)) 1 (sessions_made past) number
       (ap (λ told. not (deletes told || is_dropped past number)) (to_itself number Delete))
       (λ j apart. (sym (others-stay past event number Delete refl j apart), sym (ap (λ told. not (deletes told || is_dropped past j)) (to_others j number Delete apart)))))
-  leaves past by number told = λ session is.
+  leaves past by number told session is =
       let s = state_after past in
       let reply = session_reply s told session in
       let left = unwrap_or (session_left (main past) (saved past) told session) session in
       let refused = after_refusal (event_by by (command.Session number told) reply) past in
       grind (arith, leaves-left past by number told refl session left is refl reply, refused-left s told session, with_same number (sessions past) session is)
-
-  next-told : (past : Past A) (by number : ℕ) (told : SessionCommand A)
-      → next (state_after past) (command.Session number told) ≡ state_after (event_by by (command.Session number told) (answer (state_after past) (command.Session number told)) ∷ past)
-  next-told past by number told =
-      let refused = after_refusal (event_by by (command.Session number told) (refusal NoSession)) past refl in
-      grind (arith, leaves past by number told)
 
   -- ---- any command
 
@@ -240,11 +186,40 @@ module _ {A : Type 0} where
   pub next-is : (past : Past A) (by : ℕ) (c : Command A) → IsLegalPast past → next (state_after past) c ≡ state_after (event_by by c (answer (state_after past) c) ∷ past)
   next-is past by (command.CreateTable name schema) legal = next-write past by (command.CreateTable name schema) (record { writes = refl; makes = refl; saves = λ _ _. refl; apart = λ _. refl })
   next-is past by (command.Commit batch) legal = next-write past by (command.Commit batch) (record { writes = refl; makes = refl; saves = λ _ _. refl; apart = λ _. refl })
-  next-is past by (command.Apply blob policy quiet) legal = next-apply past by blob policy quiet
-  next-is past by (command.SaveAs name) legal = next-save past by name
-  next-is past by (command.DropDatabase name) legal = next-drop past by name
-  next-is past by command.NewSession legal = next-new_session past by legal
-  next-is past by (command.Session number told) legal = next-told past by number told
+  next-is past by (command.Apply blob policy quiet) legal =
+      let c : Command A = command.Apply blob policy quiet in
+      grind (arith, next-write past by c (record { writes = refl; makes = refl; saves = λ _ _. refl; apart = λ _. refl }), λ (why : Refusal). after_refusal (event_by by c (Refused None why)) past refl)
+  next-is past by (command.SaveAs name) legal =
+      let event : Event A = event_by by (command.SaveAs name) Done in
+      let saved : record (one_more (state_after past)) { saved = put_entry bytes_cmp (saved past) name (main past) } ≡ state_after (event ∷ past) =
+      same_state _ _ (add-one (length past)) refl refl refl refl (sessions-still event past (λ _. refl) refl) in
+      let refused = after_refusal (event_by by (command.SaveAs name) (refusal TooMany)) past refl in
+      grind arith
+  next-is past by (command.DropDatabase name) legal =
+      let event : Event A = event_by by (command.DropDatabase name) Done in
+      let dropped : record (one_more (state_after past)) { saved = take_entry bytes_cmp (saved past) name } ≡ state_after (event ∷ past) =
+      same_state _ _ (add-one (length past)) refl refl refl refl (sessions-still event past (λ _. refl) refl) in
+      let refused = after_refusal (event_by by (command.DropDatabase name) (refusal NoDatabase)) past refl in
+      grind arith
+  next-is past by command.NewSession legal =
+      let event : Event A = event_by by command.NewSession (SessionMade (sessions_made past + 1)) in
+      let n = sessions_made past in
+      let lt : n < 1 + n = omega arith in
+      let same : 1 + n ≡ n + 1 = omega arith in
+      let new = not_made past (1 + n) legal lt in
+      let here = session-apart (1 + n) event past refl refl ∙ new.0 in
+      let added : sessions past ++ (n + 1, new_session) ∷ [] ≡ sessions (event ∷ past) =
+      sym (ap (λ k. numbered (session_of (event ∷ past)) (passing (is_live past) 1 k)) (add-one n)
+      ∙ ap (numbered (session_of (event ∷ past))) (passing-push (is_live past) n ∙ ap (λ b. live_sessions past ++ cond (not b) ((1 + n) ∷ []) []) new.1)
+      ∙ map-append (λ number. (number, session_of (event ∷ past) number)) (live_sessions past) ((1 + n) ∷ [])
+      ∙ ap₂ (λ xs x. xs ++ x ∷ []) (sym (sessions-still event past (λ _. refl) refl)) (ap₂ (λ k x. (k, x)) same here)) in
+      let made : record (one_more (state_after past)) { sessions_made = n + 1; sessions = sessions past ++ (n + 1, new_session) ∷ [] } ≡ state_after (event ∷ past) =
+      same_state _ _ (add-one (length past)) refl refl refl refl added in
+      let refused = after_refusal (event_by by command.NewSession (refusal TooMany)) past refl in
+      grind arith
+  next-is past by (command.Session number told) legal =
+      let refused = after_refusal (event_by by (command.Session number told) (refusal NoSession)) past refl in
+      grind (arith, leaves past by number told)
   next-is past by c legal =
       same_state _ _ (add-one (length past)) refl refl refl refl (sessions-still (event_by by c (answer (state_after past) c)) past (λ _. refl) refl)
 
@@ -268,18 +243,6 @@ module _ {A : Type 0} where
   unfolding state
   events-state history = length-reverse history
 
-pub state-past : {A : Type 0} (h : List (Event A)) → state h ≡ state_after (reverse h)
-unfolding state
-state-past h = refl
-
-pub IsLegal-none : (A : Type 0) → IsLegal {A = A} []
-unfolding IsLegal
-IsLegal-none A = tt
-
-pub state-none : (A : Type 0) → state {A = A} [] ≡ record { events = 0; main = []; version = 0; saved = []; sessions_made = 0; sessions = [] }
-unfolding state
-state-none A = refl
-
 module _ {A : Type 0} where
   -- ---- the reply
 
@@ -287,12 +250,9 @@ module _ {A : Type 0} where
   refused-is (Refused at why) known is = let same : (at, why) ≡ known = cc in ap (λ (w : Why). Refused w.0 w.1) same
   refused-is _ known is = cc
 
-  step-refused : (tables : Tables A) (op : Op A) (why : Refusal) → refused_step tables op ≡ Some why → step tables op ≡ Err why
-  step-refused tables op why is = grind (arith, λ (table : TableState A). refused_act_is table op.action why)
-
   op-refused : (s : State A) (ops : List (Op A)) (why : Why) → refused_op s.main ops ≡ Some why → write_reply s (made (run s.main ops)) ≡ Refused why.0 why.1
   op-refused s [] why is = cc
-  op-refused s (op ∷ ops) why is = grind (arith, step-refused s.main op)
+  op-refused s (op ∷ ops) why is = grind (arith, λ (table : TableState A). refused_act_is table op.action)
 
   pub first-answer : (s : State A) (c : Command A) (why : Why) → refused_first s c ≡ Some why → answer s c ≡ Refused why.0 why.1
   first-answer s (command.Commit batch) why is = grind (arith, op-refused s batch.ops why)
@@ -306,9 +266,6 @@ module _ {A : Type 0} where
       let left = λ (session : SessionState A) (refused : refusal_in (session_reply s told session) ≡ Some why). refused-left s told session (ap is_accepted (refused-is (session_reply s told session) why refused)) in
       grind (arith, left, with_same number s.sessions)
   refused-next s c why is = grind arith
-
-  pub first-next : (s : State A) (c : Command A) (why : Why) → refused_first s c ≡ Some why → next s c ≡ one_more s
-  first-next s c why is = refused-next s c why (ap refusal_in (first-answer s c why is))
 
   -- ---- what a step answers
 
@@ -324,16 +281,10 @@ module _ {A : Type 0} where
   pub diff_known : (r : Result (Option (List (Difference A))) Refusal) → whole (result_err r) ≡ refusal_in {A = A} (diffed r)
   diff_known r = grind arith
 
-  -- the session is live
-  pub live-known : (found : Option (SessionState A)) (reply : SessionState A → Reply A) (known : Option Why) → no_session found ≡ None
-      → ((session : SessionState A) → known ≡ refusal_in (reply session)) → known ≡ refusal_in (session_answer found reply)
-  live-known None reply known none each = cc
-  live-known (Some session) reply known none each = each session
-
 module _ {A S E : Type 0} (gives : S → Reply A → Result Unit E → S → Type 0) where
   -- a command that is refused so has that reply, and leaves that
   pub refused-reports : (s new : State A) (c : Command A) (before after : S) (why : Why) (r : Result (Reply A) (Fault E)) → Some why ≡ refused_first s c
       → Reports gives (Refused why.0 why.1) (one_more s) s new before after r → Reports gives (answer s c) (next s c) s new before after r
   refused-reports s new c before after why r is told =
-      subst (λ (n : State A). Reports gives (answer s c) n s new before after r) (sym (first-next s c why (sym is)))
+      subst (λ (n : State A). Reports gives (answer s c) n s new before after r) (sym (refused-next s c why (ap refusal_in (first-answer s c why (sym is)))))
       (subst (λ (reply : Reply A). Reports gives reply (one_more s) s new before after r) (sym (first-answer s c why (sym is))) told)

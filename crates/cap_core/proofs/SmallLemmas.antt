@@ -5,7 +5,6 @@ use Rattle.std.proofs.Common.{◌≡◌, Option, Some, None, Result, Ok, Err, If
 use Rattle.std.specs.List.{cons_option, filter_map}
 use Rattle.std.proofs.lemmas.List.{map-append}
 use Rattle.std.proofs.Math.Seq.{take-suc}
-use Rattle.std.specs.Option.{option_map}
 use Rattle.cap_database.specs.Write.{AreShown}
 use Rattle.cap_database.specs.declared.change.Change.{Change}
 use Rattle.cap_session.specs.Sessions.{NumberedSessions, record_commit_each}
@@ -26,10 +25,6 @@ pub shown-recorded : {A : Type 0} (shown changes : List (Change A)) (sessions : 
 shown-recorded shown changes sessions (inl is) = ap (λ cs. record_commit_each cs [] sessions) is
 shown-recorded shown changes sessions (inr (change, first, both)) =
     ap (λ cs. record_commit_each cs [] sessions) first ∙ sym (again-each change None [] sessions) ∙ ap (λ cs. record_commit_each cs [] sessions) (sym both)
-
--- what an option that is there is mapped to
-pub taken : {D S : Type 0} (f : D → S) (found : Option D) (own : D) (made : S) → found ≡ Some own → option_map f found ≡ Some made → f own ≡ made
-taken f found own made is at = grind arith
 
 -- what holds of anything holds of an answer
 pub each-ok : {X E : Type 0} {P : X → Type 0} (r : Result X E) → ((x : X) → P x) → IfOk r P

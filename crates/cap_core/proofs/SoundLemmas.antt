@@ -185,9 +185,6 @@ module _ {A : Type 0} where
   pub is_keyed_row-key_of : (schema : List Bool) (key row : Fields A) → is_keyed_row schema key row ≡ true → key_of schema row ≡ Some key
   is_keyed_row-key_of schema key row is = own_key (key_of schema row) key (second (nat_eq (length row) (length schema)) (is_key_of (key_of schema row) key) is)
 
-  pub is_keyed_row-has_key : (schema : List Bool) (key row : Fields A) → is_keyed_row schema key row ≡ true → has_key schema ≡ true
-  is_keyed_row-has_key schema key row is = let own = is_keyed_row-key_of schema key row is in key_fields-has_key schema row (grind arith)
-
   pub image-IsKeyedRow : (schema : List Bool) (key : Fields A) (image : Option (Fields A)) (row : Fields A) → is_own_image (Some schema) key image ≡ true → image ≡ Some row → is_keyed_row schema key row ≡ true
   image-IsKeyedRow schema key image row is some = subst (λ found. is_own_image (Some schema) key found ≡ true) some is
 
@@ -211,7 +208,7 @@ module _ {A : Type 0} where
 
   own-none : (schema : List Bool) (key : Fields A) (image : Option (Fields A)) → is_own_image (Some schema) key image ≡ true → has_key schema ≡ false → image ≡ None
   own-none schema key None own none = refl
-  own-none schema key (Some row) own none = let clash = is_keyed_row-has_key schema key row own in cc
+  own-none schema key (Some row) own none = let own = is_keyed_row-key_of schema key row own in let clash = key_fields-has_key schema row (grind arith) in cc
 
   -- where a table has no key column, no row is touched
   pub unkeyed-unchanged : (table : TableState A) → IsTable table → has_key table.schema ≡ false → (records : Records A) → are_own_records (Some table.schema) records ≡ true → filter_map (change_now table) records ≡ []

@@ -4,7 +4,7 @@ ghost use Rattle.std.specs.List.{list_all};
 ghost use Rattle.std.specs.Result.{result_err};
 ghost use Rattle.cap_core.specs.Answer.{refused_quiet, session_reply, snapshot_of};
 ghost use Rattle.cap_core.specs.Diff.{diff};
-ghost use Rattle.cap_core.specs.RefusedFirst.{no_session, refusal_in, refused_batch, refused_first, whole};
+ghost use Rattle.cap_core.specs.RefusedFirst.{refusal_in, refused_batch, refused_first, whole};
 ghost use Rattle.cap_database.specs.Operation.{refused_step};
 ghost use Rattle.cap_database.specs.Tables.{refused_create};
 ghost use Rattle.cap_session.specs.Session.{SessionState};
@@ -49,9 +49,9 @@ impl<A: AllocHandle> Core<A> {
                 }
                 Some((None, Refusal::TooMany))
             }
-            Command::Session { session, command } => match self.no_session(*session) {
-                Some(why) => Some((None, why)),
-                None => self.refused_session_command(command),
+            Command::Session { session, command } => match self.sessions.get(*session) {
+                Some(_) => self.refused_session_command(command),
+                None => Some((None, Refusal::NoSession)),
             },
             _ => None,
         }
@@ -90,16 +90,6 @@ impl<A: AllocHandle> Core<A> {
         let op = batch.ops().first()?;
         let why = refused_step(&self.main, op)?;
         Some((Some(0), why))
-    }
-
-    // No session has this number.
-    fn no_session(&self, number: u64) -> Option<Refusal>
-        ensures { result ≡ no_session (session_numbered self.now.sessions number) }
-    {
-        match self.sessions.get(number) {
-            Some(_) => None,
-            None => Some(Refusal::NoSession),
-        }
     }
 
     // A table that exists and has key columns is compared with one that is not there, or has other columns.

@@ -281,22 +281,7 @@ impl<A: AllocHandle> Core<A> {
             return self.reply_only(Reply::Refused { at: None, why }, hook);
         }
         let database = self.main.snapshot()?;
-        self.save(name.copy()?, database, hook)
-    }
-
-    // Saves these tables under a name that has room.
-    fn save<C: CommitHook<A>>(
-        &mut self,
-        name: Name<A>,
-        database: Database<A>,
-        hook: &mut C,
-    ) -> Result<Reply<A>, Fault<C::Refusal>>
-        requires room { HasRoom self.old.events }
-        requires can_ask { C.can_ask hook.old Reply.Done }
-        ensures { Reports C.gives Reply.Done
-            (record (one_more self.old) { saved = put_entry bytes_cmp self.old.saved name database })
-            self.old self.new hook.old hook.new result }
-    {
+        let name = name.copy()?;
         let reply = Reply::Done;
         let mut reply_hook = ReplyHook {
             reply: &reply,
@@ -327,21 +312,6 @@ impl<A: AllocHandle> Core<A> {
             let why = Refusal::NoDatabase;
             return self.reply_only(Reply::Refused { at: None, why }, hook);
         }
-        self.drop_saved(name, hook)
-    }
-
-    // Drops the database of this name, which is there.
-    fn drop_saved<C: CommitHook<A>>(
-        &mut self,
-        name: &Name<A>,
-        hook: &mut C,
-    ) -> Result<Reply<A>, Fault<C::Refusal>>
-        requires room { HasRoom self.old.events }
-        requires can_ask { C.can_ask hook.old Reply.Done }
-        ensures { Reports C.gives Reply.Done
-            (record (one_more self.old) { saved = take_entry bytes_cmp self.old.saved name.now })
-            self.old self.new hook.old hook.new result }
-    {
         let reply = Reply::Done;
         let mut reply_hook = ReplyHook {
             reply: &reply,

@@ -38,21 +38,6 @@ impl<A: AllocHandle> Core<A> {
             let why = Refusal::TooMany;
             return self.reply_only(Reply::Refused { at: None, why }, hook);
         }
-        self.add_session(hook)
-    }
-
-    // Makes a session. The limit is not reached.
-    fn add_session<C: CommitHook<A>>(&mut self, hook: &mut C) -> Result<Reply<A>, Fault<C::Refusal>>
-        requires room { HasRoom self.old.events }
-        requires can_ask { C.can_ask hook.old (Reply.Session (self.old.sessions_made + 1)) }
-        ensures { let number = self.old.sessions_made + 1 in
-            Reports C.gives (Reply.Session number)
-            (record (one_more self.old) {
-              sessions_made = number;
-              sessions = self.old.sessions ++ (number, new_session) ∷ [];
-            })
-            self.old self.new hook.old hook.new result }
-    {
         let number = self.sessions_made + 1;
         let reply = Reply::Session(number);
         let mut reply_hook = ReplyHook {

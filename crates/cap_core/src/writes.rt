@@ -67,26 +67,12 @@ impl<A: AllocHandle> Core<A> {
             (stale batch.now.base batch.now.reads (snapshot_of self.old)) self.old.main batch.now.ops) []
             self.old self.new hook.old hook.new result }
     {
-        match batch.stale(self.version, &self.main) {
-            Some(why) => self.reply_only(Reply::Refused { at: None, why }, hook),
-            None => self.commit_now(batch.ops(), hook),
+        if let Some(why) = batch.stale(self.version, &self.main) {
+            return self.reply_only(Reply::Refused { at: None, why }, hook);
         }
-    }
-
-    // Commits operations on the present version, and records their changes in each session.
-    fn commit_now<C: CommitHook<A>>(
-        &mut self,
-        ops: &[Op<A>],
-        hook: &mut C,
-    ) -> Result<Reply<A>, Fault<C::Refusal>>
-        requires room { HasRoom self.old.events }
-        requires can_ask { C.can_ask hook.old
-            (write_reply self.old (made (run self.old.main ops.now))) }
-        ensures { ReportsWrite C.gives (made (run self.old.main ops.now)) []
-            self.old self.new hook.old hook.new result }
-    {
         cap_database::laws::tables_keep_columns::<A>();
         self.main.sound_rows_law();
+        let ops = batch.ops();
         let reply = Reply::Written {
             version: self.version + 1,
         };

@@ -1,5 +1,7 @@
+use Rattle.cap_core.specs.Table.{BlobsFit}
+use Rattle.cap_core.proofs.LawLemmas.{history-fits, fits-begins, fits_push}
 use Rattle.cap_core.proofs.laws.fitting_histories_grow.Goals as goal
-use Rattle.cap_core.proofs.LawLemmas.{history-fits, fits-begins, fits-none, fits-past, fits_push}
 
 pub returns : goal.returns
-returns g c = record { none = fits-none g.row.A.Denot; more = fits_push; begins = fits-begins; all = history-fits; past = fits-past }
+unfolding BlobsFit
+returns g c = record { none = tt; more = fits_push; begins = fits-begins; all = history-fits; past = λ h fits. fits }
