@@ -29,7 +29,7 @@ use Rattle.cap_session.specs.Recording.{attach_by, attach_by_rule, record_commit
 use Rattle.cap_core.proofs.CarriedLemmas.{carried-told, told_by}
 use Rattle.cap_database.specs.Carried.{CarryFirstRows}
 use Rattle.cap_session.specs.Records.{Records, Touch, record_after, touch, with_touches}
-use Rattle.cap_session.specs.Session.{AttachedTables, SessionState, attach, forget, changed_by}
+use Rattle.cap_session.specs.Session.{AttachedTables, SessionState, attach, attached, forget, changed_by}
 use Rattle.cap_session.specs.Sessions.{NumberedSessions, is_one_of, record_commit_each, session_numbered, with_session, without_session, with_session_if}
 use Rattle.cap_core.specs.Capture.{change_now}
 use Rattle.cap_core.specs.CanCapture.{are_own_records, are_own_tables, is_own_image, is_own_session}
@@ -233,6 +233,15 @@ module _ {A : Type 0} (database : Tables A) (number : ℕ) (change : SessionStat
   pub changed-stands : ((session : SessionState A) → is_own_session database session ≡ true → is_own_session database (change session) ≡ true) → (sessions : NumberedSessions A) → are_own_sessions database sessions ≡ true
       → are_own_sessions database (with_session_if sessions number (option_map change (session_numbered sessions number))) ≡ true
   changed-stands keeps sessions all = grind (arith, numbered-stands database sessions number, keeps, with_session-stands database sessions number)
+
+module _ {A : Type 0} (database : Tables A) (number : ℕ) where
+  pub attached_stand : (name : List ℕ) (sessions : NumberedSessions A) → are_own_sessions database sessions ≡ true
+      → are_own_sessions database (with_session_if sessions number (option_map (attached name) (session_numbered sessions number))) ≡ true
+  attached_stand name = changed-stands database number (attached name) (λ session. attach-stands database name session.tables)
+
+  pub diff_stands : (name : List ℕ) (found : List (Difference A)) (sessions : NumberedSessions A) → are_own_differences (schema_of database name) found ≡ true → are_own_sessions database sessions ≡ true
+      → are_own_sessions database (with_session_if sessions number (option_map (record_diff name found) (session_numbered sessions number))) ≡ true
+  diff_stands name found sessions sound = changed-stands database number (record_diff name found) (λ session. record_diff-stands database name found session sound) sessions
 
 module _ {A : Type 0} where
   own_fields : (b : Bool) (fields key : Fields A) → is_key fields ≡ b → is_key key ≡ true → fields_eq fields key ≡ is_key_of (cond b (Some fields) None) key

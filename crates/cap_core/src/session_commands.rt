@@ -116,6 +116,7 @@ impl<A: AllocHandle> Core<A> {
     }
 
     // Attaches a table to the session with this number.
+    #[tactic(auto, using(crate::proofs::SoundLemmas::attached_stand))]
     fn attach<C: CommitHook<A>>(
         &mut self,
         number: u64,
@@ -163,6 +164,7 @@ impl<A: AllocHandle> Core<A> {
     }
 
     // Records what a diff found in the session with this number.
+    #[tactic(auto, using(crate::proofs::SoundLemmas::diff_stands))]
     fn record_found<C: CommitHook<A>>(
         &mut self,
         number: u64,
