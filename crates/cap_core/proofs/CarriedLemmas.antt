@@ -1,10 +1,9 @@
 -- The touches by changes that carry the rows before a commit, and by the rows before it.
-use Rattle.std.proofs.Common.{◌≡◌, ℕ, Bool, true, false, cond, Option, Some, None, Result, Ok, Err, IfOk, List, [], ◌∷◌, ◌&&◌, ◌||◌, refl, ap, subst, ◌∙◌, arith}
+use Rattle.std.proofs.Common.{◌≡◌, ℕ, Bool, true, false, cond, Option, Some, None, IfOk, List, [], ◌∷◌, ◌&&◌, ◌||◌, refl, ap, ◌∙◌, arith}
 use Rattle.std.specs.List.{cons_option, filter_map, find}
 use Rattle.std.specs.Option.{option_map}
 use Rattle.std.specs.Cmp.{Equal-is, eq_by_cmp_equiv, tied_itself}
 use Rattle.cap_value.specs.Bytes.{bytes_eq}
-use Rattle.cap_value.specs.declared.refusal.Refusal.{Refusal}
 use Rattle.cap_row.specs.Fields.{Fields}
 use Rattle.cap_row.specs.Key.{fields_cmp, fields_cmp_total, fields_eq}
 use Rattle.cap_tree.specs.Tree.{get}
@@ -16,13 +15,11 @@ use Rattle.cap_database.specs.Snapshot.{SnapshotState}
 use Rattle.cap_database.specs.Tables.{Tables, create}
 use Rattle.cap_database.specs.declared.change.Change.{Change}
 use Rattle.cap_database.specs.declared.op.Op.{Op}
-use Rattle.cap_database.specs.declared.refused_at.RefusedAt.{RefusedAt}
 use Rattle.cap_database.proofs.StayLemmas.{run-carries}
 use Rattle.cap_codec.specs.declared.read.Contents.{Contents}
 use Rattle.cap_apply.specs.declared.policy.Policy.{Policy}
 use Rattle.cap_apply.specs.Apply.{apply}
 use Rattle.cap_apply.proofs.StayLemmas.{apply-carries}
-use Rattle.cap_txn.specs.Stale.{stale}
 use Rattle.cap_session.specs.Recording.{is_cascade, touches_of}
 use Rattle.cap_session.specs.Records.{Records, Touch, record_after, touch, with_touches}
 use Rattle.cap_session.proofs.RecordLemmas.{get-put}
@@ -31,7 +28,7 @@ use Rattle.cap_core.specs.declared.command.Command.TheVariants as command
 use Rattle.cap_core.specs.declared.event.Event.{Event}
 use Rattle.cap_core.specs.Flags.{changes_shown}
 use Rattle.cap_core.specs.History.{effect_of, event_effect}
-use Rattle.cap_core.specs.Outcome.{Effect, applied, commit_unless, created, made, no_effect, outcome}
+use Rattle.cap_core.specs.Outcome.{Effect, no_effect, outcome}
 use Rattle.cap_core.specs.Past.{is_accepted}
 use Rattle.cap_core.proofs.SmallLemmas.{each-ok}
 

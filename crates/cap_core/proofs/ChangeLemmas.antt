@@ -1,5 +1,5 @@
 -- What a change leaves of a session, by what it asks for.
-use Rattle.std.proofs.Common.{◌≡◌, ◌||◌, ℕ, Bool, true, cond, Option, Some, refl, arith}
+use Rattle.std.proofs.Common.{◌≡◌, ◌||◌, ℕ, Bool, true, cond, Option, Some, arith}
 use Rattle.std.specs.Option.{unwrap_or}
 use Rattle.cap_filter.specs.Rule.{Rule}
 use Rattle.cap_database.specs.Tables.{Tables}

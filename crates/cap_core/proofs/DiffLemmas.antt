@@ -1,11 +1,9 @@
 -- What a diff finds are rows of the saved table, under their keys.
-use Rattle.std.proofs.Common.{◌≡◌, ℕ, Bool, true, false, cond, Option, Some, None, List, [], ◌∷◌, Result, Ok, Err, refl, sym, subst, arith}
-use Rattle.std.specs.Prelude.{fold, IfSome}
+use Rattle.std.proofs.Common.{◌≡◌, ℕ, Bool, true, Option, Some, None, List, [], ◌∷◌, Ok, refl, sym, subst, arith}
+use Rattle.std.specs.Prelude.{fold}
 use Rattle.std.specs.List.{list_all}
-use Rattle.cap_value.specs.declared.refusal.Refusal.{Refusal}
-use Rattle.cap_value.specs.declared.refusal.Refusal.TheVariants.{Incompatible}
 use Rattle.cap_row.specs.Fields.{Fields}
-use Rattle.cap_row.specs.Key.{fields_cmp, fields_eq}
+use Rattle.cap_row.specs.Key.{fields_cmp}
 use Rattle.cap_row.specs.Schema.{flags_eq}
 use Rattle.cap_tree.specs.Tree.{get}
 use Rattle.cap_compare.specs.Beside.{alone, beside, first_of, put_beside}

@@ -1,7 +1,7 @@
 -- What a command to a session makes of it, and what any event does, by what the session was.
 use Rattle.std.proofs.lemmas.List.{append-nil}
-use Rattle.std.proofs.Common.{◌≡◌, ℕ, Bool, true, false, cond, Option, Some, None, Result, Ok, List, [], ◌∷◌, ◌++◌, ◌||◌, map, length, refl, sym, ap, ◌∙◌, arith}
-use Rattle.std.specs.Prelude.{filter, fold}
+use Rattle.std.proofs.Common.{◌≡◌, ℕ, Bool, true, cond, Option, Some, None, Result, Ok, List, [], ◌∷◌, ◌++◌, ◌||◌, map, length, refl, sym, ap, ◌∙◌, arith}
+use Rattle.std.specs.Prelude.{fold}
 use Rattle.std.specs.Option.{unwrap_or}
 use Rattle.std.specs.Cmp.Lexicographic.{nat_list_eq_equiv}
 use Rattle.cap_value.specs.Bytes.{bytes_eq}
@@ -10,7 +10,7 @@ use Rattle.cap_database.specs.Snapshot.{SnapshotState}
 use Rattle.cap_database.specs.Tables.{Tables}
 use Rattle.cap_compare.specs.declared.difference.Difference.{Difference}
 use Rattle.cap_session.specs.Recording.{record_commit, record_diff, touch_table, touches_found}
-use Rattle.cap_session.specs.Records.{Records, Touch as RowTouch, with_touches}
+use Rattle.cap_session.specs.Records.{with_touches}
 use Rattle.cap_session.specs.Session.{AttachedTables, SessionState, forget}
 use Rattle.cap_core.specs.declared.event.Event.{Event}
 use Rattle.cap_core.specs.declared.command.Command.{Command}

@@ -4,7 +4,7 @@ use Rattle.std.proofs.lemmas.List.Elements.{filter-append}
 use Rattle.std.proofs.lemmas.List.Folds.{list_all-append, list_any-append}
 use Rattle.std.proofs.lemmas.Bool.Decides.{nat_tests}
 use Rattle.std.proofs.Common.{◌≡◌, ◌≤◌, ℕ, ◌+◌, Bool, true, false, cond, Option, Some, None, List, [], ◌∷◌, ◌++◌, ◌&&◌, ◌||◌, not, map, length, refl, sym, ap, ap₂, append_assoc, ◌∙◌, arith}
-use Rattle.std.specs.Prelude.{filter, fold, nat_eq, nat_le, nat_lt}
+use Rattle.std.specs.Prelude.{filter, fold, nat_lt}
 use Rattle.std.specs.List.{cons_option, enumerate_from, filter_map, list_all, list_any}
 use Rattle.std.specs.Option.{option_map}
 use Rattle.std.specs.Cmp.Lexicographic.{bytes_decides, nat_list_eq_equiv}

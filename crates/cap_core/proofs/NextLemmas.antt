@@ -8,10 +8,7 @@ use Rattle.cap_value.specs.Bytes.{bytes_cmp}
 use Rattle.cap_value.specs.declared.refusal.Refusal.{Refusal}
 use Rattle.cap_value.specs.declared.refusal.Refusal.TheVariants.{NoDatabase, NoSession, TooMany}
 use Rattle.cap_tree.specs.Tree.{put_entry, take_entry}
-use Rattle.cap_codec.specs.declared.read.Contents.{Contents}
-use Rattle.cap_apply.specs.Report.{ReportState}
-use Rattle.cap_apply.specs.declared.policy.Policy.{Policy}
-use Rattle.cap_database.specs.Tables.{Tables, table_of}
+use Rattle.cap_database.specs.Tables.{Tables}
 use Rattle.cap_session.specs.Recording.{record_commit}
 use Rattle.cap_session.specs.Session.{SessionState, new_session}
 use Rattle.cap_session.specs.Sessions.{session_numbered, with_session}
@@ -22,13 +19,13 @@ use Rattle.cap_core.specs.declared.session_command.SessionCommand.{SessionComman
 use Rattle.cap_core.specs.declared.session_command.SessionCommand.TheVariants.{Change, Delete, Diff}
 use Rattle.cap_core.specs.declared.reply.Reply.{Reply}
 use Rattle.cap_core.specs.declared.reply.Reply.TheVariants.{Done, Refused, Session as SessionMade}
-use Rattle.cap_core.specs.Answer.{IsLegal, IsLegalPast, State, answer, drop_reply, event_by, new_session_reply, refusal, reply_of, save_reply, session_answer, session_reply, state, state_after, version_reply, write_reply, diffed}
+use Rattle.cap_core.specs.Answer.{IsLegal, IsLegalPast, State, answer, event_by, refusal, reply_of, session_answer, session_reply, state, state_after, version_reply, write_reply, diffed}
 use Rattle.cap_core.specs.Flags.{changes_shown, command_to, deletes, is_dropped, is_quiet, live_sessions, makes_session, quiet_sessions, sessions_made}
 use Rattle.cap_core.specs.History.{Databases, effect_of, event_effect, is_write, main, saved, saved_after, snapshot, version}
 use Rattle.cap_core.specs.Outcome.{Effect, no_effect, outcome, Refused as Why, made}
 use Rattle.cap_core.specs.Past.{Past, is_accepted}
 use Rattle.cap_core.specs.Session.{session_of, sessions}
-use Rattle.cap_core.specs.Transition.{after_drop, after_new_session, after_save, after_write, next, one_more, session_left, with_left, with_sessions, written}
+use Rattle.cap_core.specs.Transition.{after_write, next, one_more, session_left, with_left, with_sessions, written}
 use Rattle.cap_core.proofs.HistoryLemmas.{map-both}
 use Rattle.cap_core.proofs.SessionLemmas.{effect-refused, effect-told, record_commit-new, session-apart, session-elsewhere, session-refused, shown-recorded}
 use Rattle.cap_core.proofs.NumberLemmas.{lookup-beyond, lookup-passing, numbered, passing, passing-push, with-passing, without-passing}
@@ -40,7 +37,7 @@ use Rattle.std.specs.Result.{result_err}
 use Rattle.cap_value.specs.declared.memory.Fault.{Fault}
 use Rattle.cap_compare.specs.declared.difference.Difference.{Difference}
 use Rattle.cap_table.specs.Table.{TableState}
-use Rattle.cap_database.specs.Operation.{in_place, refused_in, refused_step, run, step, stepped}
+use Rattle.cap_database.specs.Operation.{run}
 use Rattle.cap_database.specs.declared.op.Op.{Op}
 use Rattle.cap_database.proofs.StepLemmas.{refused_act_is}
 use Rattle.cap_core.specs.Code.CommandOutcome.{Reports}

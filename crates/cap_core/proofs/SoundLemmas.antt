@@ -1,18 +1,14 @@
 -- Images that stand under their own keys: after what changes sessions, where one is found, and in the code.
-use Rattle.std.proofs.Common.{◌≡◌, ℕ, ◌+◌, ◌<◌, Bool, true, false, cond, Option, Some, None, List, [], ◌∷◌, ◌++◌, map, length, refl, sym, ap, subst, ◌∙◌, arith, Ordering, Result, Ok, get_or, take, add-one, nat_eq, ◌&&◌}
-use Rattle.std.specs.Prelude.{IfSome, IfOk, nat_le, is_some, filter_map, option_and_then}
+use Rattle.std.proofs.Common.{◌≡◌, ℕ, Bool, true, false, cond, Option, Some, None, List, [], ◌∷◌, map, length, refl, sym, ap, subst, ◌∙◌, arith, Ordering, nat_eq, ◌&&◌}
+use Rattle.std.specs.Prelude.{IfSome, nat_le, is_some, filter_map}
 use Rattle.std.specs.Option.{option_map}
-use Rattle.std.specs.List.{cons_option, list_all}
-use Rattle.std.specs.Ordering.{is_eq}
-use Rattle.std.specs.FinMap.{IsAntisymmetric}
+use Rattle.std.specs.List.{list_all}
 use Rattle.std.specs.Cmp.Lexicographic.{bytes_decides}
-use Rattle.std.proofs.Math.Seq.{take-suc}
-use Rattle.std.proofs.lemmas.Bool.{and_from}
 use Rattle.std.proofs.lemmas.Bool.Decides.{nat_tests}
 use Rattle.std.proofs.lemmas.List.Folds.{list_all-append}
 use Rattle.cap_value.specs.Bytes.{bytes_eq}
 use Rattle.cap_row.specs.Fields.{Fields}
-use Rattle.cap_row.specs.Key.{fields_cmp, fields_cmp-Equal, key_of, key_from, key_fields, fields_eq, fields_eq_decides, is_key}
+use Rattle.cap_row.specs.Key.{fields_cmp, key_of, key_fields, fields_eq, fields_eq_decides, is_key}
 use Rattle.cap_row.specs.Schema.{has_key}
 use Rattle.cap_changes.specs.Change.{HaveSameKey, IsKeyedRow}
 use Rattle.cap_compare.specs.declared.difference.Difference.{Difference}

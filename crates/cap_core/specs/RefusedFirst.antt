@@ -4,11 +4,9 @@ use Rattle.std.specs.Option.{option_map}
 use Rattle.cap_value.specs.Memory.{MatchFault}
 use Rattle.cap_value.specs.declared.memory.Fault.{Fault}
 use Rattle.cap_value.specs.declared.refusal.Refusal.{Refusal}
-use Rattle.cap_value.specs.declared.refusal.Refusal.TheVariants.{NoSession}
 use Rattle.cap_database.specs.Operation.{refused_step}
 use Rattle.cap_database.specs.Tables.{Tables}
 use Rattle.cap_database.specs.declared.op.Op.{Op}
-use Rattle.cap_session.specs.Session.{SessionState}
 use Rattle.cap_txn.specs.Stale.{stale}
 use Rattle.cap_core.specs.declared.command.Command.{Command}
 use Rattle.cap_core.specs.declared.command.Command.TheVariants.{Commit, Apply}
@@ -26,10 +24,6 @@ module _ {A : Type 0} where
   abbrev pub refusal_in : Reply A → Option Why
   refusal_in (Refused at why) = Some (at, why)
   refusal_in _ = None
-
-  abbrev pub no_session : Option (SessionState A) → Option Refusal
-  no_session None = Some NoSession
-  no_session (Some session) = None
 
   -- of a batch's operations the first is tried on the tables as they are; the others need what it leaves
   abbrev pub refused_op : Tables A → List (Op A) → Option Why
