@@ -1,6 +1,7 @@
 -- What a call whose arguments are records leaves with its caller.
 use Rattle.std.specs.Prelude.{◌≡◌, ℕ, List, Option, Some, None, Result, Ok, Err, OnErr, IfOk}
 use Rattle.std.specs.Global.{Global}
+use Rattle.std.specs.Result.{result_err}
 use Rattle.cap_value.specs.Memory.{AnswersUnlessMemory, LeavesUnlessMemory, RefusesFirst}
 use Rattle.cap_value.specs.declared.memory.Fault.{Fault}
 use Rattle.cap_value.specs.declared.memory.Fault.TheVariants as stop
@@ -12,7 +13,7 @@ use Rattle.cap_txn.specs.Transaction.{IsAnswered, IsNewMark, TxnState, batch_of}
 use Rattle.cap_txn.specs.declared.answered_call.Answer.TheVariants as answered
 use Rattle.cap_txn.specs.declared.answered_call.Asked.TheVariants as asked
 use Rattle.cap_txn.specs.declared.savepoint.Mark.{Mark}
-use Rattle.cap_records.specs.Arguments.{row_misuse, table_misuse}
+use Rattle.cap_records.specs.Arguments.{row_argument, table_argument}
 use Rattle.cap_records.specs.Fault.{HandsOn}
 use Rattle.cap_records.specs.Reads.{get_in, scan_in}
 use Rattle.cap_records.specs.Rows.{RowCursorState}
@@ -69,12 +70,12 @@ module _ {X : Type 0} where
 
 -- ---- Reads of a snapshot
 
--- What the tables have, refusals among them, opens closed rows. A refusal that needs no memory comes first.
-pub record ReadsRows (rows : Result RowCursorState RecordFault) (misuse : Option RecordFault) (status : ℕ)
-    (has : Option RowCursorState) (old fault : PlacedFault) : Type 0 where
+-- What the tables have, refusals among them, opens closed rows. That the arguments name none comes first.
+pub record ReadsRows {X : Type 0} (rows : Result RowCursorState RecordFault) (names : Result X RecordFault)
+    (status : ℕ) (has : Option RowCursorState) (old fault : PlacedFault) : Type 0 where
   pub answer : Result RowCursorState (Fault RecordFault)
   pub answer_is : AnswersUnlessMemory answer rows
-  pub first : RefusesFirst misuse answer
+  pub first : RefusesFirst (result_err names) answer
   pub tells : TellsRead status has old fault answer
 
 -- ---- Operations
@@ -83,11 +84,6 @@ pub record ReadsRows (rows : Result RowCursorState RecordFault) (misuse : Option
 abbrev pub caused : Option Cause → (Cause → Result (Op Global) RecordFault) → Result (Op Global) RecordFault
 caused (Some cause) made = made cause
 caused None made = Err fault.Misuse
-
--- misuse that is known without memory
-abbrev pub caused_misuse : Option Cause → Option RecordFault → Option RecordFault
-caused_misuse (Some cause) misuse = misuse
-caused_misuse None misuse = Some fault.Misuse
 
 -- whether an operation was put, or made
 abbrev pub Done : Type 0
@@ -110,13 +106,12 @@ abbrev pub PutsUnlessFull : Option Refusal → Result (Op Global) (Fault RecordF
 PutsUnlessFull (Some why) made old new answer = (answer ≡ Err (stop.Refused (fault.Refused why))) × (new ≡ old)
 PutsUnlessFull None made old new answer = PutsMade made old new answer
 
--- The operation is the one that the arguments say, refusals among them. Misuse of them is known without
--- memory.
-pub record Puts (said : Result (Op Global) RecordFault) (misuse : Option RecordFault)
-    (old new : BatchState Global) (answer : Done) : Type 0 where
+-- The operation is the one that the arguments say. That they say none is known without memory.
+pub record Puts (said : Result (Op Global) RecordFault) (old new : BatchState Global) (answer : Done)
+    : Type 0 where
   pub made : Result (Op Global) (Fault RecordFault)
   pub made_is : AnswersUnlessMemory made said
-  pub first : RefusesFirst misuse made
+  pub first : RefusesFirst (result_err said) made
   pub put : PutsUnlessFull (refused_push old.ops) made old new answer
 
 -- The operation is made by the transaction's own call. Arguments that make none leave it as it was.
@@ -125,11 +120,11 @@ abbrev pub MakesMade : Result (Op Global) (Fault RecordFault) → TxnState Globa
 MakesMade (Ok op) old new answer = MakesOp op old new answer
 MakesMade (Err why) old new answer = (answer ≡ Err why) × (new ≡ old)
 
-pub record Makes (said : Result (Op Global) RecordFault) (misuse : Option RecordFault)
-    (old new : TxnState Global) (answer : Done) : Type 0 where
+pub record Makes (said : Result (Op Global) RecordFault) (old new : TxnState Global) (answer : Done)
+    : Type 0 where
   pub made : Result (Op Global) (Fault RecordFault)
   pub made_is : AnswersUnlessMemory made said
-  pub first : RefusesFirst misuse made
+  pub first : RefusesFirst (result_err said) made
   pub makes : MakesMade made old new answer
 
 -- ---- Transactions
@@ -139,13 +134,13 @@ pub record Gets (table key : List ℕ) (id : ℕ) (old new : TxnState Global)
     (answer : Result RowCursorState (Fault RecordFault)) : Type 0 where
   pub rows : AnswersUnlessMemory answer (get_in old.workspace.database table key id)
   pub left : LeavesAsked old new (get_asked table key id) answer
-  pub first : RefusesFirst (row_misuse table key id) answer
+  pub first : RefusesFirst (result_err (row_argument table key id)) answer
 
 pub record Scans (table : List ℕ) (old new : TxnState Global)
     (answer : Result RowCursorState (Fault RecordFault)) : Type 0 where
   pub rows : AnswersUnlessMemory answer (scan_in old.workspace.database table)
   pub left : LeavesScanned old new (scan_asked table) answer
-  pub first : RefusesFirst (table_misuse table) answer
+  pub first : RefusesFirst (result_err (table_argument table)) answer
 
 -- A savepoint is made, with a mark that the transaction has not given before.
 pub record Marks (old new : TxnState Global) (answer : Result Mark (Fault RecordFault)) : Type 0 where

@@ -1,13 +1,12 @@
 //! The calls on a batch of operations.
 ghost use Rattle.std.specs.Prelude.{◌≡◌, IsSome, None, Some};
 ghost use Rattle.cap_txn.specs.Batch.{refused_push};
-ghost use Rattle.cap_records.specs.Arguments.{row_misuse, table_misuse};
 ghost use Rattle.cap_records.specs.Ops.{delete_in, insert_in, update_in};
 ghost use Rattle.cap_c.specs.Answered.{Answers};
 ghost use Rattle.cap_c.specs.Batch.{batch_on};
 ghost use Rattle.cap_c.specs.Handle.{OpensOn};
 ghost use Rattle.cap_c.specs.Numbers.{cause_of};
-ghost use Rattle.cap_c.specs.Recorded.{Puts, PutsUnlessFull, TellsRecord, caused, caused_misuse};
+ghost use Rattle.cap_c.specs.Recorded.{Puts, PutsUnlessFull, TellsRecord, caused};
 
 use crate::batch_handle::{self, BatchHandle, put, take};
 use crate::fault::PlacedFault;
@@ -77,8 +76,7 @@ pub extern "C" fn changecap_insert(
 ) -> u32
     requires opened { IsSome batch.old.value }
     ensures put { Answers batch.old.value batch.new.value
-        (Puts (caused (cause_of cause) (insert_in table.now row.now))
-        (caused_misuse (cause_of cause) (table_misuse table.now)))
+        (Puts (caused (cause_of cause) (insert_in table.now row.now)))
         (TellsRecord result fault.old fault.new) }
 {
     let made = insert_caused(alloc, table, row, cause_of(cause));
@@ -102,8 +100,7 @@ pub extern "C" fn changecap_update(
 ) -> u32
     requires opened { IsSome batch.old.value }
     ensures put { Answers batch.old.value batch.new.value
-        (Puts (caused (cause_of cause) (update_in table.now key.now id fields.now))
-        (caused_misuse (cause_of cause) (row_misuse table.now key.now id)))
+        (Puts (caused (cause_of cause) (update_in table.now key.now id fields.now)))
         (TellsRecord result fault.old fault.new) }
 {
     let made = update_caused(alloc, table, key, id, fields, cause_of(cause));
@@ -126,8 +123,7 @@ pub extern "C" fn changecap_delete(
 ) -> u32
     requires opened { IsSome batch.old.value }
     ensures put { Answers batch.old.value batch.new.value
-        (Puts (caused (cause_of cause) (delete_in table.now key.now id))
-        (caused_misuse (cause_of cause) (row_misuse table.now key.now id)))
+        (Puts (caused (cause_of cause) (delete_in table.now key.now id)))
         (TellsRecord result fault.old fault.new) }
 {
     let made = delete_caused(alloc, table, key, id, cause_of(cause));

@@ -1,8 +1,8 @@
 //! Operations of which the number of the cause is an argument.
+ghost use Rattle.std.specs.Result.{result_err};
 ghost use Rattle.cap_value.specs.Memory.{AnswersUnlessMemory, RefusesFirst};
-ghost use Rattle.cap_records.specs.Arguments.{row_misuse, table_misuse};
 ghost use Rattle.cap_records.specs.Ops.{delete_in, insert_in, update_in};
-ghost use Rattle.cap_c.specs.Recorded.{caused, caused_misuse};
+ghost use Rattle.cap_c.specs.Recorded.{caused};
 
 use cap_database::{Cause, Op};
 use cap_records::{RecordFault, delete_op, insert_op, update_op};
@@ -17,7 +17,7 @@ pub(crate) fn insert_caused(
     cause: Option<Cause>,
 ) -> Result<Op<Global>, Fault<RecordFault>>
     ensures op { AnswersUnlessMemory result (caused cause (insert_in table.now row.now)) }
-    ensures first { RefusesFirst (caused_misuse cause (table_misuse table.now)) result }
+    ensures first { RefusesFirst (result_err (caused cause (insert_in table.now row.now))) result }
 {
     match cause {
         Some(cause) => insert_op(alloc, table, row, cause),
@@ -35,7 +35,8 @@ pub(crate) fn update_caused(
     cause: Option<Cause>,
 ) -> Result<Op<Global>, Fault<RecordFault>>
     ensures op { AnswersUnlessMemory result (caused cause (update_in table.now key.now id fields.now)) }
-    ensures first { RefusesFirst (caused_misuse cause (row_misuse table.now key.now id)) result }
+    ensures first { RefusesFirst (result_err (caused cause (update_in table.now key.now id fields.now)))
+        result }
 {
     match cause {
         Some(cause) => update_op(alloc, table, key, id, fields, cause),
@@ -52,7 +53,7 @@ pub(crate) fn delete_caused(
     cause: Option<Cause>,
 ) -> Result<Op<Global>, Fault<RecordFault>>
     ensures op { AnswersUnlessMemory result (caused cause (delete_in table.now key.now id)) }
-    ensures first { RefusesFirst (caused_misuse cause (row_misuse table.now key.now id)) result }
+    ensures first { RefusesFirst (result_err (caused cause (delete_in table.now key.now id))) result }
 {
     match cause {
         Some(cause) => delete_op(alloc, table, key, id, cause),

@@ -1,7 +1,7 @@
 //! The calls that take a snapshot, and read rows of it.
 ghost use Rattle.std.specs.Prelude.{◌≡◌, ◌⊎◌, IsSome, None};
 ghost use Rattle.cap_connection.specs.Calls.{TakesSnapshot};
-ghost use Rattle.cap_records.specs.Arguments.{row_misuse, table_misuse};
+ghost use Rattle.cap_records.specs.Arguments.{row_argument, table_argument};
 ghost use Rattle.cap_records.specs.Reads.{get_in, scan_from_in, scan_in};
 ghost use Rattle.cap_c.specs.Answered.{Answers, OpensAnswer};
 ghost use Rattle.cap_c.specs.Handle.{Keeps, LacksMemory};
@@ -119,7 +119,7 @@ pub extern "C" fn changecap_get(
     requires closed { rows.old.value ≡ None }
     ensures read { Keeps snapshot.old.value snapshot.new.value
         (λ had. ReadsRows (get_in had.database table.now key.now id)
-        (row_misuse table.now key.now id) result rows.new.value fault.old fault.new) }
+        (row_argument table.now key.now id) result rows.new.value fault.old fault.new) }
 {
     let held = take(alloc, snapshot);
     let answer = get(alloc, &held.snapshot, table, key, id);
@@ -139,7 +139,7 @@ pub extern "C" fn changecap_scan(
     requires opened { IsSome snapshot.old.value }
     requires closed { rows.old.value ≡ None }
     ensures read { Keeps snapshot.old.value snapshot.new.value
-        (λ had. ReadsRows (scan_in had.database table.now) (table_misuse table.now) result
+        (λ had. ReadsRows (scan_in had.database table.now) (table_argument table.now) result
         rows.new.value fault.old fault.new) }
 {
     let held = take(alloc, snapshot);
@@ -164,7 +164,7 @@ pub extern "C" fn changecap_scan_from(
     requires closed { rows.old.value ≡ None }
     ensures read { Keeps snapshot.old.value snapshot.new.value
         (λ had. ReadsRows (scan_from_in had.database table.now key.now limit)
-        (row_misuse table.now key.now 0) result rows.new.value fault.old fault.new) }
+        (row_argument table.now key.now 0) result rows.new.value fault.old fault.new) }
 {
     let held = take(alloc, snapshot);
     let answer = scan_from(alloc, &held.snapshot, table, key, limit);

@@ -1,13 +1,12 @@
 //! The calls on a transaction.
 ghost use Rattle.std.specs.Prelude.{◌≡◌, IsSome, None};
 ghost use Rattle.cap_txn.specs.Transaction.{begin_traced};
-ghost use Rattle.cap_records.specs.Arguments.{row_misuse, table_misuse};
 ghost use Rattle.cap_records.specs.Ops.{delete_in, insert_in, update_in};
 ghost use Rattle.cap_c.specs.Answered.{Answers};
 ghost use Rattle.cap_c.specs.Handle.{Keeps, OpensOn};
 ghost use Rattle.cap_c.specs.Numbers.{cause_of};
 ghost use Rattle.cap_c.specs.Recorded.{Ends, Gets, GoesBack, Makes, MakesMade, Marks, Scans, TellsMark};
-ghost use Rattle.cap_c.specs.Recorded.{TellsRead, TellsRecord, caused, caused_misuse};
+ghost use Rattle.cap_c.specs.Recorded.{TellsRead, TellsRecord, caused};
 
 use crate::batch_handle::{self, BatchHandle};
 use crate::fault::PlacedFault;
@@ -67,8 +66,7 @@ pub extern "C" fn changecap_transaction_insert(
 ) -> u32
     requires opened { IsSome transaction.old.value }
     ensures made { Answers transaction.old.value transaction.new.value
-        (Makes (caused (cause_of cause) (insert_in table.now row.now))
-        (caused_misuse (cause_of cause) (table_misuse table.now)))
+        (Makes (caused (cause_of cause) (insert_in table.now row.now)))
         (TellsRecord result fault.old fault.new) }
 {
     let op = insert_caused(alloc, table, row, cause_of(cause));
@@ -92,8 +90,7 @@ pub extern "C" fn changecap_transaction_update(
 ) -> u32
     requires opened { IsSome transaction.old.value }
     ensures made { Answers transaction.old.value transaction.new.value
-        (Makes (caused (cause_of cause) (update_in table.now key.now id fields.now))
-        (caused_misuse (cause_of cause) (row_misuse table.now key.now id)))
+        (Makes (caused (cause_of cause) (update_in table.now key.now id fields.now)))
         (TellsRecord result fault.old fault.new) }
 {
     let op = update_caused(alloc, table, key, id, fields, cause_of(cause));
@@ -116,8 +113,7 @@ pub extern "C" fn changecap_transaction_delete(
 ) -> u32
     requires opened { IsSome transaction.old.value }
     ensures made { Answers transaction.old.value transaction.new.value
-        (Makes (caused (cause_of cause) (delete_in table.now key.now id))
-        (caused_misuse (cause_of cause) (row_misuse table.now key.now id)))
+        (Makes (caused (cause_of cause) (delete_in table.now key.now id)))
         (TellsRecord result fault.old fault.new) }
 {
     let op = delete_caused(alloc, table, key, id, cause_of(cause));

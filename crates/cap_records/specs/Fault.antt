@@ -1,5 +1,5 @@
 -- Answers of calls whose arguments are bytes.
-use Rattle.std.specs.Prelude.{Bool, true, false, Option, Some, None, Result, Ok, Err}
+use Rattle.std.specs.Prelude.{Bool, true, false, Result, Ok, Err}
 use Rattle.cap_value.specs.declared.memory.Fault.{Fault}
 use Rattle.cap_value.specs.declared.memory.Fault.TheVariants as fault
 use Rattle.cap_value.specs.declared.refusal.Refusal.{Refusal}
@@ -11,11 +11,6 @@ infixl 10 ◌>>=◌
 abbrev pub ◌>>=◌ : {X Y : Type 0} → Result X RecordFault → (X → Result Y RecordFault) → Result Y RecordFault
 (Ok x) >>= f = f x
 (Err why) >>= f = Err why
-
--- the refusal of arguments that have no meaning
-abbrev pub misuse_unless : Bool → Option RecordFault
-misuse_unless true = None
-misuse_unless false = Some Misuse
 
 -- the answer, where the arguments have a meaning
 abbrev pub meant : {X : Type 0} → Bool → Result X RecordFault → Result X RecordFault

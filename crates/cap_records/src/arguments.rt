@@ -1,8 +1,8 @@
 //! The names of a table and of a row as arguments.
 ghost use Rattle.std.specs.Prelude.{◌≡◌, IsTrue};
+ghost use Rattle.std.specs.Result.{result_err};
 ghost use Rattle.cap_value.specs.Memory.{AnswersUnlessMemory, RefusesFirst};
-ghost use Rattle.cap_records.specs.Arguments.{names_row, row_argument, row_misuse, row_named};
-ghost use Rattle.cap_records.specs.Arguments.{table_argument, table_misuse};
+ghost use Rattle.cap_records.specs.Arguments.{names_row, row_argument, row_named, table_argument};
 
 use crate::fault::RecordFault;
 use crate::names::name_text;
@@ -17,7 +17,7 @@ pub(crate) fn table_argument(
     table: &[u8],
 ) -> Result<Name<Global>, Fault<RecordFault>>
     ensures name { AnswersUnlessMemory result (table_argument table.now) }
-    ensures first { RefusesFirst (table_misuse table.now) result }
+    ensures first { RefusesFirst (result_err (table_argument table.now)) result }
 {
     let Some(table) = name_text(table) else {
         return Err(Fault::Refused(RecordFault::Misuse));
@@ -37,7 +37,8 @@ fn names_row(id: u64, key: &[u8]) -> bool
 // The row of a name.
 fn row_named(alloc: Global, id: u64, key: &[u8]) -> Result<RowRef<Global>, Fault<RecordFault>>
     requires { IsTrue (names_row id key.now) }
-    ensures { AnswersUnlessMemory result (row_named id key.now) }
+    ensures row { AnswersUnlessMemory result (row_named id key.now) }
+    ensures first { RefusesFirst (result_err (row_named id key.now)) result }
 {
     if id != 0 {
         return Ok(RowRef::Loose(id));
@@ -57,7 +58,7 @@ pub(crate) fn row_argument(
     id: u64,
 ) -> Result<(Name<Global>, RowRef<Global>), Fault<RecordFault>>
     ensures names { AnswersUnlessMemory result (row_argument table.now key.now id) }
-    ensures first { RefusesFirst (row_misuse table.now key.now id) result }
+    ensures first { RefusesFirst (result_err (row_argument table.now key.now id)) result }
 {
     let Some(table) = name_text(table) else {
         return Err(Fault::Refused(RecordFault::Misuse));
@@ -65,9 +66,9 @@ pub(crate) fn row_argument(
     if !names_row(id, key) {
         return Err(Fault::Refused(RecordFault::Misuse));
     }
+    let row = row_named(alloc, id, key)?;
     let Ok(name) = Name::new(alloc, table) else {
         return Err(Fault::OutOfMemory);
     };
-    let row = row_named(alloc, id, key)?;
     Ok((name, row))
 }

@@ -1,6 +1,6 @@
 //! Operations whose arguments are bytes.
+ghost use Rattle.std.specs.Result.{result_err};
 ghost use Rattle.cap_value.specs.Memory.{AnswersUnlessMemory, RefusesFirst};
-ghost use Rattle.cap_records.specs.Arguments.{row_misuse, table_misuse};
 ghost use Rattle.cap_records.specs.Ops.{delete_in, insert_in, update_in};
 
 use crate::arguments::{row_argument, table_argument};
@@ -18,17 +18,17 @@ pub fn insert_op(
     cause: Cause,
 ) -> Result<Op<Global>, Fault<RecordFault>>
     ensures op { AnswersUnlessMemory result (insert_in table.now row.now cause) }
-    ensures first { RefusesFirst (table_misuse table.now) result }
+    ensures first { RefusesFirst (result_err (insert_in table.now row.now cause)) result }
 {
-    let table = table_argument(alloc, table)?;
-    match row_of(alloc, row) {
-        Ok(row) => Ok(Op {
+    match (table_argument(alloc, table), row_of(alloc, row)) {
+        (Ok(table), Ok(row)) => Ok(Op {
             table,
             cause,
             action: Action::Insert(row),
         }),
-        Err(Fault::Refused(fault)) => Err(Fault::Refused(RecordFault::Malformed(fault))),
-        Err(Fault::OutOfMemory) => Err(Fault::OutOfMemory),
+        (Err(Fault::Refused(why)), _) => Err(Fault::Refused(why)),
+        (_, Err(Fault::Refused(fault))) => Err(Fault::Refused(RecordFault::Malformed(fault))),
+        _ => Err(Fault::OutOfMemory),
     }
 }
 
@@ -43,17 +43,20 @@ pub fn update_op(
     cause: Cause,
 ) -> Result<Op<Global>, Fault<RecordFault>>
     ensures op { AnswersUnlessMemory result (update_in table.now key.now id fields.now cause) }
-    ensures first { RefusesFirst (row_misuse table.now key.now id) result }
+    ensures first { RefusesFirst (result_err (update_in table.now key.now id fields.now cause)) result }
 {
-    let (table, row) = row_argument(alloc, table, key, id)?;
-    match assignments_of(alloc, fields) {
-        Ok(fields) => Ok(Op {
+    match (
+        row_argument(alloc, table, key, id),
+        assignments_of(alloc, fields),
+    ) {
+        (Ok((table, row)), Ok(fields)) => Ok(Op {
             table,
             cause,
             action: Action::Update(row, fields),
         }),
-        Err(Fault::Refused(fault)) => Err(Fault::Refused(RecordFault::Malformed(fault))),
-        Err(Fault::OutOfMemory) => Err(Fault::OutOfMemory),
+        (Err(Fault::Refused(why)), _) => Err(Fault::Refused(why)),
+        (_, Err(Fault::Refused(fault))) => Err(Fault::Refused(RecordFault::Malformed(fault))),
+        _ => Err(Fault::OutOfMemory),
     }
 }
 
@@ -66,7 +69,7 @@ pub fn delete_op(
     cause: Cause,
 ) -> Result<Op<Global>, Fault<RecordFault>>
     ensures op { AnswersUnlessMemory result (delete_in table.now key.now id cause) }
-    ensures first { RefusesFirst (row_misuse table.now key.now id) result }
+    ensures first { RefusesFirst (result_err (delete_in table.now key.now id cause)) result }
 {
     let (table, row) = row_argument(alloc, table, key, id)?;
     Ok(Op {

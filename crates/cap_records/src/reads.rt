@@ -1,8 +1,9 @@
 //! Rows that are read of snapshots.
 ghost use Rattle.std.specs.Prelude.{◌≡◌, take, IfOk};
+ghost use Rattle.std.specs.Result.{result_err};
 ghost use Rattle.cap_value.specs.Memory.{AnswersUnlessMemory, RefusesFirst};
 ghost use Rattle.cap_database.specs.Read.{read};
-ghost use Rattle.cap_records.specs.Arguments.{row_misuse, table_misuse};
+ghost use Rattle.cap_records.specs.Arguments.{row_argument, table_argument};
 ghost use Rattle.cap_records.specs.Reads.{get_in, over, rows_from, scan_from_in, scan_in};
 ghost use Rattle.cap_records.specs.WithIds.{keyed_rows, one_row};
 
@@ -28,7 +29,7 @@ pub fn get(
     id: u64,
 ) -> Result<RowCursor, Fault<RecordFault>>
     ensures rows { AnswersUnlessMemory result (get_in snapshot.now.database table.now key.now id) }
-    ensures first { RefusesFirst (row_misuse table.now key.now id) result }
+    ensures first { RefusesFirst (result_err (row_argument table.now key.now id)) result }
 {
     let (table, row) = row_argument(alloc, table, key, id)?;
     get_row(alloc, snapshot, &table, &row)
@@ -57,7 +58,7 @@ pub fn scan(
     table: &[u8],
 ) -> Result<RowCursor, Fault<RecordFault>>
     ensures rows { AnswersUnlessMemory result (scan_in snapshot.now.database table.now) }
-    ensures first { RefusesFirst (table_misuse table.now) result }
+    ensures first { RefusesFirst (result_err (table_argument table.now)) result }
 {
     let table = table_argument(alloc, table)?;
     match snapshot.scan(&table) {
@@ -76,7 +77,7 @@ pub fn scan_from(
     limit: u64,
 ) -> Result<RowCursor, Fault<RecordFault>>
     ensures rows { AnswersUnlessMemory result (scan_from_in snapshot.now.database table.now key.now limit) }
-    ensures first { RefusesFirst (row_misuse table.now key.now 0) result }
+    ensures first { RefusesFirst (result_err (row_argument table.now key.now 0)) result }
 {
     let (table, from) = row_argument(alloc, table, key, 0)?;
     match snapshot.database().table(&table) {

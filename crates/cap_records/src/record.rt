@@ -1,6 +1,7 @@
 //! Rows, keys and new values as records.
 ghost use Rattle.std.specs.Prelude.{◌≡◌, ◌≤◌, length, IfOk};
-ghost use Rattle.cap_value.specs.Memory.{AnswersUnlessMemory};
+ghost use Rattle.std.specs.Result.{result_err};
+ghost use Rattle.cap_value.specs.Memory.{AnswersUnlessMemory, RefusesFirst};
 ghost use Rattle.cap_records.specs.Record.{assigned_in, key_in, row_in, values_bytes};
 
 use crate::reading::{columns_set, own_values, take_record};
@@ -16,6 +17,7 @@ use std::alloc::Global;
 pub fn row_of(alloc: Global, bytes: &[u8]) -> Result<Row<Global>, Fault<BlobFault>>
     // Which row, or which fault.
     ensures row { AnswersUnlessMemory result (row_in bytes.now) }
+    ensures first { RefusesFirst (result_err (row_in bytes.now)) result }
     // The bytes, all of them, are the record of what is read.
     ensures spelled { IfOk result (λ row. values_bytes row ≡ bytes.now) }
 {
@@ -32,7 +34,8 @@ pub fn row_of(alloc: Global, bytes: &[u8]) -> Result<Row<Global>, Fault<BlobFaul
 /// The key of a record in which every field is defined and not NULL.
 pub(crate) fn key_of(alloc: Global, bytes: &[u8]) -> Result<Key<Global>, Fault<BlobFault>>
     requires some { 1 ≤ length bytes.now }
-    ensures { AnswersUnlessMemory result (key_in bytes.now) }
+    ensures key { AnswersUnlessMemory result (key_in bytes.now) }
+    ensures first { RefusesFirst (result_err (key_in bytes.now)) result }
 {
     let values = match take_record(FieldRequirement::Key, bytes) {
         Ok(record) => own_values(alloc, record.as_values())?,
@@ -50,7 +53,8 @@ pub(crate) fn assignments_of(
     alloc: Global,
     bytes: &[u8],
 ) -> Result<Assignments<Global>, Fault<BlobFault>>
-    ensures { AnswersUnlessMemory result (assigned_in bytes.now) }
+    ensures assigned { AnswersUnlessMemory result (assigned_in bytes.now) }
+    ensures first { RefusesFirst (result_err (assigned_in bytes.now)) result }
 {
     match take_record(FieldRequirement::Any, bytes) {
         Ok(record) => Ok(columns_set(alloc, record)?),

@@ -1,9 +1,10 @@
 //! The calls of a transaction whose arguments are bytes.
 ghost use Rattle.std.specs.Prelude.{◌≡◌};
+ghost use Rattle.std.specs.Result.{result_err};
 ghost use Rattle.cap_value.specs.Memory.{AnswersUnlessMemory, RefusesFirst};
 ghost use Rattle.cap_database.specs.Read.{read};
 ghost use Rattle.cap_txn.specs.declared.answered_call.Asked.TheVariants as asked;
-ghost use Rattle.cap_records.specs.Arguments.{row_misuse, table_misuse};
+ghost use Rattle.cap_records.specs.Arguments.{row_argument, table_argument};
 ghost use Rattle.cap_records.specs.Reads.{get_in, over, scan_in};
 ghost use Rattle.cap_records.specs.Transactions.{LeavesAsked, LeavesScanned, MakesOp, get_asked, scan_asked};
 ghost use Rattle.cap_records.specs.WithIds.{one_row};
@@ -40,7 +41,7 @@ pub fn txn_get(
 ) -> Result<RowCursor, Fault<RecordFault>>
     ensures rows { AnswersUnlessMemory result (get_in txn.old.workspace.database table.now key.now id) }
     ensures left { LeavesAsked txn.old txn.new (get_asked table.now key.now id) result }
-    ensures first { RefusesFirst (row_misuse table.now key.now id) result }
+    ensures first { RefusesFirst (result_err (row_argument table.now key.now id)) result }
 {
     let (table, row) = row_argument(alloc, table, key, id)?;
     get_standing(alloc, txn, &table, &row)
@@ -81,7 +82,7 @@ pub fn txn_scan(
 ) -> Result<RowCursor, Fault<RecordFault>>
     ensures rows { AnswersUnlessMemory result (scan_in txn.old.workspace.database table.now) }
     ensures left { LeavesScanned txn.old txn.new (scan_asked table.now) result }
-    ensures first { RefusesFirst (table_misuse table.now) result }
+    ensures first { RefusesFirst (result_err (table_argument table.now)) result }
 {
     let table = table_argument(alloc, table)?;
     txn.sound_law();

@@ -15,7 +15,7 @@ unreachable-requires c =
     let key = key_is c.args.bytes.now c.in-Ok.record c.as_values.result _ c.in_ok-key.field-0 c.requires.some (are_low c.args.bytes.now (λ i. omega (arith, c.type_inv.bytes i))) c.in-Ok.ensures c.as_values.ensures c.in_ok-values-in-Ok.ensures c.in_ok-key.ensures in
     cc (key, c.in-None.is)
 
-pub returns : goal.returns
-returns c =
+pub returns-clause-key : goal.returns-clause-key
+returns-clause-key c =
     let key = key_is c.args.bytes.now c.in-Ok.record c.as_values.result _ c.in_ok-key.field-0 c.requires.some (are_low c.args.bytes.now (λ i. omega (arith, c.type_inv.bytes i))) c.in-Ok.ensures c.as_values.ensures c.in_ok-values-in-Ok.ensures c.in_ok-key.ensures in
     cc (values_in required.Key c.args.bytes.now c.in-Ok.record c.as_values.result c.in-Ok.ensures c.as_values.ensures, key, c.in-Some.is)
