@@ -1,6 +1,6 @@
 -- The change of a touched key fits its table.
 use Rattle.std.proofs.Common.{◌≡◌, List, [], ◌∷◌, length, Bool, true, false, Some, None, is_some, cond, refl, arith}
-use Rattle.std.proofs.lemmas.Bool.{and_from, true_from_ne_false}
+use Rattle.std.proofs.lemmas.Bool.{true_from_ne_false}
 use Rattle.std.specs.declared.cmp.Ordering.{Ordering}
 use Rattle.std.specs.declared.cmp.Ordering.TheVariants.{Equal}
 use Rattle.std.specs.Ordering.{is_eq}
@@ -9,7 +9,7 @@ use Rattle.cap_value.specs.declared.value.Value.{Value}
 use Rattle.cap_value.specs.Value.{is_null, value_eq_decides}
 use Rattle.cap_row.specs.Fields.{Fields}
 use Rattle.cap_row.specs.Key.{key_of, key_fields, is_key, fields_cmp, fields_cmp-Equal}
-use Rattle.cap_changes.specs.Requirements.{requirements, new_requirements, satisfy}
+use Rattle.cap_changes.specs.Requirements.{requirements, satisfy}
 use Rattle.cap_changes.specs.Fits.{change_fits}
 use Rattle.cap_changes.specs.Column.{by_column}
 use Rattle.cap_changes.specs.Change.{IsKeyedRow, full_record, old_field, new_field, change_of}
@@ -33,22 +33,14 @@ module _ {A : Type 0} where
   pub full_fits : (flags : List Bool) (row : Fields A) → IsKeyedRow flags row → satisfy (requirements record_kinds.Full flags) (full_record row) ≡ true
   full_fits flags row h = full_fits_from flags row h.wide (no_null_key flags row h.keyed)
 
-  old_fits_from : (flags : List Bool) (image now : Fields A) → length image ≡ length flags → length now ≡ length flags →
-      list_any is_null (key_fields flags image) ≡ false → satisfy (requirements record_kinds.Keyed flags) (by_column old_field flags image now) ≡ true
-  old_fits_from (key ∷ flags) (old ∷ image) (new ∷ now) wide wide' keyed = grind (arith, old_fits_from flags image now)
-  old_fits_from flags image now wide wide' keyed = grind arith
-
-  new_fits_from : (flags : List Bool) (image now : Fields A) → length image ≡ length flags → length now ≡ length flags →
-      satisfy (new_requirements flags (by_column old_field flags image now)) (by_column new_field flags image now) ≡ true
-  new_fits_from (key ∷ flags) (old ∷ image) (new ∷ now) wide wide' = grind (arith, new_fits_from flags image now)
-  new_fits_from flags image now wide wide' = grind arith
+  update_fits_from : (flags : List Bool) (image now : Fields A) → length image ≡ length flags → length now ≡ length flags → list_any is_null (key_fields flags image) ≡ false →
+      change_fits flags (Update true (by_column old_field flags image now) (by_column new_field flags image now)) ≡ true
+  update_fits_from (key ∷ flags) (old ∷ image) (new ∷ now) wide wide' keyed = grind (arith, update_fits_from flags image now)
+  update_fits_from flags image now wide wide' keyed = grind arith
 
   pub update_fits : (flags : List Bool) (indirect : Bool) (image now : Fields A) → IsKeyedRow flags image → IsKeyedRow flags now →
       change_fits flags (Update indirect (by_column old_field flags image now) (by_column new_field flags image now)) ≡ true
-  update_fits flags indirect image now h h' =
-      and_from (satisfy (requirements record_kinds.Keyed flags) (by_column old_field flags image now)) _
-      (old_fits_from flags image now h.wide h'.wide (no_null_key flags image h.keyed))
-      (new_fits_from flags image now h.wide h'.wide)
+  update_fits flags indirect image now h h' = update_fits_from flags image now h.wide h'.wide (no_null_key flags image h.keyed)
 
   -- equal rows are no change
   pub change_of-same : (flags : List Bool) (indirect : Bool) (image now : Fields A) → image ≡ now →

@@ -1,5 +1,5 @@
 -- What was read is spelled by the bytes that were read: changes.
-use Rattle.std.proofs.Common.{◌≡◌, ℕ, Bool, true, List, [], ◌∷◌, ◌++◌, Result, Ok, refl, sym, ap, subst, ◌∙◌, append_assoc, zero, suc, inl, inr}
+use Rattle.std.proofs.Common.{◌≡◌, ℕ, Bool, true, List, [], ◌∷◌, ◌++◌, Result, Ok, refl, sym, ap, subst, ◌∙◌, append_assoc, suc, inl, inr}
 use Rattle.cap_field.specs.declared.fault.BlobFault.{BlobFault}
 use Rattle.cap_field.specs.Reading.{◌>>=◌}
 use Rattle.cap_field.proofs.Binds.{bind_ok, ok_is, chosen}
@@ -32,8 +32,6 @@ module _ {X : Type 0} (one_at : ℕ → List Bool → ℕ → List ℕ → Resul
 
   pub each_spelled : IsSpelled → (most : ℕ) (bytes : List ℕ) (x : List X × List ℕ) → AreLow bytes → changes_at one_at most total flags bytes ≡ Ok x → Front bytes x
   unfolding changes_at
-  each_spelled spelled zero bytes x low e = subst (Front bytes) (ok_is ([], bytes) x e) ([], refl, refl)
-  each_spelled spelled (suc most) [] x low e = subst (Front []) (ok_is ([], []) x e) ([], refl, refl)
   each_spelled spelled (suc most) (op ∷ bytes) x low e = elim (chosen (is_operation op) _ _ _ e) [
     | inl (operation, h) ↦
         let first = bind_ok (one_at total flags op bytes) (λ change. changes_at one_at most total flags change.1 >>= (λ others. Ok (change.0 ∷ others.0, others.1))) x h in
@@ -47,3 +45,4 @@ module _ {X : Type 0} (one_at : ℕ → List Bool → ℕ → List ℕ → Resul
         )
     | inr (other, h) ↦ subst (Front (op ∷ bytes)) (ok_is ([], op ∷ bytes) x h) ([], refl, refl)
   ]
+  each_spelled spelled most bytes x low e = subst (Front bytes) (ok_is ([], bytes) x e) ([], refl, refl)

@@ -53,8 +53,6 @@ module _ {A : Type 0} where
 -- ---- records
 
 module _ {A : Type 0} where
-  -- ---- records
-
   abbrev pub asked_record : List FieldRequirement → RecordFields A → List ℕ
   asked_record [] fields = []
   asked_record (requirement ∷ requirements) [] = []
@@ -67,21 +65,8 @@ module _ {A : Type 0} where
       grind (arith, append_assoc (asked_bytes requirement field) (asked_record requirements fields) rest, field_again total requirement field, fields_again total requirements fields rest)
   fields_again total requirements fields rest met fits = grind arith
 
-  -- where no field is left out
-  pub all_asked : (record_kind : RecordKind) → ((key : Bool) (field : Option (Value A)) → asked_bytes (requirement_of record_kind key) field ≡ field_bytes field)
-      → (flags : List Bool) (fields : RecordFields A) → satisfy (requirements record_kind flags) fields ≡ true → asked_record (requirements record_kind flags) fields ≡ record_bytes fields
-  all_asked record_kind each (key ∷ flags) (field ∷ fields) met = grind (arith, each key field, all_asked record_kind each flags fields)
-  all_asked record_kind each flags fields met = grind arith
-
-  pub of_full : (key : Bool) (field : Option (Value A)) → asked_bytes (requirement_of record_kinds.Full key) field ≡ field_bytes field
-  of_full key field = grind arith
-
   pub of_keyed : (key : Bool) (field : Option (Value A)) → asked_bytes (requirement_of record_kinds.Keyed key) field ≡ field_bytes field
   of_keyed key field = grind arith
-
-  pub keys_asked : (flags : List Bool) (fields : RecordFields A) → satisfy (requirements record_kinds.KeyAlone flags) fields ≡ true → asked_record (requirements record_kinds.KeyAlone flags) fields ≡ key_bytes fields
-  keys_asked (key ∷ flags) (field ∷ fields) met = grind (arith, keys_asked flags fields)
-  keys_asked flags fields met = grind arith
 
   pub new_asked : (flags : List Bool) (old new : RecordFields A) → satisfy (new_requirements flags old) new ≡ true → asked_record (new_requirements flags old) new ≡ record_bytes new
   new_asked (key ∷ flags) (before ∷ old) (field ∷ fields) met = grind (arith, new_asked flags old fields)
@@ -94,9 +79,10 @@ module _ {A : Type 0} where
   written record_kinds.KeyAlone fields = key_bytes fields
 
   pub kind_asked : (record_kind : RecordKind) (flags : List Bool) (fields : RecordFields A) → satisfy (requirements record_kind flags) fields ≡ true → asked_record (requirements record_kind flags) fields ≡ written record_kind fields
-  kind_asked record_kinds.Full flags fields met = all_asked record_kinds.Full of_full flags fields met
-  kind_asked record_kinds.Keyed flags fields met = all_asked record_kinds.Keyed of_keyed flags fields met
-  kind_asked record_kinds.KeyAlone flags fields met = keys_asked flags fields met
+  kind_asked record_kinds.Full (key ∷ flags) (field ∷ fields) met = grind (arith, kind_asked record_kinds.Full flags fields)
+  kind_asked record_kinds.Keyed (key ∷ flags) (field ∷ fields) met = grind (arith, kind_asked record_kinds.Keyed flags fields)
+  kind_asked record_kinds.KeyAlone (key ∷ flags) (field ∷ fields) met = grind (arith, kind_asked record_kinds.KeyAlone flags fields)
+  kind_asked record_kind flags fields met = grind arith
 
   pub asked_again : (total : ℕ) (requirements : List FieldRequirement) (fields : RecordFields A) (bytes rest : List ℕ) → satisfy requirements fields ≡ true → AreValues fields → asked_record requirements fields ≡ bytes
       → record_at total requirements (bytes ++ rest) ≡ Ok (fields, rest)

@@ -1,14 +1,14 @@
 -- The grammar of a change, of a changeset and of a patchset alike: an operation byte, the indirect flag, and the
 -- records of the operation.
-use Rattle.std.proofs.Common.{◌≡◌, ℕ, Bool, true, false, ◌&&◌, List, [], ◌∷◌, ◌++◌, IsTrue, Result, Ok, Err, refl, sym, ap, subst, ◌∙◌, append_assoc, ◌≤◌, length, arith, inl, inr, ◌==◌, append-nil, ◌⊎◌, Option, Some, None}
-use Rattle.std.proofs.lemmas.Bool.{and_parts, and_from, cases_Bool, eqb-true}
+use Rattle.std.proofs.Common.{◌≡◌, ℕ, Bool, true, false, ◌&&◌, List, [], ◌∷◌, ◌++◌, IsTrue, Result, Ok, Err, refl, sym, ap, subst, ◌∙◌, append_assoc, ◌≤◌, length, length-append, take, drop, take_at, drop_at, Option, IfSome, arith, inl, inr, ◌==◌, append-nil, ◌⊎◌, if◌then◌else◌}
+use Rattle.std.proofs.lemmas.Bool.{and_parts, and_from}
 use Rattle.cap_field.specs.declared.fault.BlobFault.{BlobFault}
 use Rattle.cap_field.specs.Reading.{◌>>=◌, byte_at, Reads}
 use Rattle.cap_field.proofs.Binds.{bind_ok, ok_is}
 use Rattle.cap_field.proofs.Spelled.{AreLow, low_behind}
 use Rattle.cap_changes.specs.ChangeBytes.{flag_byte, change_bytes, patch_bytes}
 use Rattle.cap_changes.specs.ChangeReading.{is_set, patch_kind, change_at, patch_at, stored_change, stored_patch, behind}
-use Rattle.cap_changes.specs.Field.{record_bytes}
+use Rattle.cap_changes.specs.Field.{field_bytes, record_bytes, key_bytes}
 use Rattle.cap_changes.specs.FieldRecord.{RecordFields}
 use Rattle.cap_changes.specs.Fits.{change_fits, patch_fits}
 use Rattle.cap_changes.specs.HasValues.{AreValues, HasValues, PatchHasValues}
@@ -29,10 +29,14 @@ use Rattle.cap_changes.proofs.FieldAgain.{written, kind_asked, new_asked, asked_
 use Rattle.cap_changes.proofs.Spelled.{as_values}
 use Rattle.cap_changes.specs.Stored.{normal, IsEntry, IsPassed}
 use Rattle.std.specs.Prelude.{IfOk}
-use Rattle.cap_changes.proofs.PassLemmas.{behind_made, read_of, fault_of}
 use Rattle.std.specs.Cmp.Lexicographic.{as_long}
+use Rattle.std.proofs.lemmas.Grind.{flat_map-append}
 use Rattle.std.proofs.lemmas.List.{length-map}
-use Rattle.cap_changes.specs.Record.{fields_of, stored_fields, AreFields, IsRecord, IsStored, StartsRecord}
+use Rattle.std.proofs.lemmas.List.Elements.{All-append}
+use Rattle.cap_value.specs.declared.value.Value.{Value}
+use Rattle.cap_value.specs.Value.{IsValue}
+use Rattle.cap_changes.proofs.PassLemmas.{behind_made, read_of, fault_of}
+use Rattle.cap_changes.specs.Record.{fields_of, keys_of, IsRecord, IsKeyRecord}
 use Rattle.cap_changes.proofs.StoredRecord.{stored, stored_key}
 use Rattle.cap_changes.proofs.ValueLemmas.{each_of}
 
@@ -80,16 +84,14 @@ module _ (A : Type 0) where
       ) refl
 
   -- what was read has the fields that are required, which are values
-  pub record AreSpelled (form : Form) (flags : List Bool) (bytes : List ℕ) (x : Records form × List ℕ) : Type 0 where
-    pub fit : records_fit form flags x.0 ≡ true
-    pub values : HaveValues form x.0
-    pub parts : bytes ≡ records_bytes form x.0 ++ x.1
+  abbrev pub AreSpelled : (form : Form) → List Bool → List ℕ → Records form × List ℕ → Type 0
+  AreSpelled form flags bytes x = (records_fit form flags x.0 ≡ true) × HaveValues form x.0 × (bytes ≡ records_bytes form x.0 ++ x.1)
 
   pub records_spelled : (form : Form) (total : ℕ) (flags : List Bool) (bytes : List ℕ) (x : Records form × List ℕ) → AreLow bytes → records_at form total flags bytes ≡ Ok x → AreSpelled form flags bytes x
   records_spelled (one record_kind) total flags bytes x low e =
       let met = record_meets total (requirements record_kind flags) bytes x e in
       let is = as_values total (requirements record_kind flags) bytes x (written record_kind x.0) low e (kind_asked record_kind flags x.0 met) in
-      record { fit = met; values = is.0; parts = is.1 }
+      (met, is.0, is.1)
   records_spelled both total flags bytes x low e =
       let old = bind_ok (record_at total (requirements Keyed flags) bytes) (λ old. beside old.0 (record_at total (new_requirements flags old.0) old.1)) x e in
       let new = bind_ok (record_at total (new_requirements flags old.0.0) old.0.1) (λ new. Ok ((old.0.0, new.0), new.1)) x old.2 in
@@ -97,17 +99,11 @@ module _ (A : Type 0) where
       let met' = record_meets total (new_requirements flags old.0.0) old.0.1 new.0 new.1 in
       let first = as_values total (requirements Keyed flags) bytes old.0 (record_bytes old.0.0) low old.1 (kind_asked Keyed flags old.0.0 met) in
       let second = as_values total (new_requirements flags old.0.0) old.0.1 new.0 (record_bytes new.0.0) (low_behind bytes (record_bytes old.0.0) old.0.1 first.1 low) new.1 (new_asked flags old.0.0 new.0.0 met') in
-      subst (AreSpelled both flags bytes) (ok_is ((old.0.0, new.0.0), new.0.1) x new.2) (record {
-        fit = and_from (satisfy (requirements Keyed flags) old.0.0) _ met met';
-        values = (first.0, second.0);
-        parts = first.1 ∙ ap (λ (b : List ℕ). record_bytes old.0.0 ++ b) second.1 ∙ sym (append_assoc (record_bytes old.0.0) (record_bytes new.0.0) new.0.1);
-      })
-
-  -- the change of two records that are read together
-  together : {C : Type 0} (old : Result (RecordFields A × List ℕ) BlobFault) (new_at : RecordFields A → List ℕ → Result (RecordFields A × List ℕ) BlobFault) (make : RecordFields A → RecordFields A → C)
-      → ◌≡◌ {A = Result (C × List ℕ) BlobFault} (old >>= (λ x. new_at x.0 x.1 >>= (λ y. Ok (make x.0 y.0, y.1))))
-      ((old >>= (λ x. beside x.0 (new_at x.0 x.1))) >>= (λ x. Ok (make x.0.0 x.0.1, x.1)))
-  together old new_at make = grind arith
+      subst (AreSpelled both flags bytes) (ok_is ((old.0.0, new.0.0), new.0.1) x new.2) (
+        and_from (satisfy (requirements Keyed flags) old.0.0) _ met met',
+        (first.0, second.0),
+        first.1 ∙ ap (λ (b : List ℕ). record_bytes old.0.0 ++ b) second.1 ∙ sym (append_assoc (record_bytes old.0.0) (record_bytes new.0.0) new.0.1),
+      )
 
   -- ---- two records that are passed
 
@@ -119,36 +115,6 @@ module _ (A : Type 0) where
   new_behind total flags first new known =
       let (old, is) = read_of (record_at {A = A} total (requirements Keyed flags) first) new known in
       rw is (behind_made _ (record_at {A = A} total (new_requirements flags old) new))
-
-  -- ---- records by the bytes that are kept
-
-  -- the key flags of a record of the key alone
-  abbrev pub keys_for : RecordKind → List Bool → Option (List Bool)
-  keys_for KeyAlone flags = Some flags
-  keys_for record_kind flags = None
-
-  -- a change is made of the records of these bytes, where those of an UPDATE are apart
-  abbrev pub IsRead : {C : Type 0} (form : Form) → List Bool → (Records form → C) → C → List ℕ → Type 0
-  IsRead (one record_kind) flags make change bytes = IsStored A (keys_for record_kind flags) bytes × (make (stored_fields (keys_for record_kind flags) bytes) ≡ change)
-  IsRead both flags make change bytes = StartsRecord A (length flags) bytes × ((first second : List ℕ)
-      → ((fields : RecordFields A) (rest : List ℕ) → AreFields fields → length fields ≡ length flags → bytes ≡ record_bytes fields ++ rest → (first ≡ record_bytes fields) × (second ≡ rest))
-      → IsRecord {A = A} first (fields_of first) × IsRecord {A = A} second (fields_of second) × (make (fields_of first, fields_of second) ≡ change))
-
-  kept : {C : Type 0} (form : Form) (flags : List Bool) (records : Records form) (make : Records form → C) → records_fit form flags records ≡ true → HaveValues form records → IsRead form flags make (make records) (records_bytes form records)
-  kept (one KeyAlone) flags fields make fit values = let s = stored_key flags _ fields (each_of fields values) fit refl in (s.1, ap make s.0)
-  kept (one Full) flags fields make fit values = let s = stored _ fields (each_of fields values) refl in (s.1, ap make s.0)
-  kept (one Keyed) flags fields make fit values = let s = stored _ fields (each_of fields values) refl in (s.1, ap make s.0)
-  kept both flags records make fit values =
-      let met = and_parts (satisfy (requirements Keyed flags) records.0) (satisfy (new_requirements flags records.0) records.1) fit in
-      let wide : length records.0 ≡ length flags = sym (as_long satisfies (requirements Keyed flags) records.0 met.0) ∙ length-map flags (requirement_of Keyed) in
-      let each = each_of records.0 values.0 in (
-        (records.0, record_bytes records.1, each, wide, refl),
-        λ first second apart.
-            let their = apart records.0 (record_bytes records.1) each wide refl in
-            let a = stored first records.0 each their.0 in
-            let b = stored second records.1 (each_of records.1 values.1) their.1 in
-            (a.1, b.1, rw (a.0, b.0) refl),
-      )
 
 -- ---- a change by its records
 
@@ -179,14 +145,9 @@ module _ (A : Type 0) {C : Type 0} (fits : List Bool → C → Bool) (values : C
 pub operation_is : (operation : Operation) → is_operation (operation_byte operation) ≡ true
 operation_is operation = grind arith
 
-is_known : (op : ℕ) → is_operation op ≡ true → (operation : Operation) × (operation_byte operation ≡ op)
-is_known op is = elim (cases_Bool (op == 0x12)) [
-  | inl insert ↦ (operations.Insert, sym (eqb-true op 0x12 insert))
-  | inr no_insert ↦ elim (cases_Bool (op == 0x17)) [
-    | inl update ↦ (operations.Update, sym (eqb-true op 0x17 update))
-    | inr no_update ↦ (operations.Delete, sym (eqb-true op 0x09 (rw (no_insert, no_update) at is)))
-  ]
-]
+-- the operation of a byte that is one
+abbrev known_by : ℕ → Operation
+known_by op = if op == 0x12 then operations.Insert else (if op == 0x17 then operations.Update else operations.Delete)
 
 -- an operation byte and these bytes begin with one, and with what is left
 abbrev pub Begins : {X : Type 0} → (X → List ℕ → Type 0) → ℕ → List ℕ → X × List ℕ → Type 0
@@ -195,9 +156,6 @@ Begins spells op bytes x = (front : List ℕ) × (bytes ≡ front ++ x.1) × spe
 -- the bytes as they are written, and that the flag is there
 written_back : (op op' : ℕ) (indirect : Bool) (records front : List ℕ) → SpellsOperation op indirect records (op' ∷ front) → (normal (op' ∷ front) ≡ op ∷ flag_byte indirect ∷ records) × (1 ≤ length front)
 written_back op op' indirect records front spelled = grind arith
-
-same_operation : (a b : Operation) → operation_byte a ≡ operation_byte b → a ≡ b
-same_operation a b same = grind arith
 
 module _ {A C : Type 0} {fits : List Bool → C → Bool} {values : C → Type 0} {bytes_of : C → List ℕ} {spells : C → List ℕ → Type 0}
     {one_at : ℕ → List Bool → ℕ → List ℕ → Result (C × List ℕ) BlobFault} {stored : List Bool → List ℕ → C} (g : Grammar A fits values bytes_of spells one_at stored) where
@@ -218,22 +176,18 @@ module _ {A C : Type 0} {fits : List Bool → C → Bool} {values : C → Type 0
   Again total flags change front =
       (op : ℕ) × (behind : List ℕ) × (front ≡ op ∷ behind) × (is_operation op ≡ true) × ((rest : List ℕ) → one_at total flags op (behind ++ rest) ≡ Ok (change, rest))
 
-  made_again : (total : ℕ) (flags : List Bool) (front : List ℕ) (operation : Operation) (indirect : Bool) (records : Records A (g.form operation))
-      → Spells flags (g.make operation indirect records) front → Again total flags (g.make operation indirect records) front
-  made_again total flags front operation indirect records (fit, valued, spelled) =
+  pub again : (total : ℕ) (flags : List Bool) (change : C) (front : List ℕ) → Spells flags change front → Again total flags change front
+  again total flags change front = by_records (λ c. Spells flags c front → Again total flags c front) (λ operation indirect records so.
       let is = g.has operation indirect records in
-      let (flag, marked, parts) = is.spelled front spelled in (
+      let (flag, marked, parts) = is.spelled front so.2 in (
         operation_byte operation,
         flag ∷ records_bytes A (g.form operation) records,
         parts,
         operation_is operation,
         λ rest.
             g.read total flags operation (flag ∷ (records_bytes A (g.form operation) records ++ rest))
-            ∙ rw (records_again A (g.form operation) total flags records rest (sym (is.fit flags) ∙ fit) (is.have_values valued), marked) refl,
-      )
-
-  pub again : (total : ℕ) (flags : List Bool) (change : C) (front : List ℕ) → Spells flags change front → Again total flags change front
-  again total flags change front = by_records (λ c. Spells flags c front → Again total flags c front) (made_again total flags front) change
+            ∙ rw (records_again A (g.form operation) total flags records rest (sym (is.fit flags) ∙ so.0) (is.have_values so.1), marked) refl,
+      )) change
 
   -- ---- spelled by the bytes that were read
 
@@ -245,14 +199,14 @@ module _ {A C : Type 0} {fits : List Bool → C → Bool} {values : C → Type 0
       let has = g.has operation (is_set flag) read.0.0 in
       subst (Begins (Spells flags) (operation_byte operation) (flag ∷ bytes)) (ok_is (g.make operation (is_set flag) read.0.0, read.0.1) x read.2) (
         flag ∷ records_bytes A (g.form operation) read.0.0,
-        ap (λ (b : List ℕ). flag ∷ b) is.parts,
-        (has.fit flags ∙ is.fit, has.valued is.values, has.spelling _ (flag, refl, refl)),
+        ap (λ (b : List ℕ). flag ∷ b) is.2,
+        (has.fit flags ∙ is.0, has.valued is.1, has.spelling _ (flag, refl, refl)),
       )
 
   pub is_spelled : (total : ℕ) (flags : List Bool) (op : ℕ) (bytes : List ℕ) (x : C × List ℕ) → AreLow bytes → is_operation op ≡ true → one_at total flags op bytes ≡ Ok x → Begins (Spells flags) op bytes x
   is_spelled total flags op bytes x low known =
-      let (operation, is) = is_known op known in
-      subst (λ (o : ℕ). one_at total flags o bytes ≡ Ok x → Begins (Spells flags) o bytes x) is (operation_spelled total flags operation bytes x low)
+      let is : operation_byte (known_by op) ≡ op = grind arith in
+      subst (λ (o : ℕ). one_at total flags o bytes ≡ Ok x → Begins (Spells flags) o bytes x) is (operation_spelled total flags (known_by op) bytes x low)
 
   -- ---- kept as its bytes
 
@@ -298,37 +252,15 @@ module _ {A C : Type 0} {fits : List Bool → C → Bool} {values : C → Type 0
       rw (g.read total flags operation given, read) (behind_made (g.make operation (is_set flag)) (records_at A (g.form operation) total flags first))
       ∙ ap (λ (f : Form). behind (records_at A f total flags first)) same
 
-  entry_passed : {X : Type 0} (view : X → List ℕ) (result : Result X BlobFault) (total : ℕ) (flags : List Bool) (operation : Operation) (given : List ℕ) → AreLow given → Reads view result (behind (one_at total flags (operation_byte operation) given))
-      → IfOk result (λ rest. IsPassed fits values bytes_of stored one_at total flags (operation_byte operation) given (view rest))
-  entry_passed view (Ok rest) total flags operation given low read =
-      let (x, is) = read_of (one_at total flags (operation_byte operation) given) (view rest) read in
-      passed total flags operation given (x, view rest) low is
-  entry_passed view (Err f) total flags operation given low read = tt
-
   -- where the records are passed, the change is
   pub passes : {X : Type 0} (view : X → List ℕ) (result : Result X BlobFault) (total : ℕ) (flags : List Bool) (operation : Operation) (form : Form) (given first : List ℕ) (flag : ℕ) → AreLow given → g.form operation ≡ form → byte_at total given ≡ Ok (flag, first)
       → Reads view result (behind (records_at A form total flags first))
       → Reads view result (behind (one_at total flags (operation_byte operation) given)) × IfOk result (λ rest. IsPassed fits values bytes_of stored one_at total flags (operation_byte operation) given (view rest))
-  passes view result total flags operation form given first flag low same read is =
-      let reads = subst (λ (r : Result (List ℕ) BlobFault). Reads view result r) (sym (behind_records total flags operation form given first flag same read)) is in
-      (reads, entry_passed view result total flags operation given low reads)
-
-  -- ---- taken apart
-
-  -- the change of these bytes, whose operation is known
-  pub records_read : (flags : List Bool) (change : C) (operation known : Operation) (indirect : Bool) (records bytes : List ℕ) → IsEntry fits values bytes_of flags change bytes → bytes ≡ operation_byte operation ∷ flag_byte indirect ∷ records → operation ≡ known
-      → IsRead A (g.form known) flags (g.make known indirect) change records
-  records_read flags change operation known indirect records bytes is parts same =
-      by_records (λ c. IsEntry fits values bytes_of flags c bytes → IsRead A (g.form known) flags (g.make known indirect) c records)
-      (λ o i r entry.
-      let has = g.has o i r in
-      let e : operation_byte operation ∷ flag_byte indirect ∷ records ≡ operation_byte o ∷ flag_byte i ∷ records_bytes A (g.form o) r = sym parts ∙ entry.spelled ∙ has.bytes in
-      let flag : flag_byte indirect ≡ flag_byte i = cc in
-      let its : records ≡ records_bytes A (g.form o) r = cc in
-      let op : known ≡ o = sym same ∙ same_operation operation o cc in
-      let marked : indirect ≡ i = sym (flag_again indirect) ∙ ap is_set flag ∙ flag_again i in
-      rw (op, marked, its) (kept A (g.form o) flags r (g.make o i) (sym (has.fit flags) ∙ entry.fits) (has.have_values entry.values)))
-      change is
+  passes view (Ok rest) total flags operation form given first flag low same read is =
+      let reads = behind_records total flags operation form given first flag same read ∙ is in
+      let (x, found) = read_of (one_at total flags (operation_byte operation) given) (view rest) reads in
+      (reads, passed total flags operation given (x, view rest) low found)
+  passes view (Err f) total flags operation form given first flag low same read is = (behind_records total flags operation form given first flag same read ∙ is, tt)
 
 abbrev pub change_form : Operation → Form
 change_form operations.Insert = one Full
@@ -356,7 +288,7 @@ module _ {A : Type 0} where
   pub change_read : (total : ℕ) (flags : List Bool) (operation : Operation) (bytes : List ℕ)
       → change_at total flags (operation_byte operation) bytes ≡ byte_at total bytes >>= (λ flag. records_at A (change_form operation) total flags flag.1 >>= (λ x. Ok (change_of operation (is_set flag.0) x.0, x.1)))
   unfolding change_at
-  change_read total flags operations.Update (flag ∷ bytes) = together A (record_at total (requirements Keyed flags) bytes) (λ old. record_at total (new_requirements flags old)) (changed.Update (is_set flag))
+  change_read total flags operations.Update (flag ∷ bytes) = grind arith
   change_read total flags operation bytes = refl
 
   pub change_keeps : (flags : List Bool) (op : ℕ) (bytes : List ℕ) → stored_change {A = A} flags (op ∷ bytes) ≡ value_in (changed.Delete false []) (change_at 0 flags op bytes)
@@ -400,3 +332,47 @@ module _ {A : Type 0} where
 pub full_form : (operation : Operation) → (operation ≡ operations.Insert) ⊎ (operation ≡ operations.Delete) → change_form operation ≡ one Full
 full_form operation (inl is) = ap change_form is
 full_form operation (inr is) = ap change_form is
+
+-- ---- taken apart
+
+same_parts : (a b : Operation) (i j : Bool) (r s : List ℕ) → operation_byte a ∷ flag_byte i ∷ r ≡ operation_byte b ∷ flag_byte j ∷ s → (a ≡ b) × (i ≡ j) × (r ≡ s)
+same_parts a b i j r s e = grind arith
+
+module _ {A : Type 0} (flags : List Bool) (operation : Operation) (indirect : Bool) (records bytes : List ℕ) (parts : bytes ≡ operation_byte operation ∷ flag_byte indirect ∷ records) where
+  one_record : (b : Operation) (i : Bool) (fields : RecordFields A) → AreValues fields → bytes ≡ operation_byte b ∷ flag_byte i ∷ record_bytes fields → (indirect ≡ i) × (fields_of records ≡ fields) × IsRecord {A = A} records (fields_of records)
+  one_record b i fields values spelled =
+      let (op, flag, same) = same_parts operation b indirect i records (record_bytes fields) (sym parts ∙ spelled) in
+      let s = stored records fields (each_of fields values) same in (flag, s.0, s.1)
+
+  pub patch_insert : (patch : Patch A) → IsEntry {C = Patch A} patch_fits PatchHasValues patch_bytes flags patch bytes → operation ≡ operations.Insert → IsRecord {A = A} records (fields_of records) × (patched.Insert indirect (fields_of records) ≡ patch)
+  patch_insert (patched.Insert i new) is known = let (flag, same, stands) = one_record operations.Insert i new is.values is.spelled in (stands, rw (flag, same) refl)
+  patch_insert patch is known = absurd (grind (arith, is.spelled, parts, known))
+
+  pub patch_update : (patch : Patch A) → IsEntry {C = Patch A} patch_fits PatchHasValues patch_bytes flags patch bytes → operation ≡ operations.Update → IsRecord {A = A} records (fields_of records) × (patched.Update indirect (fields_of records) ≡ patch)
+  patch_update (patched.Update i new) is known = let (flag, same, stands) = one_record operations.Update i new is.values is.spelled in (stands, rw (flag, same) refl)
+  patch_update patch is known = absurd (grind (arith, is.spelled, parts, known))
+
+  pub patch_delete : (patch : Patch A) → IsEntry {C = Patch A} patch_fits PatchHasValues patch_bytes flags patch bytes → operation ≡ operations.Delete → IsKeyRecord {A = A} flags records (keys_of flags records) × (patched.Delete indirect (keys_of flags records) ≡ patch)
+  patch_delete (patched.Delete i key) is known =
+      let (op, flag, same) = same_parts operation operations.Delete indirect i records (key_bytes key) (sym parts ∙ is.spelled) in
+      let s = stored_key flags records key (each_of key is.values) is.fits same in (s.1, rw (flag, s.0) refl)
+  patch_delete patch is known = absurd (grind (arith, is.spelled, parts, known))
+
+  pub change_insert : (change : RowChange A) → IsEntry {C = RowChange A} change_fits HasValues change_bytes flags change bytes → operation ≡ operations.Insert → IsRecord {A = A} records (fields_of records) × (changed.Insert indirect (fields_of records) ≡ change)
+  change_insert (changed.Insert i new) is known = let (flag, same, stands) = one_record operations.Insert i new is.values is.spelled in (stands, rw (flag, same) refl)
+  change_insert change is known = absurd (grind (arith, is.spelled, parts, known))
+
+  pub change_delete : (change : RowChange A) → IsEntry {C = RowChange A} change_fits HasValues change_bytes flags change bytes → operation ≡ operations.Delete → IsRecord {A = A} records (fields_of records) × (changed.Delete indirect (fields_of records) ≡ change)
+  change_delete (changed.Delete i old) is known = let (flag, same, stands) = one_record operations.Delete i old is.values is.spelled in (stands, rw (flag, same) refl)
+  change_delete change is known = absurd (grind (arith, is.spelled, parts, known))
+
+  -- the records of an UPDATE are one with the fields of both
+  pub change_update : (change : RowChange A) → IsEntry {C = RowChange A} change_fits HasValues change_bytes flags change bytes → operation ≡ operations.Update
+      → IsRecord {A = A} records (fields_of records) × (length flags ≤ length (fields_of {A = A} records)) × (changed.Update indirect (take (length flags) (fields_of records)) (drop (length flags) (fields_of records)) ≡ change)
+  change_update (changed.Update i old new) is known =
+      let met = and_parts (satisfy (requirements Keyed flags) old) (satisfy (new_requirements flags old) new) is.fits in
+      let wide : length old ≡ length flags = sym (as_long satisfies (requirements Keyed flags) old met.0) ∙ length-map flags (requirement_of Keyed) in
+      let (flag, same, stands) = one_record operations.Update i (old ++ new) (All-append (λ (f : Option (Value A)). IfSome f IsValue) old new is.values.0 is.values.1)
+      (is.spelled ∙ ap (λ (b : List ℕ). 0x17 ∷ flag_byte i ∷ b) (sym (flat_map-append field_bytes old new))) in
+      (stands, rw same (omega (arith, wide, length-append old new)), rw (same, flag, take_at old new (length flags) wide, drop_at old new (length flags) wide) refl)
+  change_update change is known = absurd (grind (arith, is.spelled, parts, known))

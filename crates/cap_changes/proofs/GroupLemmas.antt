@@ -1,13 +1,11 @@
 -- What a group keeps of a change that is written into it.
-use Rattle.std.proofs.Common.{arith, ◌≡◌, Bool, true, ◌||◌, cond, List, [], ◌∷◌, Option, Some, None, IfSome, IsTrue, refl, sym, ap, ◌∙◌, append-nil, ℕ, ◌+◌, ◌-◌, ◌≤◌, ◌++◌, length, map, take, drop, subst, append_assoc, length-append, length-drop}
-use Rattle.std.specs.List.{cons_option, flat_map}
+use Rattle.std.proofs.Common.{arith, ◌≡◌, Bool, true, false, List, [], ◌∷◌, Option, Some, None, IsTrue, refl, sym, ap, ◌∙◌, append-nil, ℕ, ◌+◌, ◌-◌, ◌≤◌, ◌++◌, length, map, take, drop, subst, append_assoc, length-append, length-drop}
+use Rattle.std.specs.List.{flat_map}
 use Rattle.std.specs.Option.{ForSome}
-use Rattle.cap_value.specs.declared.value.Value.{Value}
-use Rattle.cap_value.specs.Value.{IsValue}
 use Rattle.cap_row.specs.Encoding.{AreValues}
 use Rattle.cap_row.specs.Fields.{Fields}
 use Rattle.cap_row.specs.Key.{fields_eq, fields_eq_decides}
-use Rattle.cap_changes.specs.Change.{IsKeyedRow, full_record, is_modified, old_field, new_field, change_of}
+use Rattle.cap_changes.specs.Change.{IsKeyedRow, full_record, old_field, new_field, side_record, change_of}
 use Rattle.cap_changes.specs.Column.{by_column}
 use Rattle.cap_changes.specs.Record.{AreFields}
 use Rattle.cap_changes.specs.Touched.{is_changed}
@@ -34,7 +32,7 @@ use Rattle.cap_changes.specs.FieldRecord.{RecordFields}
 use Rattle.cap_changes.specs.Requirements.{requirements, new_requirements, satisfy}
 use Rattle.cap_changes.specs.declared.record_kind.RecordKind.TheVariants.{Keyed}
 use Rattle.cap_changes.proofs.LeftLemmas.{first_fits, others_fit}
-use Rattle.cap_changes.proofs.StoredEntries.{part_before, part_behind}
+use Rattle.cap_changes.proofs.PutLemmas.{put_on}
 
 module _ {A : Type 0} where
   pub patch_again : (flags : List Bool) (change : RowChange A) → IsTrue (change_fits flags change) → HasValues change
@@ -48,41 +46,30 @@ module _ {A : Type 0} where
   full_values [] each = tt
   full_values (value ∷ row) each = (each.0, full_values row each.1)
 
-  if_value : (kept : Bool) (value : Value A) → IsValue value → IfSome (cond kept (Some value) None) IsValue
-  if_value kept value is = grind arith
+  side_values : (old : Bool) (flags : List Bool) (image now : Fields A) → AreValues image → AreValues now → AreFields (side_record old flags image now)
+  side_values old (key ∷ flags) (a ∷ image) (b ∷ now) p q = grind (arith, side_values old flags image now)
+  side_values old flags image now p q = grind arith
 
-  column_values : (pick : Bool → Value A → Value A → Option (Value A)) → ((key : Bool) (a b : Value A) → IsValue a → IsValue b → IfSome (pick key a b) IsValue)
-      → (flags : List Bool) (image now : Fields A) → AreValues image → AreValues now → AreFields (by_column pick flags image now)
-  column_values pick one (key ∷ flags) (a ∷ image) (b ∷ now) p q = (one key a b p.0 q.0, column_values pick one flags image now p.1 q.1)
-  column_values pick one flags image now p q = tt
-
-  pub record TouchedEntry (flags : List Bool) (indirect : Bool) (image now : Option (Fields A)) : Type 0 where
+  -- it fits its table, and its fields are values
+  pub record Recorded (flags : List Bool) (indirect : Bool) (image now : Option (Fields A)) : Type 0 where
     pub change : RowChange A
-    pub same : stored_change flags (flat_map change_bytes (cons_option (change_of flags indirect image now) [])) ≡ change
-    pub is : IsEntry {C = RowChange A} change_fits HasValues change_bytes flags (stored_change flags (flat_map change_bytes (cons_option (change_of flags indirect image now) []))) (flat_map change_bytes (cons_option (change_of flags indirect image now) []))
-    pub added : change ∷ [] ≡ cons_option (change_of flags indirect image now) []
+    pub is : change_of flags indirect image now ≡ Some change
+    pub fits : IsTrue (change_fits flags change)
+    pub values : HasValues change
 
-  of_change : (flags : List Bool) (indirect : Bool) (image now : Option (Fields A)) (change : RowChange A) → change_of flags indirect image now ≡ Some change → IsTrue (change_fits flags change) → HasValues change → TouchedEntry flags indirect image now
-  of_change flags indirect image now change is fits values =
-      let bytes = flat_map change_bytes (cons_option (change_of flags indirect image now) []) in
-      let spelled : bytes ≡ change_bytes change = ap (λ (c : Option (RowChange A)). flat_map change_bytes (cons_option c [])) is ∙ append-nil (change_bytes change) in
-      let e = change_entry flags change bytes fits values spelled in
-      record { change = change; same = e.0; is = e.1; added = ap (λ (c : Option (RowChange A)). cons_option c []) (sym is) }
-
-  pub touched_entry : (flags : List Bool) (indirect : Bool) (image now : Option (Fields A)) → ForSome image (IsKeyedRow flags) → ForSome now (IsKeyedRow flags) → IsTrue (is_changed image now) → ForSome image AreValues → ForSome now AreValues
-      → TouchedEntry flags indirect image now
-  touched_entry flags indirect None None keyed keyed' changed p q = absurd cc
-  touched_entry flags indirect None (Some now) keyed keyed' changed p q =
-      of_change flags indirect None (Some now) (Insert indirect (full_record now)) refl (full_fits flags now (keyed' now refl)) (values_of (full_record now) (full_values now (q now refl)))
-  touched_entry flags indirect (Some image) None keyed keyed' changed p q =
-      of_change flags indirect (Some image) None (Delete indirect (full_record image)) refl (full_fits flags image (keyed image refl)) (values_of (full_record image) (full_values image (p image refl)))
-  touched_entry flags indirect (Some image) (Some now) keyed keyed' changed p q =
-      of_change flags indirect (Some image) (Some now) (Update indirect (by_column old_field flags image now) (by_column new_field flags image now))
-      (change_of-other flags indirect image now (λ e. let same : fields_eq image now ≡ true = (fields_eq_decides image now).1 e in cc (rw same at changed)))
-      (update_fits flags indirect image now (keyed image refl) (keyed' now refl)) (
-        values_of _ (column_values old_field (λ key a b x y. if_value (key || is_modified key a b) a x) flags image now (p image refl) (q now refl)),
-        values_of _ (column_values new_field (λ key a b x y. if_value (is_modified key a b) b y) flags image now (p image refl) (q now refl)),
-      )
+  pub recorded : (flags : List Bool) (indirect : Bool) (image now : Option (Fields A)) → ForSome image (IsKeyedRow flags) → ForSome now (IsKeyedRow flags) → IsTrue (is_changed image now) → ForSome image AreValues → ForSome now AreValues
+      → Recorded flags indirect image now
+  recorded flags indirect None None keyed keyed' changed p q = absurd cc
+  recorded flags indirect None (Some now) keyed keyed' changed p q =
+      record { change = Insert indirect (full_record now); is = refl; fits = full_fits flags now (keyed' now refl); values = values_of (full_record now) (full_values now (q now refl)) }
+  recorded flags indirect (Some image) None keyed keyed' changed p q =
+      record { change = Delete indirect (full_record image); is = refl; fits = full_fits flags image (keyed image refl); values = values_of (full_record image) (full_values image (p image refl)) }
+  recorded flags indirect (Some image) (Some now) keyed keyed' changed p q = record {
+    change = Update indirect (by_column old_field flags image now) (by_column new_field flags image now);
+    is = change_of-other flags indirect image now (λ e. let same : fields_eq image now ≡ true = (fields_eq_decides image now).1 e in cc (rw same at changed));
+    fits = update_fits flags indirect image now (keyed image refl) (keyed' now refl);
+    values = (values_of _ (side_values true flags image now (p image refl) (q now refl)), values_of _ (side_values false flags image now (p image refl) (q now refl)));
+  }
 
 -- ---- the inverse of each change, written over its bytes, which are as many
 
@@ -131,8 +118,7 @@ module _ {A : Type 0} where
       let parts : new ≡ (front ++ written) ++ behind = is ∙ sym (append_assoc front written behind) in
       let rest = inverted flags bytes (front ++ written) new end ends are.3 grown parts in
       let here : part start end new ≡ written =
-      ap (part start end) parts ∙ part_before start end (front ++ written) behind are.0 (omega (arith, grown))
-      ∙ (λ i. part (sym long i) (sym grown i) (front ++ written)) ∙ part_behind front written in
+      (λ i. take (sym count i) (drop (sym long i) (is i))) ∙ ap (take (length written)) (drop-append_seam front (written ++ behind)) ∙ take-append_seam written behind in
       record {
         are = (are.0, omega (arith, ap length parts, length-append (front ++ written) behind, grown), subst (λ (p : List ℕ). IsEntry (change_fits {A = A}) HasValues change_bytes flags (stored_change flags p) p) (sym here) again.1, rest.are);
         end = rest.end;
@@ -155,24 +141,21 @@ module _ {A : Type 0} where
     pub so_far : take begin bytes ++ inverses flags changes ≡ all
     pub fit : AllFit change_fits flags changes
 
-  pub one_more : (flags : List Bool) (bytes piece new : List ℕ) (begin end : ℕ) (changes others : List (RowChange A)) (change : RowChange A) (all : List ℕ) → Written flags bytes begin changes all → changes ≡ change ∷ others
-      → end ≡ begin + length (change_bytes change) → piece ≡ change_bytes (inverse_of flags change) → new ≡ take begin bytes ++ (piece ++ drop end bytes) → Written flags new end others all
-  one_more flags bytes piece new begin end changes others change all w is end_is piece_is new_is =
-      let left : drop begin bytes ≡ change_bytes change ++ flat_map change_bytes others = w.left ∙ ap (flat_map change_bytes) is in
-      let behind : drop end bytes ≡ flat_map change_bytes others =
-      ap (λ (n : ℕ). drop n bytes) end_is ∙ sym (drop-drop (length (change_bytes change)) begin bytes) ∙ ap (drop (length (change_bytes change))) left ∙ drop-append_seam (change_bytes change) (flat_map change_bytes others) in
-      let fits = first_fits (change_fits {A = A}) flags flags changes others change refl is w.fit in
-      let long = ap length piece_is ∙ as_many flags change fits in
+  pub one_more : (flags : List Bool) (bytes new : List ℕ) (begin end : ℕ) (changes others : List (RowChange A)) (change : RowChange A) (all : List ℕ) → Written flags bytes begin changes all → changes ≡ change ∷ others
+      → end ≡ begin + length (change_bytes change) → new ≡ take begin bytes ++ (change_bytes (inverse_of flags change) ++ drop end bytes) → Written flags new end others all
+  one_more flags bytes new begin end changes others change all w is end_is new_is =
+      let piece = change_bytes (inverse_of flags change) in
       let front = take begin bytes ++ piece in
+      let long = as_many flags change (first_fits (change_fits {A = A}) flags flags changes others change refl is w.fit) in
       let count : length front ≡ end = omega (arith, length-append (take begin bytes) piece, length-take-le begin bytes w.within, long, end_is) in
+      let behind : drop end bytes ≡ flat_map change_bytes others =
+      ap (λ (n : ℕ). drop n bytes) end_is ∙ sym (drop-drop (length (change_bytes change)) begin bytes) ∙ ap (drop (length (change_bytes change))) (w.left ∙ ap (flat_map change_bytes) is)
+      ∙ drop-append_seam (change_bytes change) (flat_map change_bytes others) in
       let parts : new ≡ front ++ flat_map change_bytes others = new_is ∙ sym (append_assoc (take begin bytes) piece (drop end bytes)) ∙ ap (λ (b : List ℕ). front ++ b) behind in
       record {
         within = omega (arith, ap length parts, length-append front (flat_map change_bytes others), count);
         left = (λ i. drop (sym count i) (parts i)) ∙ drop-append_seam front (flat_map change_bytes others);
-        so_far = ap (λ (b : List ℕ). b ++ inverses flags others) ((λ i. take (sym count i) (parts i)) ∙ take-append_seam front (flat_map change_bytes others))
-            ∙ append_assoc (take begin bytes) piece (inverses flags others)
-            ∙ ap (λ (b : List ℕ). take begin bytes ++ (b ++ inverses flags others)) piece_is
-            ∙ sym (ap (λ (c : List (RowChange A)). take begin bytes ++ inverses flags c) is) ∙ w.so_far;
+        so_far = put_on (take begin bytes) (take end new) piece (inverses flags others) (inverses flags changes) all ((λ i. take (sym count i) (parts i)) ∙ take-append_seam front (flat_map change_bytes others)) (ap (inverses flags) is) w.so_far;
         fit = others_fit (change_fits {A = A}) flags changes others change is w.fit;
       }
 

@@ -1,16 +1,14 @@
 -- Records that are passed over, field by field.
-use Rattle.std.proofs.Common.{arith, ◌≡◌, ℕ, ◌+◌, ◌<◌, ◌≤◌, Bool, false, List, [], ◌∷◌, ◌++◌, length, drop, get_or, Option, Result, Ok, Err, refl, sym, ap, subst, ◌∙◌, add-one, drop-cons}
+use Rattle.std.proofs.Common.{arith, ◌≡◌, ℕ, ◌+◌, ◌<◌, ◌≤◌, Bool, false, List, [], ◌∷◌, ◌++◌, length, drop, get_or, Option, Result, Ok, Err, refl, sym, ap, ◌∙◌, add-one, drop-cons}
 use Rattle.std.specs.Prelude.{IsOk}
 use Rattle.std.proofs.lemmas.List.{drop_all}
 use Rattle.cap_value.specs.declared.value.Value.{Value}
 use Rattle.cap_field.specs.declared.fault.BlobFault.{BlobFault}
 use Rattle.cap_field.specs.Reading.{◌>>=◌}
-use Rattle.cap_field.proofs.Binds.{bind_ok, ok_is}
+use Rattle.cap_field.proofs.Binds.{ok_is}
 use Rattle.cap_field.proofs.Spelled.{AreLow, low_behind}
 use Rattle.cap_changes.specs.ChangeReading.{behind}
-use Rattle.cap_changes.specs.Field.{field_bytes}
 use Rattle.cap_changes.specs.FieldReading.{field_at}
-use Rattle.cap_changes.specs.FieldRecord.{RecordFields}
 use Rattle.cap_changes.specs.RecordReading.{record_at, old_in}
 use Rattle.cap_changes.specs.Requirements.{requirement_of, requirements, new_requirement, new_requirements}
 use Rattle.cap_changes.specs.declared.field_requirement.FieldRequirement.{FieldRequirement}
@@ -48,55 +46,36 @@ module _ (A : Type 0) where
   unfolding record_at
   pass_fails total requirement requirements others given f all parts wrong so_far = grind arith
 
-  pub pass_ends : (total : ℕ) (requirements : List FieldRequirement) (given : List ℕ) (all : Result (List ℕ) BlobFault) → requirements ≡ [] → behind (record_at {A = A} total requirements given) ≡ all → all ≡ Ok given
-  unfolding record_at
-  pass_ends total requirements given all none so_far = grind arith
-
   -- ---- the old record of an UPDATE, which is known to be there
 
   abbrev pub BeginsOld : ℕ → List Bool → List ℕ → Type 0
   BeginsOld total flags bytes = IsOk (record_at {A = A} total (requirements Keyed flags) bytes)
 
-  -- its first field, what is left of it, and what is required of the new record
+  -- its first field is read as any field is
+  known_field : (total : ℕ) (key : Bool) (given : List ℕ) → AreLow given → IsOk (field_at {A = A} total (requirement_of Keyed key) given) → field_at {A = A} 0 required.Any given ≡ field_at total (requirement_of Keyed key) given
+  known_field total key given low is =
+      let x = ok_of (field_at total (requirement_of Keyed key) given) is in
+      let spelled = field_spelled total (requirement_of Keyed key) given x.0 low x.1 in
+      ap (field_at 0 required.Any) (spelled.0 ∙ ap (λ (b : List ℕ). b ++ x.0.1) (of_keyed key x.0.0)) ∙ field_again 0 required.Any x.0.0 x.0.1 refl spelled.1 ∙ sym x.1
+
+  pub old_has_field : (total : ℕ) (columns flags : List Bool) (key : Bool) (given : List ℕ) → columns ≡ key ∷ flags → AreLow given → BeginsOld total columns given → IsOk (field_at {A = A} 0 required.Any given)
+  unfolding record_at
+  old_has_field total columns flags key given parts low known = grind (arith, known_field total key given low)
+
+  -- what is left behind it, and what is required of the new record
   pub record OldStep (total : ℕ) (columns flags : List Bool) (key : Bool) (given : List ℕ) (field : Option (Value A)) (after : List ℕ) : Type 0 where
-    pub read : field_at 0 required.Any given ≡ Ok (field, after)
     pub left : BeginsOld total flags after
     pub asked : new_requirements columns (old_in A total columns given) ≡ new_requirement (key, field) ∷ new_requirements flags (old_in A total flags after)
     pub low : AreLow after
 
-  old_parts : (total : ℕ) (key : Bool) (flags : List Bool) (given : List ℕ) (field : Option (Value A)) (after : List ℕ) (others : RecordFields A × List ℕ) → field_at total (requirement_of Keyed key) given ≡ Ok (field, after)
-      → record_at total (requirements Keyed flags) after ≡ Ok others → old_in A total (key ∷ flags) given ≡ field ∷ old_in A total flags after
-  unfolding record_at
-  old_parts total key flags given field after others read is = rw (read, is) refl
-
-  old_step : (total : ℕ) (columns flags : List Bool) (key : Bool) (given : List ℕ) → columns ≡ key ∷ flags → AreLow given → BeginsOld total columns given → (field : Option (Value A)) × (after : List ℕ) × OldStep total columns flags key given field after
-  unfolding record_at
-  old_step total columns flags key given columns_are low known =
-      let x = ok_of (record_at {A = A} total (requirements Keyed (key ∷ flags)) given) (subst (λ (c : List Bool). BeginsOld total c given) columns_are known) in
-      let first = bind_ok (field_at {A = A} total (requirement_of Keyed key) given) (λ field. record_at total (requirements Keyed flags) field.1 >>= (λ others. Ok (field.0 ∷ others.0, others.1))) x.0 x.1 in
-      let others = bind_ok (record_at {A = A} total (requirements Keyed flags) first.0.1) (λ others. Ok (first.0.0 ∷ others.0, others.1)) x.0 first.2 in
-      let spelled = field_spelled total (requirement_of Keyed key) given first.0 low first.1 in
-      let parts : given ≡ field_bytes first.0.0 ++ first.0.1 = spelled.0 ∙ ap (λ (b : List ℕ). b ++ first.0.1) (of_keyed key first.0.0) in (
-        first.0.0,
-        first.0.1,
-        record {
-          read = ap (field_at 0 required.Any) parts ∙ field_again 0 required.Any first.0.0 first.0.1 refl spelled.1;
-          left = rw others.1 refl;
-          asked = subst (λ (c : List Bool). new_requirements c (old_in A total c given) ≡ new_requirement (key, first.0.0) ∷ new_requirements flags (old_in A total flags first.0.1)) (sym columns_are)
-              (ap (new_requirements (key ∷ flags)) (old_parts total key flags given first.0.0 first.0.1 others.0 first.1 others.1));
-          low = low_behind given (field_bytes first.0.0) first.0.1 parts low;
-        },
-      )
-
-  pub old_has_field : (total : ℕ) (columns flags : List Bool) (key : Bool) (given : List ℕ) → columns ≡ key ∷ flags → AreLow given → BeginsOld total columns given → IsOk (field_at {A = A} 0 required.Any given)
-  old_has_field total columns flags key given parts low known = let (field, after, step) = old_step total columns flags key given parts low known in rw step.read refl
-
   pub old_left : (total : ℕ) (columns flags : List Bool) (key : Bool) (given : List ℕ) (field : Option (Value A)) (after : List ℕ) → columns ≡ key ∷ flags → AreLow given → BeginsOld total columns given
       → field_at 0 required.Any given ≡ Ok (field, after) → OldStep total columns flags key given field after
-  old_left total columns flags key given field after parts low known read =
-      let (field', after', step) = old_step total columns flags key given parts low known in
-      let same : (field', after') ≡ (field, after) = cc (step.read, read) in
-      subst (λ (p : Option (Value A) × List ℕ). OldStep total columns flags key given p.0 p.1) same step
+  unfolding record_at
+  old_left total columns flags key given field after parts low known read = record {
+    left = grind (arith, known_field total key given low);
+    asked = grind (arith, known_field total key given low);
+    low = low_behind given _ after (field_spelled 0 required.Any given (field, after) low read).0 low;
+  }
 
   -- ---- the new record, by it
 
@@ -104,7 +83,8 @@ module _ (A : Type 0) where
   NewLeft total flags old given all = behind (record_at {A = A} total (new_requirements flags (old_in A total flags old)) given) ≡ all
 
   pub new_ends : (total : ℕ) (columns : List Bool) (old given : List ℕ) (all : Result (List ℕ) BlobFault) → columns ≡ [] → NewLeft total columns old given all → all ≡ Ok given
-  new_ends total columns old given all none so_far = pass_ends total (new_requirements columns (old_in A total columns old)) given all (rw none refl) so_far
+  unfolding record_at
+  new_ends total columns old given all none so_far = grind arith
 
 pub flags-cons : (flags : List Bool) (i : ℕ) → i < length flags → drop i flags ≡ get_or flags i false ∷ drop (i + 1) flags
 flags-cons flags i lt = rw (add-one, drop-cons flags i false) refl

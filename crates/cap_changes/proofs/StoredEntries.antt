@@ -1,5 +1,5 @@
 -- Entries as their bytes, one after another, and where each ends.
-use Rattle.std.proofs.Common.{◌≡◌, ℕ, zero, suc, ◌-◌, ◌≤◌, ◌<◌, Bool, List, [], ◌∷◌, ◌++◌, length, take, drop, get_or, slice_get, Option, Some, None, IsTrue, Result, Ok, Err, is_ok, refl, sym, ap, subst, ◌∙◌, append_assoc, append-nil, length-append, length-drop, arith, if◌then◌else◌}
+use Rattle.std.proofs.Common.{◌≡◌, ℕ, zero, suc, ◌-◌, ◌≤◌, ◌<◌, Bool, List, [], ◌∷◌, ◌++◌, length, take, drop, get_or, slice_get, Option, Some, None, IsTrue, Result, Ok, Err, is_ok, refl, sym, ap, subst, ◌∙◌, append-nil, length-append, length-drop, arith, if◌then◌else◌}
 use mathlib.Core.List.{IsPrefix}
 use Rattle.std.specs.Prelude.{All, OnOk, OnErr}
 use Rattle.std.specs.List.{AllByRecursion, flat_map}
@@ -26,20 +26,10 @@ pub extended : {E : Type 0} (result : Result (Unit {0}) E) (old more new : List 
 extended (Ok u) old more new is = (is, tt)
 extended (Err e) old more new is = (tt, ([], append-nil old ∙ sym is))
 
--- a part, and what is behind it
-pub parts_of : (start end : ℕ) (bytes : List ℕ) → start ≤ end → drop start bytes ≡ part start end bytes ++ drop end bytes
-parts_of start end bytes le =
-    sym (take-append-drop (end - start) (drop start bytes)) ∙ ap (λ (r : List ℕ). part start end bytes ++ r) (drop-drop (end - start) start bytes ∙ ap (λ (n : ℕ). drop n bytes) (omega arith))
-
 -- an entry that is not the first begins where the one before it ends
 pub start_behind : (start : ℕ) (ends : List ℕ) (place : ℕ) → 1 ≤ place → place ≤ length ends → get_or ends (place - 1) 0 ≡ start_of start ends place
 start_behind start (end ∷ ends) (suc (suc place)) some within = grind (arith, start_behind end ends (suc place))
 start_behind start ends place some within = grind arith
-
-part_of_front : (cut start end : ℕ) (bytes : List ℕ) → cut ≤ length bytes → start ≤ end → end ≤ cut → part start end (take cut bytes) ≡ part start end bytes
-part_of_front cut start end bytes in_bytes le within =
-    sym (part_before start end (take cut bytes) (drop cut bytes) le (omega (arith, length-take-le cut bytes in_bytes, within)))
-    ∙ ap (part start end) (take-append-drop cut bytes)
 
 module _ {C : Type 0} (fits_in : List Bool → C → Bool) (has_values : C → Type 0) (bytes_of : C → List ℕ) (stored : List Bool → List ℕ → C) (flags : List Bool) where
   abbrev Are : List ℕ → ℕ → List ℕ → Type 0
@@ -48,50 +38,38 @@ module _ {C : Type 0} (fits_in : List Bool → C → Bool) (has_values : C → T
   abbrev Is : List ℕ → Type 0
   Is piece = IsEntry fits_in has_values bytes_of flags (stored flags piece) piece
 
-  same_entries : (bytes more : List ℕ) (start : ℕ) (ends : List ℕ) → Are bytes start ends → entries_of stored flags (bytes ++ more) start ends ≡ entries_of stored flags bytes start ends
-  same_entries bytes more start [] are = refl
-  same_entries bytes more start (end ∷ ends) are =
-      rw (part_before start end bytes more are.0 are.1, same_entries bytes more end ends are.3) refl
-
-  still_entries : (bytes more : List ℕ) (start : ℕ) (ends : List ℕ) → Are bytes start ends → Are (bytes ++ more) start ends
-  still_entries bytes more start [] are = omega (arith, are, length-append bytes more)
-  still_entries bytes more start (end ∷ ends) are = (
-    are.0,
-    omega (arith, are.1, length-append bytes more),
-    subst Is (sym (part_before start end bytes more are.0 are.1)) are.2,
-    still_entries bytes more end ends are.3,
-  )
-
-  -- the entries of longer bytes
-  last_entry : (bytes : List ℕ) (start end : ℕ) (ends : List ℕ) → entries_of stored flags bytes start (ends ++ end ∷ []) ≡ entries_of stored flags bytes start ends ++ stored flags (part (end_of start ends) end bytes) ∷ []
-  last_entry bytes start end [] = refl
-  last_entry bytes start end (next ∷ ends) = ap (λ (xs : List C). stored flags (part start next bytes) ∷ xs) (last_entry bytes next end ends)
-
-  last_is : (bytes : List ℕ) (start end : ℕ) (ends : List ℕ) → Are bytes start ends → end_of start ends ≤ end → end ≤ length bytes → Is (part (end_of start ends) end bytes) → Are bytes start (ends ++ end ∷ [])
-  last_is bytes start end [] are le within is = (le, within, is, within)
-  last_is bytes start end (next ∷ ends) are le within is = (are.0, are.1, are.2, last_is bytes next end ends are.3 le within is)
-
   pub last_end : (start end : ℕ) (ends : List ℕ) → end_of start (ends ++ end ∷ []) ≡ end
   last_end start end [] = refl
   last_end start end (next ∷ ends) = last_end next end ends
 
   -- what stands when one was appended
-  pub record Appended (bytes ends : List ℕ) (before : List C) (entry : C) : Type 0 where
-    pub are : Are bytes 0 ends
-    pub end : end_of 0 ends ≡ length bytes
-    pub entries : entries_of stored flags bytes 0 ends ≡ before ++ entry ∷ []
+  pub record AppendedFrom (start : ℕ) (bytes ends : List ℕ) (before : List C) (entry : C) : Type 0 where
+    pub are : Are bytes start ends
+    pub end : end_of start ends ≡ length bytes
+    pub entries : entries_of stored flags bytes start ends ≡ before ++ entry ∷ []
+
+  abbrev pub Appended : List ℕ → List ℕ → List C → C → Type 0
+  Appended bytes ends before entry = AppendedFrom 0 bytes ends before entry
+
+  appended_from : (old piece : List ℕ) (start : ℕ) (ends : List ℕ) → Are old start ends → end_of start ends ≡ length old → Is piece
+      → AppendedFrom start (old ++ piece) (ends ++ length (old ++ piece) ∷ []) (entries_of stored flags old start ends) (stored flags piece)
+  appended_from old piece start [] are end is =
+      let last : part start (length (old ++ piece)) (old ++ piece) ≡ piece = ap (λ (n : ℕ). part n (length (old ++ piece)) (old ++ piece)) end ∙ part_behind old piece in record {
+        are = (omega (arith, end, length-append old piece), omega arith, subst Is (sym last) is, omega arith);
+        end = refl;
+        entries = ap (λ (b : List ℕ). stored flags b ∷ []) last;
+      }
+  appended_from old piece start (end ∷ ends) are reaches is =
+      let others = appended_from old piece end ends are.3 reaches is in
+      let same = part_before start end old piece are.0 are.1 in record {
+        are = (are.0, omega (arith, are.1, length-append old piece), subst Is (sym same) are.2, others.are);
+        end = others.end;
+        entries = λ i. stored flags (same i) ∷ others.entries i;
+      }
 
   pub appended : (old ends piece new new_ends : List ℕ) (before : List C) (entry : C) → Are old 0 ends → end_of 0 ends ≡ length old → entries_of stored flags old 0 ends ≡ before
       → Is piece → stored flags piece ≡ entry → new ≡ old ++ piece → new_ends ≡ ends ++ length new ∷ [] → Appended new new_ends before entry
-  appended old ends piece new new_ends before entry are end seen is entry_is new_is ends_are =
-      let last : part (end_of 0 ends) (length (old ++ piece)) (old ++ piece) ≡ piece = ap (λ (n : ℕ). part n (length (old ++ piece)) (old ++ piece)) end ∙ part_behind old piece in
-      rw (ends_are, new_is) (record {
-        are = last_is (old ++ piece) 0 (length (old ++ piece)) ends (still_entries old piece 0 ends are) (omega (arith, end, length-append old piece)) (omega arith) (subst Is (sym last) is);
-        end = last_end 0 (length (old ++ piece)) ends;
-        entries = last_entry (old ++ piece) 0 (length (old ++ piece)) ends
-            ∙ ap (λ (xs : List C). xs ++ stored flags (part (end_of 0 ends) (length (old ++ piece)) (old ++ piece)) ∷ []) (same_entries old piece 0 ends are ∙ seen)
-            ∙ ap (λ (x : C). before ++ x ∷ []) (ap (stored flags) last ∙ entry_is);
-      })
+  appended old ends piece new new_ends before entry are end seen is entry_is new_is ends_are = rw (ends_are, new_is, ← seen, ← entry_is) (appended_from old piece 0 ends are end is)
 
   -- ---- what is known of each
 
@@ -105,20 +83,17 @@ module _ {C : Type 0} (fits_in : List Bool → C → Bool) (has_values : C → T
   pub all_values : (bytes : List ℕ) (start : ℕ) (ends : List ℕ) → Are bytes start ends → All has_values (entries_of stored flags bytes start ends)
   all_values bytes start ends are = All-from_recursion has_values (entries_of stored flags bytes start ends) (each has_values (λ piece is. is.values) bytes start ends are)
 
-  spelled_from : (bytes : List ℕ) (start : ℕ) (ends : List ℕ) → Are bytes start ends → drop start bytes ≡ flat_map bytes_of (entries_of stored flags bytes start ends) ++ drop (end_of start ends) bytes
-  spelled_from bytes start [] are = refl
-  spelled_from bytes start (end ∷ ends) are =
-      parts_of start end bytes are.0
+  spelled_from : (bytes : List ℕ) (start : ℕ) (ends : List ℕ) → Are bytes start ends → end_of start ends ≡ length bytes → drop start bytes ≡ flat_map bytes_of (entries_of stored flags bytes start ends)
+  spelled_from bytes start [] are reaches = ap (λ (n : ℕ). drop n bytes) reaches ∙ drop_all (length bytes) bytes (omega arith)
+  spelled_from bytes start (end ∷ ends) are reaches =
+      sym (take-append-drop (end - start) (drop start bytes))
+      ∙ ap (λ (r : List ℕ). part start end bytes ++ r) (drop-drop (end - start) start bytes ∙ ap (λ (n : ℕ). drop n bytes) (omega (arith, are.0)))
       ∙ ap (λ (front : List ℕ). front ++ drop end bytes) are.2.spelled
-      ∙ ap (λ (rest : List ℕ). bytes_of (stored flags (part start end bytes)) ++ rest) (spelled_from bytes end ends are.3)
-      ∙ sym (append_assoc (bytes_of (stored flags (part start end bytes))) _ _)
+      ∙ ap (λ (rest : List ℕ). bytes_of (stored flags (part start end bytes)) ++ rest) (spelled_from bytes end ends are.3 reaches)
 
   -- the bytes are those of the entries
   pub spelled : (bytes ends : List ℕ) → Are bytes 0 ends → end_of 0 ends ≡ length bytes → bytes ≡ flat_map bytes_of (entries_of stored flags bytes 0 ends)
-  spelled bytes ends are end =
-      spelled_from bytes 0 ends are
-      ∙ ap (λ (rest : List ℕ). flat_map bytes_of (entries_of stored flags bytes 0 ends) ++ rest) (ap (λ (n : ℕ). drop n bytes) end ∙ drop_all (length bytes) bytes (omega arith))
-      ∙ append-nil _
+  spelled bytes ends are reaches = spelled_from bytes 0 ends are reaches
 
   -- ---- the first entries alone
 
@@ -126,16 +101,10 @@ module _ {C : Type 0} (fits_in : List Bool → C → Bool) (has_values : C → T
   start_within bytes start [] are = are
   start_within bytes start (end ∷ ends) are = omega (arith, are.0, are.1)
 
-  cut_within : (count : ℕ) (bytes : List ℕ) (start : ℕ) (ends : List ℕ) → Are bytes start ends → count < length ends
-      → (start ≤ start_of start ends count) × (start_of start ends count ≤ length bytes)
-  cut_within zero bytes start ends are lt = (omega arith, start_within bytes start ends are)
-  cut_within (suc count) bytes start [] are lt = absurd (omega arith)
-  cut_within (suc count) bytes start (end ∷ ends) are lt =
-      let others = cut_within count bytes end ends are.3 (omega arith) in
-      (omega (arith, are.0, others.0), others.1)
-
   -- so many entries, in the bytes up to where the last of them ends
   pub record AreFirst (cut count : ℕ) (bytes : List ℕ) (start : ℕ) (ends : List ℕ) : Type 0 where
+    pub from : start ≤ cut
+    pub within : cut ≤ length bytes
     pub are : Are (take cut bytes) start (take count ends)
     pub end : end_of start (take count ends) ≡ cut
     pub entries : entries_of stored flags (take cut bytes) start (take count ends) ≡ take count (entries_of stored flags bytes start ends)
@@ -144,16 +113,17 @@ module _ {C : Type 0} (fits_in : List Bool → C → Bool) (has_values : C → T
       → AreFirst cut count bytes start ends
   are_first cut zero bytes start ends are lt is =
       let within = start_within bytes start ends are in
-      record { are = omega (arith, is, length-take-le cut bytes (omega (arith, is, within))); end = sym is; entries = refl }
+      record { from = omega (arith, is); within = omega (arith, is, within); are = omega (arith, is, length-take-le cut bytes (omega (arith, is, within))); end = sym is; entries = refl }
   are_first cut (suc count) bytes start [] are lt is = absurd (omega arith)
   are_first cut (suc count) bytes start (end ∷ ends) are lt is =
       let others = are_first cut count bytes end ends are.3 (omega arith) is in
-      let bounds = cut_within count bytes end ends are.3 (omega arith) in
-      let in_bytes : cut ≤ length bytes = omega (arith, is, bounds.1) in
-      let within : end ≤ cut = omega (arith, is, bounds.0) in
-      let same = part_of_front cut start end bytes in_bytes are.0 within in
+      let long = length-take-le cut bytes others.within in
+      let same : part start end (take cut bytes) ≡ part start end bytes =
+      sym (part_before start end (take cut bytes) (drop cut bytes) are.0 (omega (arith, long, others.from))) ∙ ap (part start end) (take-append-drop cut bytes) in
       record {
-        are = (are.0, omega (arith, within, length-take-le cut bytes in_bytes), subst Is (sym same) are.2, others.are);
+        from = omega (arith, are.0, others.from);
+        within = others.within;
+        are = (are.0, omega (arith, long, others.from), subst Is (sym same) are.2, others.are);
         end = others.end;
         entries = λ i. stored flags (same i) ∷ others.entries i;
       }
@@ -174,8 +144,7 @@ module _ {C : Type 0} (fits_in : List Bool → C → Bool) (has_values : C → T
       → cut ≡ start_of 0 ends count → new_ends ≡ take count ends → new_bytes ≡ take cut bytes → Kept new_bytes new_ends
   first_kept cut new_bytes new_ends stands lt is ends_are bytes_are =
       let first = are_first fits_in has_values bytes_of stored schema cut count bytes 0 ends stands.each lt is in
-      let bounds = cut_within fits_in has_values bytes_of stored schema count bytes 0 ends stands.each lt in
-      let long : length (take cut bytes) ≡ cut = length-take-le cut bytes (omega (arith, is, bounds.1)) in
+      let long : length (take cut bytes) ≡ cut = length-take-le cut bytes first.within in
       subst (λ (e : List ℕ). Kept new_bytes e) (sym ends_are) (subst (λ (b : List ℕ). Kept b (take count ends)) (sym bytes_are) (record {
         keeps = record { keyed = stands.keyed; each = first.are; end = first.end ∙ sym long };
         is = (λ i. record { table = table; schema = schema; changes = first.entries i }) ∙ ap (λ (t : TableEntries C). record { table = t.table; schema = t.schema; changes = take count t.changes }) seen;
@@ -200,11 +169,6 @@ module _ {C : Type 0} (fits_in : List Bool → C → Bool) (has_values : C → T
   lent_at flags bytes start (end ∷ ends) zero are lt = record { before = are.0; within = are.1; is = are.2; lent = refl }
   lent_at flags bytes start (end ∷ ends) (suc place) are lt = lent_at flags bytes end ends place are.3 (omega arith)
 
-  pub none_at : (flags : List Bool) (bytes : List ℕ) (start : ℕ) (ends : List ℕ) (place : ℕ) → length ends ≤ place → slice_get (entries_of stored flags bytes start ends) place ≡ None
-  none_at flags bytes start [] place le = refl
-  none_at flags bytes start (end ∷ ends) zero le = absurd (omega arith)
-  none_at flags bytes start (end ∷ ends) (suc place) le = none_at flags bytes end ends place (omega arith)
-
   -- ---- a group
 
   -- what a call leaves that appends an entry, or answers an error
@@ -213,32 +177,23 @@ module _ {C : Type 0} (fits_in : List Bool → C → Bool) (has_values : C → T
     pub ok : OnOk result (group_of stored table schema new new_ends ≡ record before { changes = before.changes ++ entry ∷ [] })
     pub err : OnErr result (group_of stored table schema new new_ends ≡ before)
 
-taken_off : (old mid : List ℕ) (n : ℕ) → n ≡ length old → IsPrefix old mid → take n mid ≡ old
-taken_off old mid n is (rest, so) = rw (is, ← so) (take-append_seam old rest)
+taken_off : {E : Type 0} (pushed : Result (Unit {0}) E) (old piece mid : List ℕ) (n : ℕ) → n ≡ length old → OnOk pushed (mid ≡ old ++ piece) → OnErr pushed (IsPrefix old mid) → take n mid ≡ old
+taken_off (Ok u) old piece mid n is put begun = rw (is, put) (take-append_seam old piece)
+taken_off (Err e) old piece mid n is put (rest, so) = rw (is, ← so) (take-append_seam old rest)
 
 module _ {C : Type 0} {fits_in : List Bool → C → Bool} {has_values : C → Type 0} {bytes_of : C → List ℕ} {stored : List Bool → List ℕ → C} where
-  ended_on : (E : Type 0) {table : List ℕ} {schema : List Bool} {old ends piece new new_ends : List ℕ} {before : TableEntries C} {entry : C} → IsKept fits_in has_values bytes_of stored schema old ends → group_of stored table schema old ends ≡ before
-      → IsEntry fits_in has_values bytes_of before.schema (stored before.schema piece) piece → stored before.schema piece ≡ entry → new ≡ old ++ piece → new_ends ≡ ends ++ length new ∷ []
-      → Leaves fits_in has_values bytes_of stored {E = E} (Ok tt) table schema new new_ends before entry
-  ended_on E {table = table} {schema = schema} {old = old} {ends = ends} {piece = piece} {new = new} {new_ends = new_ends} {before = before} {entry = entry} keeps seen is entry_is new_is ends_are =
+  pub leaves : {E : Type 0} (result pushed : Result (Unit {0}) E) {table : List ℕ} {schema : List Bool} {old ends piece : List ℕ} (mid new new_ends : List ℕ) {n : ℕ} {before : TableEntries C} {entry : C} → IsKept fits_in has_values bytes_of stored schema old ends
+      → group_of stored table schema old ends ≡ before → IsEntry fits_in has_values bytes_of before.schema (stored before.schema piece) piece → stored before.schema piece ≡ entry → n ≡ length old → OnOk pushed (mid ≡ old ++ piece) → OnErr pushed (IsPrefix old mid)
+      → OnOk result ((pushed ≡ Ok tt) × (new ≡ mid) × (new_ends ≡ ends ++ length mid ∷ [])) → OnErr result ((new ≡ take n mid) × (new_ends ≡ ends)) → Leaves fits_in has_values bytes_of stored result table schema new new_ends before entry
+  leaves (Ok u) (Ok v) {table = table} {schema = schema} {old = old} {ends = ends} {piece = piece} mid new new_ends {before = before} {entry = entry} keeps seen is entry_is n_is put begun ok err =
       let columns : before.schema ≡ schema = sym (ap (λ (t : TableEntries C). t.schema) seen) in
       let a = appended fits_in has_values bytes_of stored schema old ends piece new new_ends before.changes entry keeps.each keeps.end (ap (λ (t : TableEntries C). t.changes) seen)
-      (subst (λ (s : List Bool). IsEntry fits_in has_values bytes_of s (stored s piece) piece) columns is) (ap (λ (s : List Bool). stored s piece) (sym columns) ∙ entry_is) new_is ends_are in record {
+      (subst (λ (s : List Bool). IsEntry fits_in has_values bytes_of s (stored s piece) piece) columns is) (ap (λ (s : List Bool). stored s piece) (sym columns) ∙ entry_is)
+      (ok.1 ∙ put) (ok.2 ∙ ap (λ (b : List ℕ). ends ++ length b ∷ []) (sym ok.1)) in record {
         keeps = record { keyed = keeps.keyed; each = a.are; end = a.end };
         ok = ap (λ (xs : List C). record { table = table; schema = schema; changes = xs }) a.entries ∙ ap (λ (t : TableEntries C). record t { changes = before.changes ++ entry ∷ [] }) seen;
         err = tt;
       }
-
-  kept_on : {E : Type 0} (e : E) {table : List ℕ} {schema : List Bool} {old ends new new_ends : List ℕ} {before : TableEntries C} (entry : C) → IsKept fits_in has_values bytes_of stored schema old ends → group_of stored table schema old ends ≡ before
-      → new ≡ old → new_ends ≡ ends → Leaves fits_in has_values bytes_of stored (Err e) table schema new new_ends before entry
-  kept_on e entry keeps seen new_is ends_are = rw (new_is, ends_are) (record { keeps = keeps; ok = tt; err = seen })
-
-  pub leaves : {E : Type 0} (result pushed : Result (Unit {0}) E) {table : List ℕ} {schema : List Bool} {old ends piece : List ℕ} (mid new new_ends : List ℕ) {n : ℕ} {before : TableEntries C} {entry : C} → IsKept fits_in has_values bytes_of stored schema old ends
-      → group_of stored table schema old ends ≡ before → IsEntry fits_in has_values bytes_of before.schema (stored before.schema piece) piece → stored before.schema piece ≡ entry → n ≡ length old → OnOk pushed (mid ≡ old ++ piece) → OnErr pushed (IsPrefix old mid)
-      → OnOk result ((pushed ≡ Ok tt) × (new ≡ mid) × (new_ends ≡ ends ++ length mid ∷ [])) → OnErr result ((new ≡ take n mid) × (new_ends ≡ ends)) → Leaves fits_in has_values bytes_of stored result table schema new new_ends before entry
-  leaves {E = E} (Ok u) (Ok v) {ends = ends} mid new new_ends keeps seen is entry_is n_is put begun ok err =
-      ended_on E keeps seen is entry_is (ok.1 ∙ put) (ok.2 ∙ ap (λ (b : List ℕ). ends ++ length b ∷ []) (sym ok.1))
   leaves (Ok u) (Err e) mid new new_ends keeps seen is entry_is n_is put begun ok err = absurd (let wrong = ok.0 in cc)
-  leaves (Err e) (Ok v) {old = old} {piece = piece} mid new new_ends {n = n} {entry = entry} keeps seen is entry_is n_is put begun ok err =
-      kept_on e entry keeps seen (err.0 ∙ taken_off old mid n n_is (piece, sym put)) err.1
-  leaves (Err e) (Err f) {old = old} mid new new_ends {n = n} {entry = entry} keeps seen is entry_is n_is put begun ok err = kept_on e entry keeps seen (err.0 ∙ taken_off old mid n n_is begun) err.1
+  leaves (Err e) pushed {old = old} {piece = piece} mid new new_ends {n = n} keeps seen is entry_is n_is put begun ok err =
+      rw (err.0 ∙ taken_off pushed old piece mid n n_is put begun, err.1) (record { keeps = keeps; ok = tt; err = seen })

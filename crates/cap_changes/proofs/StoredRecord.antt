@@ -1,24 +1,20 @@
 -- The bytes of records, and the fields of bytes.
-use Rattle.std.proofs.Common.{◌≡◌, ◌==◌, true, false, Bool, ℕ, zero, suc, ◌≤◌, ◌<◌, List, [], ◌∷◌, ◌++◌, length, Option, Some, None, IfSome, IsTrue, eqb-true, Ok, IsOk, refl, sym, ap, subst, ◌∙◌, append-nil, length-append, arith, ◌-◌, get_or, take, drop, ◌+◌, Result, Err, append_assoc, take_at, drop_at, inl, inr, ◌⊎◌, ◌≢◌}
+use Rattle.std.proofs.Common.{◌≡◌, ◌==◌, true, false, Bool, ℕ, zero, suc, ◌≤◌, ◌<◌, List, [], ◌∷◌, ◌++◌, length, Option, Some, None, IfSome, IsTrue, eqb-true, Ok, IsOk, refl, sym, ap, subst, ◌∙◌, append-nil, length-append, arith, ◌-◌, get_or, take, drop, inl, inr, ◌⊎◌, ◌≢◌}
 use Rattle.std.proofs.lemmas.Bool.{and_parts}
 use Rattle.cap_value.specs.declared.value.Value.{Value}
 use Rattle.cap_value.specs.Value.{IsValue}
 use Rattle.cap_changes.specs.Field.{field_bytes, record_bytes, key_bytes}
 use Rattle.cap_changes.specs.FieldReading.{field_at, content_at}
 use Rattle.cap_changes.specs.FieldRecord.{RecordFields}
-use Rattle.cap_changes.specs.Record.{fields_from, fields_of, keys_of, AreFields, IsRecord, IsKeyRecord, stored_fields, IsStored, IsFirstField, StartsRecord}
+use Rattle.cap_changes.specs.Record.{fields_from, fields_of, keys_of, AreFields, IsRecord, IsKeyRecord, stored_fields, IsStored, IsFirstField}
 use Rattle.cap_changes.specs.RecordReading.{record_at}
 use Rattle.cap_changes.specs.Requirements.{requirements, satisfies, satisfy}
 use Rattle.cap_changes.specs.declared.field_requirement.FieldRequirement.TheVariants.{Any, Key, Omitted}
 use Rattle.cap_changes.specs.declared.record_kind.RecordKind.TheVariants.{KeyAlone}
-use Rattle.cap_changes.proofs.FieldAgain.{field_again, asked_bytes}
-use Rattle.cap_changes.proofs.FieldAgain.{fields_again, keys_asked}
-use Rattle.std.proofs.lemmas.List.{take_all, drop_all, drop_more}
-use Rattle.std.proofs.lemmas.List.Elements.{All-from_recursion}
+use Rattle.cap_changes.proofs.FieldAgain.{field_again}
+use Rattle.cap_changes.proofs.FieldAgain.{fields_again, kind_asked}
+use Rattle.std.proofs.lemmas.List.{take_all}
 use Rattle.std.proofs.Math.Seq.{take-append_seam}
-use Rattle.cap_field.specs.declared.fault.BlobFault.{BlobFault}
-use Rattle.cap_field.proofs.Spelled.{AreLow}
-use Rattle.cap_changes.proofs.Spelled.{field_spelled}
 use Rattle.cap_field.specs.Reading.{◌>>=◌}
 use Rattle.cap_field.specs.FieldReading.{value_at}
 use Rattle.cap_field.specs.FieldReading as values
@@ -35,13 +31,10 @@ module _ {A : Type 0} where
   from_bytes most fields each fits = refl
 
   -- the bytes of fields spell just these
-  pub record_again : (fields : RecordFields A) → AreFields fields → fields_of (record_bytes fields) ≡ fields
-  unfolding fields_of
-  record_again fields each = from_bytes (length (record_bytes fields)) fields each (omega arith)
-
   pub stored : (bytes : List ℕ) (fields : RecordFields A) → AreFields fields → bytes ≡ record_bytes fields → (fields_of bytes ≡ fields) × IsRecord {A = A} bytes (fields_of bytes)
+  unfolding fields_of
   stored bytes fields each spelled =
-      let same : fields_of bytes ≡ fields = ap fields_of spelled ∙ record_again fields each in
+      let same : fields_of bytes ≡ fields = ap fields_of spelled ∙ from_bytes (length (record_bytes fields)) fields each (omega arith) in
       (same, subst (IsRecord bytes) (sym same) (record { each = each; spelled = spelled }))
 
   -- ---- no fields
@@ -64,7 +57,7 @@ module _ {A : Type 0} where
   unfolding keys_of
   stored_key flags bytes fields each fits spelled =
       let read : record_at 0 (requirements KeyAlone flags) bytes ≡ Ok (fields, []) =
-      ap (record_at 0 (requirements KeyAlone flags)) (spelled ∙ sym (keys_asked flags fields fits) ∙ sym (append-nil _)) ∙ fields_again 0 (requirements KeyAlone flags) fields [] fits each in
+      ap (record_at 0 (requirements KeyAlone flags)) (spelled ∙ sym (kind_asked KeyAlone flags fields fits) ∙ sym (append-nil _)) ∙ fields_again 0 (requirements KeyAlone flags) fields [] fits each in
       let same : keys_of flags bytes ≡ fields = rw read refl in
       (same, subst (IsKeyRecord flags bytes) (sym same) (record { each = each; fits = fits; spelled = spelled }))
 
@@ -156,61 +149,6 @@ first_flag keys (flag ∷ flags) key d some long is = rw (some, is, take_all (le
 
 pub key_left : (keys : Option (List Bool)) (flags : List Bool) (bytes : List ℕ) (d : Bool) → keys ≡ Some flags → 1 ≤ length flags → get_or flags 0 d ≡ true → HasFirst keys (Some (Others flags)) bytes
 key_left keys flags bytes d some long inside = inr (Others flags, first_flag keys flags true d some long inside, refl)
-
--- ---- two records, one behind the other
-
-abbrev behind_in : {X : Type 0} → Result (X × List ℕ) BlobFault → List ℕ
-behind_in (Ok x) = x.1
-behind_in (Err fault) = []
-
-module _ (A : Type 0) where
-  -- so many fields of the first record are passed
-  abbrev pub Passed : ℕ → List ℕ → ℕ → List ℕ → Type 0
-  Passed width bytes at rest = (fields : RecordFields A) (behind : List ℕ) → AreFields fields → length fields ≡ width → bytes ≡ record_bytes fields ++ behind → rest ≡ record_bytes (drop at fields) ++ behind
-
-  again : (width : ℕ) (bytes : List ℕ) (at : ℕ) (rest : List ℕ) (fields : RecordFields A) (behind : List ℕ) → Passed width bytes at rest → AreFields fields → length fields ≡ width → bytes ≡ record_bytes fields ++ behind → at < width
-      → (field : Option (Value A)) × (field_at 0 Any rest ≡ Ok (field, record_bytes (drop (at + 1) fields) ++ behind))
-  again width bytes at rest fields behind passed each wide parts lt =
-      let inside : at < length fields = omega (arith, lt, wide) in
-      let field : Option (Value A) = get_or fields at None in (
-        field,
-        ap (field_at 0 Any) (passed fields behind each wide parts ∙ ap (λ (l : RecordFields A). record_bytes l ++ behind) (drop_more fields at None inside) ∙ append_assoc (field_bytes field) (record_bytes (drop (at + 1) fields)) behind)
-            ∙ field_again 0 Any field (record_bytes (drop (at + 1) fields) ++ behind) refl (All-from_recursion (λ (f : Option (Value A)). IfSome f IsValue) fields each at None inside),
-      )
-
-  pub is_field : (width : ℕ) (bytes : List ℕ) (at : ℕ) (rest : List ℕ) → Passed width bytes at rest → at < width → StartsRecord A width bytes → IsOk (field_at {A = A} 0 Any rest)
-  is_field width bytes at rest passed lt (fields, behind, each, wide, parts) =
-      let (field, read) = again width bytes at rest fields behind passed each wide parts lt in
-      rw read refl
-
-  pub one_more : (width : ℕ) (bytes : List ℕ) (at : ℕ) (rest after : List ℕ) (field : Option (Value A)) → Passed width bytes at rest → at < width → field_at 0 Any rest ≡ Ok (field, after) → Passed width bytes (at + 1) after
-  one_more width bytes at rest after field passed lt read fields behind each wide parts =
-      let (first, found) = again width bytes at rest fields behind passed each wide parts lt in
-      ap behind_in (sym read ∙ found)
-
-  all_passed : (width : ℕ) (bytes rest : List ℕ) (fields : RecordFields A) (behind : List ℕ) → Passed width bytes width rest → AreFields fields → length fields ≡ width → bytes ≡ record_bytes fields ++ behind → rest ≡ behind
-  all_passed width bytes rest fields behind passed each wide parts =
-      passed fields behind each wide parts ∙ ap (λ (l : RecordFields A). record_bytes l ++ behind) (drop_all width fields (omega (arith, wide)))
-
-  pub at_end : (width : ℕ) (bytes : List ℕ) (at : ℕ) (rest : List ℕ) → Passed width bytes at rest → at ≡ width → Passed width bytes width rest
-  at_end width bytes at rest passed end = subst (λ (n : ℕ). Passed width bytes n rest) end passed
-
-  pub within : (width : ℕ) (bytes rest : List ℕ) → Passed width bytes width rest → StartsRecord A width bytes → length rest ≤ length bytes
-  within width bytes rest passed (fields, behind, each, wide, parts) =
-      omega (arith, ap length parts, ap length (all_passed width bytes rest fields behind passed each wide parts), length-append (record_bytes fields) behind)
-
-  pub apart : (width : ℕ) (bytes rest : List ℕ) (fields : RecordFields A) (behind : List ℕ) → Passed width bytes width rest → AreFields fields → length fields ≡ width → bytes ≡ record_bytes fields ++ behind
-      → (take (length bytes - length rest) bytes ≡ record_bytes fields) × (drop (length bytes - length rest) bytes ≡ behind)
-  apart width bytes rest fields behind passed each wide parts =
-      let long : length (record_bytes fields) ≡ length bytes - length rest = omega (arith, ap length parts, ap length (all_passed width bytes rest fields behind passed each wide parts), length-append (record_bytes fields) behind) in (
-        ap (take (length bytes - length rest)) parts ∙ take_at (record_bytes fields) behind (length bytes - length rest) long,
-        ap (drop (length bytes - length rest)) parts ∙ drop_at (record_bytes fields) behind (length bytes - length rest) long,
-      )
-
-  pub no_more_behind : (bytes : List ℕ) (field : Option (Value A)) (rest : List ℕ) → AreLow bytes → field_at 0 Any bytes ≡ Ok (field, rest) → length rest ≤ length bytes
-  no_more_behind bytes field rest low read =
-      let spelled = field_spelled 0 Any bytes (field, rest) low read in
-      omega (arith, ap length spelled.0, length-append (asked_bytes {A = A} Any field) rest)
 
 -- ---- a field that is defined is a value
 

@@ -1,16 +1,15 @@
 -- The records of a touched key, field by field.
-use Rattle.std.proofs.Common.{arith, ◌≡◌, ℕ, ◌+◌, ◌<◌, List, [], ◌∷◌, ◌++◌, Bool, true, false, not, ◌&&◌, ◌||◌, cond, length, drop, get_or, Option, Some, None, refl, sym, ap, ◌∙◌}
+use Rattle.std.proofs.Common.{arith, ◌≡◌, ℕ, ◌+◌, ◌<◌, List, [], ◌∷◌, ◌++◌, Bool, true, false, not, ◌&&◌, ◌||◌, cond, length, drop, get_or, Option, refl, ap, ◌∙◌}
 use Rattle.std.proofs.lemmas.Bool.Decides.{same_from_decides}
 use Rattle.std.proofs.lemmas.Slice.Eq.{bytes_eq-Decides}
 use Rattle.cap_value.specs.Bytes.{bytes_eq}
 use Rattle.cap_value.specs.declared.value.Value.{Value}
 use Rattle.cap_value.specs.Value.{IsValue, value_eq, value_eq_decides}
 use Rattle.cap_field.specs.Field.{value_bytes, values_bytes}
-use Rattle.cap_field.specs.FieldReading.{value_at}
 use Rattle.cap_field.proofs.FieldAgain.{value_again}
 use Rattle.cap_row.specs.Encoding.{BeginsWith}
 use Rattle.cap_row.specs.Fields.{Fields}
-use Rattle.cap_changes.specs.Change.{full_record, is_modified, old_field, new_field}
+use Rattle.cap_changes.specs.Change.{full_record, old_field, new_field}
 use Rattle.cap_changes.specs.Column.{by_column}
 use Rattle.cap_changes.specs.Field.{record_bytes, field_bytes}
 use Rattle.cap_changes.proofs.PutLemmas.{goes_on}
@@ -22,25 +21,13 @@ module _ {A : Type 0} where
   row_is_record (value ∷ row) = ap (λ (r : List ℕ). value_bytes value ++ r) (row_is_record row)
 
   -- no two values have the same bytes
-  pub one_value : (a b : Value A) → IsValue a → IsValue b → value_bytes a ≡ value_bytes b → a ≡ b
-  one_value a b p q same =
-      let x = value_again 0 a [] p in
-      let y = value_again 0 b [] q in
-      let e : value_at {A = A} 0 (value_bytes a ++ []) ≡ value_at 0 (value_bytes b ++ []) = ap (λ (r : List ℕ). value_at 0 (r ++ [])) same in
-      let pair : (a, []) ≡ (b, []) = cc (x, y, e) in
-      ap (λ (p : Value A × List ℕ). p.0) pair
+  one_value : (a b : Value A) → IsValue a → IsValue b → value_bytes a ≡ value_bytes b → a ≡ b
+  one_value a b p q same = grind (arith, value_again 0 a [], value_again 0 b [])
 
   pub eq_by_bytes : (a b : Value A) → IsValue a → IsValue b → value_eq a b ≡ bytes_eq (value_bytes a) (value_bytes b)
   eq_by_bytes a b p q =
       let bytes = bytes_eq-Decides (value_bytes a) (value_bytes b) in
       same_from_decides (value_eq a b) (bytes_eq (value_bytes a) (value_bytes b)) (value_eq_decides a b) (λ t. one_value a b p q (bytes.0 t), λ e. bytes.1 (ap value_bytes e))
-
-  pub modified_by_bytes : (key : Bool) (a b : Value A) → IsValue a → IsValue b → (not key && not (bytes_eq (value_bytes a) (value_bytes b))) ≡ is_modified key a b
-  modified_by_bytes key a b p q = ap (λ (t : Bool). not key && not t) (sym (eq_by_bytes a b p q))
-
-  -- a field, or an undefined one
-  pub choose : (t : Bool) (field : Option (Value A)) → cond t (field_bytes field) (0 ∷ []) ≡ field_bytes (cond t field None)
-  choose t field = grind arith
 
   -- the field of a column in the old record, or in the new one
   abbrev pub side_field : Bool → Bool → Value A → Value A → Option (Value A)
@@ -50,8 +37,7 @@ module _ {A : Type 0} where
   -- by the bytes of its fields
   side_by_bytes : (old key : Bool) (a b : Value A) → IsValue a → IsValue b
       → cond ((old && key) || (not key && not (bytes_eq (value_bytes a) (value_bytes b)))) (cond old (value_bytes a) (value_bytes b)) (0 ∷ []) ≡ field_bytes (side_field old key a b)
-  side_by_bytes true key a b p q = ap (λ (t : Bool). cond (key || t) (value_bytes a) (0 ∷ [])) (modified_by_bytes key a b p q) ∙ choose (key || is_modified key a b) (Some a)
-  side_by_bytes false key a b p q = ap (λ (t : Bool). cond t (value_bytes b) (0 ∷ [])) (modified_by_bytes key a b p q) ∙ choose (is_modified key a b) (Some b)
+  side_by_bytes old key a b p q = grind (arith, eq_by_bytes a b p q)
 
   -- one column more, by the bytes of its fields
   pub side_goes_on : (old : Bool) (flags : List Bool) (i : ℕ) (image now image' now' : List (Value A)) (was is : List ℕ) (out new all : List ℕ) → i < length flags

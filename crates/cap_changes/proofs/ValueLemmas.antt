@@ -29,9 +29,8 @@ module _ {A : Type 0} where
   update_values flags old new a b = values_of (update_record flags old new) (update_each flags old new (each_of old a) (each_of new b))
 
   pub inverse_values : (flags : List Bool) (change : RowChange A) → HasValues change → HasValues (inverse_of flags change)
-  inverse_values flags (Insert indirect new) values = values
   inverse_values flags (Update indirect old new) values = (update_values flags old new values.0 values.1, update_values flags new old values.1 values.0)
-  inverse_values flags (Delete indirect old) values = values
+  inverse_values flags change values = values
 
   pub patch_values : (flags : List Bool) (change : RowChange A) → HasValues change → PatchHasValues (patch_of flags change)
   patch_values flags (Insert indirect new) values = values

@@ -1,5 +1,5 @@
 -- Fields that are defined: a record of these alone is the values of a row.
-use Rattle.std.proofs.Common.{arith, ◌≡◌, ℕ, List, [], ◌∷◌, ◌++◌, Bool, true, Option, Some, None, is_some, IsTrue, refl, sym, ap, subst, ◌∙◌}
+use Rattle.std.proofs.Common.{arith, ◌≡◌, ℕ, List, [], ◌∷◌, ◌++◌, Bool, true, Option, Some, None, is_some, IsTrue, refl, sym, ap, ◌∙◌}
 use Rattle.std.specs.List.{list_all}
 use Rattle.cap_value.specs.Bytes.{bytes_eq}
 use Rattle.cap_value.specs.declared.value.Value.{Value}
@@ -17,40 +17,25 @@ module _ {A : Type 0} where
   pub undefined : (field : Option (Value A)) (bytes : List ℕ) → bytes ≡ field_bytes field → bytes_eq bytes (0 ∷ []) ≡ true → field ≡ None
   undefined field bytes is same = grind arith
 
-  -- the values of the fields, which are all defined
-  pub record Defined (fields : RecordFields A) : Type 0 where
-    pub values : Fields A
-    pub full : fields ≡ full_record values
-    pub each : AreValues values
-    pub record_spelled : record_bytes fields ≡ values_bytes values
-    pub key_spelled : key_bytes fields ≡ values_bytes values
-
-  defined : (fields : RecordFields A) → list_all is_some fields ≡ true → AreFields fields → Defined fields
-  defined [] some each = record { values = []; full = refl; each = tt; record_spelled = refl; key_spelled = refl }
+  -- fields that are all defined are those of values
+  defined : (fields : RecordFields A) → list_all is_some fields ≡ true → AreFields fields
+      → (values : Fields A) × (fields ≡ full_record values) × AreValues values × (record_bytes fields ≡ values_bytes values) × (key_bytes fields ≡ values_bytes values)
+  defined [] some each = ([], refl, tt, refl, refl)
   defined (None ∷ fields) some each = cc
   defined (Some value ∷ fields) some each =
-      let d = defined fields some each.1 in
-      record {
-        values = value ∷ d.values;
-        full = ap (λ (l : RecordFields A). Some value ∷ l) d.full;
-        each = (each.0, d.each);
-        record_spelled = ap (λ (b : List ℕ). value_bytes value ++ b) d.record_spelled;
-        key_spelled = ap (λ (b : List ℕ). value_bytes value ++ b) d.key_spelled;
-      }
+      let (values, full, are, record_is, key_is) = defined fields some each.1 in
+      (value ∷ values, ap (λ (l : RecordFields A). Some value ∷ l) full, (each.0, are), ap (λ (b : List ℕ). value_bytes value ++ b) record_is, ap (λ (b : List ℕ). value_bytes value ++ b) key_is)
 
   -- its bytes are those of a row
   pub record IsWhole (bytes : List ℕ) (fields : RecordFields A) : Type 0 where
     pub encodes : Encodes {A = A} bytes (rows.fields_of bytes)
     pub full : fields ≡ full_record (rows.fields_of bytes)
 
-  whole_of : (bytes : List ℕ) (fields : RecordFields A) → (d : Defined fields) → bytes ≡ values_bytes d.values → IsWhole bytes fields
-  whole_of bytes fields d spelled =
-      let e = encoded bytes d.values d.each spelled in
-      record { encodes = e.1; full = d.full ∙ ap full_record (sym e.0) }
-
-  pub whole : (keys : Option (List Bool)) (bytes : List ℕ) → IsStored A keys bytes → list_all is_some (stored_fields {A = A} keys bytes) ≡ true → IsWhole bytes (stored_fields keys bytes)
-  whole None bytes is some = let d = defined (stored_fields None bytes) some is.each in whole_of bytes _ d (is.spelled ∙ d.record_spelled)
-  whole (Some flags) bytes is some = let d = defined (stored_fields (Some flags) bytes) some is.each in whole_of bytes _ d (is.spelled ∙ d.key_spelled)
+  whole_of : (bytes : List ℕ) (fields : RecordFields A) (values : Fields A) → fields ≡ full_record values → AreValues values → bytes ≡ values_bytes values → IsWhole bytes fields
+  whole_of bytes fields values full are spelled = let e = encoded bytes values are spelled in record { encodes = e.1; full = full ∙ ap full_record (sym e.0) }
 
   pub whole_view : (keys : Option (List Bool)) (bytes : List ℕ) (fields : RecordFields A) → IsStored A keys bytes → stored_fields keys bytes ≡ fields → IsTrue (list_all is_some fields) → IsWhole bytes fields
-  whole_view keys bytes fields is view some = subst (λ (l : RecordFields A). IsWhole bytes l) view (whole keys bytes is (ap (list_all is_some) view ∙ some))
+  whole_view None bytes fields is view some =
+      let (values, full, are, record_is, key_is) = defined (stored_fields None bytes) (ap (list_all is_some) view ∙ some) is.each in whole_of bytes fields values (sym view ∙ full) are (is.spelled ∙ record_is)
+  whole_view (Some flags) bytes fields is view some =
+      let (values, full, are, record_is, key_is) = defined (stored_fields (Some flags) bytes) (ap (list_all is_some) view ∙ some) is.each in whole_of bytes fields values (sym view ∙ full) are (is.spelled ∙ key_is)

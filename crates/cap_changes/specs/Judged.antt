@@ -40,6 +40,6 @@ pub record Judged {C : Type 0} (fits_in : List Bool → C → Bool) (has_values 
     (held old bytes rest ends : List ℕ) : Type 0 where
   pub parts : bytes ≡ front_of bytes rest ++ rest
   pub begins : IsPrefix old ends
-  pub flagged : HaveFlags (length held + length (front_of bytes rest)) (length held) (drop (length old) ends)
-  pub end : end_of (length held) (drop (length old) ends) ≡ length held + length (front_of bytes rest)
+  pub flagged : HaveFlags (length (held ++ front_of bytes rest)) (length held) (drop (length old) ends)
+  pub end : end_of (length held) (drop (length old) ends) ≡ length (held ++ front_of bytes rest)
   pub kept : IsKept fits_in has_values bytes_of stored flags (joined held old (front_of bytes rest) ends) ends

@@ -1,5 +1,5 @@
 -- A record as the bytes of its fields, one after another.
-use Rattle.std.specs.Prelude.{◌≡◌, ℕ, zero, suc, Bool, List, [], ◌∷◌, ◌++◌, length, Option, Some, None, IfSome, IsTrue}
+use Rattle.std.specs.Prelude.{◌≡◌, ℕ, zero, suc, Bool, List, [], ◌∷◌, length, Option, Some, None, IfSome, IsTrue}
 use Rattle.std.specs.Prelude.{Result, Ok, Err}
 use Rattle.std.specs.List.{AllByRecursion}
 use Rattle.cap_value.specs.declared.value.Value.{Value}
@@ -66,8 +66,3 @@ module _ (A : Type 0) where
   abbrev pub IsStored : Option (List Bool) → List ℕ → Type 0
   IsStored None bytes = IsRecord {A = A} bytes (fields_of bytes)
   IsStored (Some flags) bytes = IsKeyRecord {A = A} flags bytes (keys_of flags bytes)
-
-  -- the bytes begin with a record of so many fields
-  abbrev pub StartsRecord : ℕ → List ℕ → Type 0
-  StartsRecord width bytes = (fields : RecordFields A) × (rest : List ℕ) × AreFields fields
-      × (length fields ≡ width) × (bytes ≡ record_bytes fields ++ rest)

@@ -80,7 +80,7 @@ impl<'a, C: Entry> Entries<'a, C> {
     }
 
     /// The one so many places on, none behind the last.
-    #[tactic(auto, using(crate::proofs::StoredEntries::lent_at))]
+    #[tactic(auto, using(crate::proofs::StoredEntries::lent_at, crate::proofs::StoredEntries::as_many, std::proofs::lemmas::Option::slice_get_past))]
     pub fn get(&self, place: usize) -> Option<EntryRef<'a, C>>
         ensures { result ≡ slice_get self.now place }
     {

@@ -1,11 +1,9 @@
 //! The entries of a group, as references to their bytes.
-ghost use Rattle.std.specs.Prelude.{◌≡◌, ◌++◌, ◌∷◌, ℕ, List, length};
+ghost use Rattle.std.specs.Prelude.{◌≡◌, ◌≤◌, ◌∷◌, drop, length, take};
 ghost use Rattle.cap_changes.specs.ChangeBytes.{flag_byte};
 ghost use Rattle.cap_changes.specs.ChangeRef.{change_of, patch_of};
-ghost use Rattle.cap_changes.specs.Field.{record_bytes};
-ghost use Rattle.cap_changes.specs.FieldRecord.{RecordFields};
 ghost use Rattle.cap_changes.specs.Operation.{operation_byte};
-ghost use Rattle.cap_changes.specs.Record.{AreFields, StartsRecord};
+ghost use Rattle.cap_changes.specs.Record.{fields_of, IsRecord};
 ghost use Rattle.cap_changes.specs.Stored.{IsEntry, StartsEntry};
 
 use crate::field::stored_field;
@@ -73,20 +71,22 @@ fn parts(bytes: &[u8]) -> (Operation, bool, &[u8])
     }
 }
 
-// The bytes of a record of so many fields, and those behind it.
+// The first fields of a record, so many of them, and those behind them.
 #[inline(always)]
-fn split_record<A: AllocHandle>(width: usize, bytes: &[u8]) -> (&[u8], &[u8])
-    requires { StartsRecord A width bytes.now }
-    ensures { (fields : RecordFields A) (rest : List ℕ) → AreFields fields → length fields ≡ width
-        → bytes.now ≡ record_bytes fields ++ rest
-        → (result.0.now ≡ record_bytes fields) × (result.1.now ≡ rest) }
+#[tactic(auto, using(crate::proofs::LeftLemmas::is_field, crate::proofs::LeftLemmas::apart))]
+fn split_record<A: AllocHandle>(width: usize, bytes: &[u8]) -> (RecordRef<'_, A>, RecordRef<'_, A>)
+    requires is { IsRecord {A = A} bytes.now (fields_of bytes.now) }
+    requires wide { width ≤ length (fields_of {A = A} bytes.now) }
+    ensures first { result.0 ≡ take width (fields_of bytes.now) }
+    ensures others { result.1 ≡ drop width (fields_of bytes.now) }
 {
     let mut rest = bytes;
     for _column in 0..width {
         let (_, after) = stored_field::<A>(rest);
         rest = after;
     }
-    bytes.split_at(bytes.len() - rest.len())
+    let (first, others) = bytes.split_at(bytes.len() - rest.len());
+    (RecordRef::of(first), RecordRef::of(others))
 }
 
 impl<'a, A: AllocHandle> EntryRef<'a, RowChange<A>> {
@@ -101,12 +101,8 @@ impl<'a, A: AllocHandle> EntryRef<'a, RowChange<A>> {
                 new: RecordRef::of(records),
             },
             Operation::Update => {
-                let (old, new) = split_record::<A>(self.flags.len(), records);
-                ChangeRef::Update {
-                    indirect,
-                    old: RecordRef::of(old),
-                    new: RecordRef::of(new),
-                }
+                let (old, new) = split_record(self.flags.len(), records);
+                ChangeRef::Update { indirect, old, new }
             }
             Operation::Delete => ChangeRef::Delete {
                 indirect,

@@ -13,6 +13,7 @@ use cap_field::BlobFault;
 use cap_value::AllocHandle;
 
 /// The bytes behind a record of this kind.
+#[tactic(auto, unfolding(crate::specs::RecordReading::record_at))]
 pub(crate) fn pass_record<'a, A: AllocHandle>(
     total: usize,
     record_kind: RecordKind,

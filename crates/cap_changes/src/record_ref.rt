@@ -217,7 +217,11 @@ fn first_field<'a, A: AllocHandle>(bytes: &'a [u8]) -> (Option<ValueRef<'a>>, &'
     ensures front { result.1.now ≡ take (length bytes.now - length result.2.now) bytes.now }
 {
     let (field, rest) = stored_field::<A>(bytes);
-    (field, &bytes[..bytes.len() - rest.len()], rest)
+    (
+        field,
+        &bytes[..bytes.len().saturating_sub(rest.len())],
+        rest,
+    )
 }
 
 impl<'a, A: AllocHandle> Iterator for RecordRef<'a, A> {

@@ -8,5 +8,6 @@ slice_bounds-write_inverse-end g c = let within = ends_within _ _ _ _ _ _ _ c.lo
 
 pub loop-change-preserved : goal.loop-change-preserved
 loop-change-preserved g c =
-    one_more c.args.flags.now c.loop-change.bytes c.write_inverse.new.bytes _ c.loop-change.begin (c.loop-change.begin + length c.as_bytes.result.now) c.loop-change.change-iterator c.next.new.self c.in-Some.change _ c.loop-change.invariant c.in-Some.ensures.steps (ap (λ (b : List ℕ). c.loop-change.begin + length b) c.as_bytes.ensures.bytes) c.in_ok-write_inverse.ensures
-    (ap (λ (b : List ℕ). take c.loop-change.begin c.loop-change.bytes ++ (c.write_inverse.new.bytes ++ b)) (drop-drop _ c.loop-change.begin c.loop-change.bytes ∙ ap (λ (n : ℕ). drop n c.loop-change.bytes) (omega arith)))
+    one_more c.args.flags.now c.loop-change.bytes _ c.loop-change.begin (c.loop-change.begin + length c.as_bytes.result.now) c.loop-change.change-iterator c.next.new.self c.in-Some.change _ c.loop-change.invariant c.in-Some.ensures.steps (ap (λ (b : List ℕ). c.loop-change.begin + length b) c.as_bytes.ensures.bytes)
+    (ap (λ (b : List ℕ). take c.loop-change.begin c.loop-change.bytes ++ (c.write_inverse.new.bytes ++ b)) (drop-drop _ c.loop-change.begin c.loop-change.bytes ∙ ap (λ (n : ℕ). drop n c.loop-change.bytes) (omega arith))
+    ∙ ap (λ (b : List ℕ). take c.loop-change.begin c.loop-change.bytes ++ (b ++ drop (c.loop-change.begin + length c.as_bytes.result.now) c.loop-change.bytes)) c.in_ok-write_inverse.ensures)
