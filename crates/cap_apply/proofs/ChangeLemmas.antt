@@ -1,6 +1,6 @@
 -- One change: its table, its conflict, and what it leaves.
 use Rattle.std.proofs.Common.{◌≡◌, ℕ, Bool, true, Option, Some, None, Result, Ok, Err, List, length, refl, sym, ap, ◌∙◌, arith, IfOk, is_some}
-use Rattle.cap_apply.proofs.Common.{AnswersUnlessMemory, LeavesUnlessMemory, Fault, Refused, OutOfMemory, Fields, fields_cmp, get, TableState, Tables, table_of, Change, RecordFields, AppliedState, change_applied, change_at, change_in, with_row, with_row_in, Requested, is_made, conflict_of, key_record_of, key_values, missed, row_after, columns_fit, target, ConflictKind, Policy}
+use Rattle.cap_apply.proofs.Common.{Fields, fields_cmp, get, TableState, Tables, table_of, Change, RecordFields, AppliedState, change_applied, change_at, change_in, with_row, with_row_in, Requested, conflict_of, key_record_of, key_values, row_after, columns_fit, target, ConflictKind, Policy}
 
 module _ {A : Type 0} where
   -- the table that a group is for
@@ -56,16 +56,3 @@ module _ {A : Type 0} where
 
 pub same_ok : {X E : Type 0} {x y : X} (answer : Result X E) → answer ≡ Ok x → answer ≡ Ok y → x ≡ y
 same_ok answer is is_too = cc
-
--- the same answer, of a call that answers what is left
-pub answers_err : (X Y : Type 0) {E : Type 0} (fault : Fault E) (a b : Result Y E) (left : Y) → a ≡ b → LeavesUnlessMemory {X = X} (Err fault) a left →
-    AnswersUnlessMemory {X = Y} (Err fault) b
-answers_err X Y (Refused why) a b left e h = sym e ∙ h
-answers_err X Y OutOfMemory a b left e h = tt
-
-module _ {A : Type 0} where
-  -- there is nothing to replace where no row was found
-  pub missed_made : (policy : Policy) (number : ℕ) (flags : List Bool) (old : RecordFields A) (before : Option (Fields A)) →
-      is_made policy number (missed flags old before) ≡ Ok true → (row : Fields A) × (before ≡ Some row)
-  missed_made policy number flags old None e = absurd (grind arith)
-  missed_made policy number flags old (Some row) e = (row, refl)

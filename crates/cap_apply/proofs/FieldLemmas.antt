@@ -80,3 +80,8 @@ module _ {A : Type 0} where
   pub full_values : (values : Fields A) → map (λ field. unwrap_or field Null) (full_record values) ≡ values
   full_values [] = refl
   full_values (value ∷ values) = ap (λ (l : Fields A). value ∷ l) (full_values values)
+
+-- where nothing is left to go over, and what the columns of a loop have in front
+pub ruleset no_more_fields = (no_fields, append-nil)
+
+pub ruleset old_values = (no_old, no_row, flags-cons)

@@ -22,11 +22,14 @@ module _ {A : Type 0} where
   same_patch flags patch fits = grind (arith, update_same {A = A} flags, alone_same {A = A} flags)
 
   -- the key of a change is that of its patch
-  pub change_key : (flags : List Bool) (change : RowChange A) → Keyed flags (patch_of flags change) → key_values flags (key_record_of (patch_of flags change)) ≡ key_values flags (key_record change)
-  change_key flags change keyed = grind (arith, update_key {A = A} flags, record_key {A = A} flags)
+  pub change_key : (flags : List Bool) (change : RowChange A) → patch_fits flags (patch_of flags change) ≡ true → key_values flags (key_record_of (patch_of flags change)) ≡ key_values flags (key_record change)
+  change_key flags change fits = grind (arith, patch-keyed flags (patch_of flags change) fits, update_key {A = A} flags, record_key {A = A} flags)
 
-  pub its_key : (flags : List Bool) (change : RowChange A) → has_key flags ≡ true → Keyed flags (patch_of flags change) → is_key (key_values flags (key_record change)) ≡ true
-  its_key flags change key keyed = ap is_key (sym (change_key flags change keyed)) ∙ is_key-key_values flags (key_record_of (patch_of flags change)) key keyed
+  pub its_key : (flags : List Bool) (change : RowChange A) → has_key flags ≡ true → patch_fits flags (patch_of flags change) ≡ true → is_key (key_values flags (key_record change)) ≡ true
+  its_key flags change key fits = ap is_key (sym (change_key flags change fits)) ∙ is_key-key_values flags (key_record_of (patch_of flags change)) key (patch-keyed flags (patch_of flags change) fits)
 
   pub change_has_key : (flags : List Bool) (change : RowChange A) → has_key flags ≡ true → change_fits flags change ≡ true → is_key (key_values flags (key_record change)) ≡ true
-  change_has_key flags change key fits = its_key flags change key (change-keyed flags change fits)
+  change_has_key flags change key fits = its_key flags change key (patch_of-fits flags change fits)
+
+-- what a change of a blob requests
+pub ruleset requests = (patch_of-fits, same_patch)

@@ -31,16 +31,13 @@ module _ {A : Type 0} where
   set_key (flag ∷ flags) (own ∷ schema) (field ∷ fields) (value ∷ row) fit met wide = let rest = set_key flags schema fields row in grind (arith, rest)
   set_key flags schema fields row fit met wide = cc
 
-  no_null : (flags : List Bool) (fields : RecordFields A) → satisfy (requirements record_kinds.Keyed flags) fields ≡ true → list_any is_null (key_values flags fields) ≡ false
-  no_null (flag ∷ flags) (field ∷ fields) met = let rest = no_null flags fields in grind (arith, rest)
-  no_null flags fields met = cc
-
-  some_key : (flags : List Bool) (fields : RecordFields A) → has_key flags ≡ true → satisfy (requirements record_kinds.Keyed flags) fields ≡ true → nat_le 1 (length (key_values flags fields)) ≡ true
-  some_key (flag ∷ flags) (field ∷ fields) key met = let rest = some_key flags fields in grind (arith, rest)
-  some_key flags fields key met = cc
+  key_defined : (flags : List Bool) (fields : RecordFields A) → satisfy (requirements record_kinds.Keyed flags) fields ≡ true
+      → (list_any is_null (key_values flags fields) ≡ false) × (has_key flags ≡ true → nat_le 1 (length (key_values flags fields)) ≡ true)
+  key_defined (flag ∷ flags) (field ∷ fields) met = let rest = key_defined flags fields in grind (arith, rest)
+  key_defined flags fields met = grind arith
 
   pub is_key-key_values : (flags : List Bool) (fields : RecordFields A) → has_key flags ≡ true → satisfy (requirements record_kinds.Keyed flags) fields ≡ true → is_key (key_values flags fields) ≡ true
-  is_key-key_values flags fields key met = grind (arith, some_key flags fields key met, no_null flags fields met)
+  is_key-key_values flags fields key met = grind (arith, key_defined flags fields met)
 
   -- ---- rows
 
@@ -94,13 +91,10 @@ module _ {A : Type 0} where
   past_it n m value rest (old ∷ row) l =
       grind (arith, past_it n (m + 1) value rest row (omega arith), ne_eqb n m (λ e. omega arith))
 
-  none_set : (n : ℕ) (row : Fields A) → map (λ field. new_value [] field.0 field.1) (enumerate_from n row) ≡ row
-  none_set n [] = refl
-  none_set n (value ∷ row) = grind (arith, none_set (n + 1) row)
-
   set_from : (n : ℕ) (fields : RecordFields A) (row : Fields A) →
       map (λ field. new_value (assigned_from n fields) field.0 field.1) (enumerate_from n row) ≡ set_fields fields row
-  set_from n [] row = none_set n row
+  set_from n [] [] = refl
+  set_from n [] (value ∷ row) = grind (arith, set_from (n + 1) [] row)
   set_from n (field ∷ fields) [] = refl
   set_from n (None ∷ fields) (old ∷ row) = grind (arith, value_kept (n + 1) fields n old (omega arith), set_from (n + 1) fields row)
   set_from n (Some value ∷ fields) (old ∷ row) =

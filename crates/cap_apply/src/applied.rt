@@ -1,12 +1,11 @@
 //! The result of applying a blob, and its steps.
 ghost use Rattle.std.specs.Prelude.{◌≡◌, [], ◌∷◌, Some, IfSome, IsTrue, OnOk, is_some, length};
-ghost use Rattle.std.specs.Option.{option_copied};
+ghost use Rattle.std.specs.Option.{option_copied, unwrap_or};
 ghost use Rattle.cap_value.specs.Memory.{LeavesUnlessMemory};
 ghost use Rattle.cap_row.specs.Schema.{has_key};
-ghost use Rattle.cap_table.specs.Table.{TableState};
 ghost use Rattle.cap_database.specs.Keyed.{IsOwnRow};
 ghost use Rattle.cap_database.specs.Read.{row_at};
-ghost use Rattle.cap_database.specs.Tables.{table_of};
+ghost use Rattle.cap_database.specs.Tables.{schema_of, table_of};
 ghost use Rattle.cap_apply.specs.Apply.{change_applied, nothing_applied, skipped};
 ghost use Rattle.cap_apply.specs.Merged.{merged, row_replaced, with_changes};
 ghost use Rattle.cap_apply.specs.Target.{target};
@@ -113,6 +112,7 @@ impl<A: AllocHandle> Applied<A> {
     /// Applies a change of a group of this table and these columns, after what was applied before it. The row
     /// under its key is looked at and its conflict is judged. Where the change is to be made, the row that it
     /// leaves then stands in the place of that row.
+    #[tactic(auto, using(crate::proofs::MadeLemmas::change_is))]
     pub fn apply_change<C: BlobChange<A>>(
         &mut self,
         change: &EntryRef<'_, C>,
@@ -216,8 +216,7 @@ fn row_and_width<'a, A: AllocHandle>(
     key: &Key<A>,
 ) -> (Option<&'a Row<A>>, usize)
     ensures row { option_copied result.0 ≡ row_at database.now table.now key.now }
-    ensures width { (found : TableState A) → table_of database.now table.now ≡ Some found
-        → result.1 ≡ length found.schema }
+    ensures width { result.1 ≡ length (unwrap_or (schema_of database.now table.now) []) }
 {
     match database.table(table) {
         Some(found) => (found.keyed().get(key), found.schema().width()),

@@ -1,10 +1,9 @@
 //! Applying a blob to a database.
-ghost use Rattle.std.specs.Prelude.{◌≡◌, ◌+◌, ◌<◌, ◌^◌, length, map, IsTrue, is_some};
+ghost use Rattle.std.specs.Prelude.{◌≡◌, ◌+◌, ◌<◌, ◌^◌, length, map};
 ghost use Rattle.cap_value.specs.Memory.{AnswersUnlessMemory, LeavesUnlessMemory};
-ghost use Rattle.cap_apply.specs.Apply.{changes_applied, groups_applied};
+ghost use Rattle.cap_apply.specs.Apply.{group_applied, groups_applied};
 ghost use Rattle.cap_apply.specs.Apply as whole;
 ghost use Rattle.cap_apply.specs.Requested.{requested_in};
-ghost use Rattle.cap_apply.specs.Target.{target};
 
 use crate::decision::Decision;
 use crate::entry::BlobChange;
@@ -32,50 +31,51 @@ pub fn apply<A: AllocHandle>(
 ) -> Result<Applied<A>, Fault<Refusal>>
     ensures { AnswersUnlessMemory result (whole.apply database.now blob.now policy) }
 {
-    let mut applied = Applied::new(alloc, database.snapshot()?);
+    let applied = Applied::new(alloc, database.snapshot()?);
     match blob {
-        Contents::Changes(list) => apply_groups(&mut applied, policy, list.groups())?,
-        Contents::Patches(list) => apply_groups(&mut applied, policy, list.groups())?,
+        Contents::Changes(list) => apply_groups(applied, policy, list.groups()),
+        Contents::Patches(list) => apply_groups(applied, policy, list.groups()),
     }
-    Ok(applied)
 }
 
 fn apply_groups<C: BlobChange<A>, A: AllocHandle>(
-    applied: &mut Applied<A>,
+    applied: Applied<A>,
     policy: Policy,
     groups: &[TableGroup<C, A>],
-) -> Result<(), Fault<Refusal>>
-    ensures { LeavesUnlessMemory result (groups_applied policy 0 0 (map (requested_in C.requested) groups.now)
-        applied.old) applied.new }
+) -> Result<Applied<A>, Fault<Refusal>>
+    ensures { AnswersUnlessMemory result
+        (groups_applied policy 0 0 (map (requested_in C.requested) groups.now) applied) }
 {
+    let mut applied = applied;
     let mut number = 0u64;
     for (place, group) in groups.iter().enumerate() {
         // No memory holds a blob with this many changes.
         let Some(next) = number.checked_add(group.changes().len() as u64) else {
             return Err(Fault::OutOfMemory);
         };
-        if applied.has_target(group.table(), group.schema()) {
-            apply_group(applied, policy, number, group)?;
-        } else {
-            applied.skip(place as u64)?;
-        }
+        apply_group(&mut applied, policy, place as u64, number, group)?;
         number = next;
     }
-    Ok(())
+    Ok(applied)
 }
 
+#[tactic(auto, using(crate::proofs::GroupLemmas::group_there, crate::proofs::GroupLemmas::group_skipped))]
 fn apply_group<C: BlobChange<A>, A: AllocHandle>(
     applied: &mut Applied<A>,
     policy: Policy,
+    place: u64,
     number: u64,
     group: &TableGroup<C, A>,
 ) -> Result<(), Fault<Refusal>>
-    requires fits { number + length group.now.changes < 2 ^ 64 }
-    requires target { IsTrue (is_some (target applied.old.database group.now.table group.now.schema)) }
-    ensures { LeavesUnlessMemory result (changes_applied policy number group.now.table group.now.schema
-        (map (C.requested group.now.schema) group.now.changes) applied.old) applied.new }
+    requires { number + length group.now.changes < 2 ^ 64 }
+    ensures { LeavesUnlessMemory result
+        (group_applied policy place number (requested_in C.requested group.now) applied.old) applied.new }
 {
     let (table, columns) = (group.table(), group.schema());
+    if !applied.has_target(table, columns) {
+        applied.skip(place)?;
+        return Ok(());
+    }
     let mut number = number;
     for change in group.changes() {
         let decision = Decision { number, policy };

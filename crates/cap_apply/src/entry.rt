@@ -28,6 +28,7 @@ impl<A: AllocHandle> BlobChange<A> for RowChange<A> {
 
     ghost requested = { λ flags change. requested_by_change flags change };
 
+    #[tactic(auto, using(crate::proofs::KeyLemmas::requests))]
     fn request<'a>(change: &EntryRef<'a, Self>, _columns: &Schema<A>) -> RequestedRef<'a, A> {
         RequestedRef {
             change: change.read(),
@@ -41,6 +42,7 @@ impl<A: AllocHandle> BlobChange<A> for Patch<A> {
 
     ghost requested = { λ flags patch. requested_by_patch flags patch };
 
+    #[tactic(auto, using(crate::proofs::KeyLemmas::requests))]
     fn request<'a>(change: &EntryRef<'a, Self>, _columns: &Schema<A>) -> RequestedRef<'a, A> {
         RequestedRef {
             change: as_change(change.read()),

@@ -5,12 +5,11 @@ ghost use Rattle.cap_value.specs.Value.{IsValue};
 ghost use Rattle.cap_value.specs.declared.value.Value.{Value};
 ghost use Rattle.cap_field.specs.FieldReading.{value_of};
 ghost use Rattle.cap_changes.specs.Field.{field_bytes};
-ghost use Rattle.cap_changes.specs.FieldReading.{field_of};
 ghost use Rattle.cap_changes.specs.Patch.{update_record};
 ghost use Rattle.cap_changes.specs.Requirements.{requirements, satisfy};
 ghost use Rattle.cap_changes.specs.declared.record_kind.RecordKind.TheVariants.{Full};
 ghost use Rattle.cap_row.specs.Key.{is_key};
-ghost use Rattle.cap_apply.specs.Row.{has_old_values, has_old_value, key_values, new_row, set_fields};
+ghost use Rattle.cap_apply.specs.Row.{has_old_values, key_values, new_row, set_fields};
 
 use cap_changes::RecordRef;
 use cap_field::{UNDEFINED, ValueRef};
@@ -57,6 +56,7 @@ fn only_value<'a, A: AllocHandle>(flags: &[bool], fields: &RecordRef<'a, A>) -> 
     only
 }
 
+#[tactic(auto, using(crate::proofs::FieldLemmas::no_more_fields))]
 fn key_values<A: AllocHandle>(
     alloc: A,
     flags: &[bool],
@@ -163,6 +163,7 @@ fn push_field<A: AllocHandle>(
 }
 
 // Whether the row has each old value of the change outside the key.
+#[tactic(auto, using(crate::proofs::FieldLemmas::old_values))]
 pub(crate) fn has_old_values<A: AllocHandle>(
     flags: &[bool],
     old: &RecordRef<'_, A>,
@@ -179,18 +180,12 @@ pub(crate) fn has_old_values<A: AllocHandle>(
         let Some(value) = rest.next_value() else {
             return true;
         };
-        if !has_old_value::<A>(*key, old, value) {
+        if let Some(old) = old
+            && !*key
+            && !old.same::<A>(value)
+        {
             return false;
         }
     }
     true
-}
-
-fn has_old_value<A: AllocHandle>(key: bool, old: Option<ValueRef<'_>>, value: ValueRef<'_>) -> bool
-    ensures { result ≡ has_old_value {A = A} key (field_of old.entry) (value_of value.entry) }
-{
-    match old {
-        Some(old) => key || old.same::<A>(value),
-        None => true,
-    }
 }

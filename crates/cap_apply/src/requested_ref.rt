@@ -5,7 +5,7 @@ ghost use Rattle.cap_row.specs.Schema.{has_key};
 ghost use Rattle.cap_changes.specs.ChangeRef.{change_of};
 ghost use Rattle.cap_changes.specs.Fits.{patch_fits};
 ghost use Rattle.cap_apply.specs.Requested.{key_record, requested_by};
-ghost use Rattle.cap_apply.specs.Row.{conflict_of, key_record_of, key_values, missed, row_after, taken};
+ghost use Rattle.cap_apply.specs.Row.{conflict_of, key_record_of, key_values, missed, row_after};
 
 use crate::ConflictKind;
 use crate::fields::{has_old_values, key_of_fields, new_row, updated};
@@ -25,6 +25,7 @@ pub struct RequestedRef<'a, A: AllocHandle> {
 
 impl<'a, A: AllocHandle> RequestedRef<'a, A> {
     /// The key that it names.
+    #[tactic(auto, using(crate::proofs::KeyLemmas::change_key, crate::proofs::KeyLemmas::its_key))]
     pub fn key(&self, alloc: A, columns: &Schema<A>) -> Result<Key<A>, OutOfMemory>
         requires keyed { IsTrue (has_key columns.now) }
         requires fits { IsTrue (patch_fits columns.now (requested_by columns.now self.now).patch) }
@@ -41,7 +42,10 @@ impl<'a, A: AllocHandle> RequestedRef<'a, A> {
     {
         let flags = columns.flags();
         match &self.change {
-            ChangeRef::Insert { .. } => taken(row),
+            ChangeRef::Insert { .. } => match row {
+                None => None,
+                Some(_) => Some(ConflictKind::Conflict),
+            },
             ChangeRef::Update { old, .. } => missed(flags, self.has_old, old, row),
             ChangeRef::Delete { old, .. } => missed(flags, self.has_old, old, row),
         }
@@ -66,16 +70,6 @@ impl<'a, A: AllocHandle> RequestedRef<'a, A> {
             ChangeRef::Update { old, new, .. } => updated(alloc, flags, old, new, before),
             ChangeRef::Delete { .. } => Ok(None),
         }
-    }
-}
-
-// The conflict of an insert, if any.
-fn taken<A: AllocHandle>(row: Option<&Row<A>>) -> Option<ConflictKind>
-    ensures { result ≡ taken (option_copied row.entry) }
-{
-    match row {
-        None => None,
-        Some(_) => Some(ConflictKind::Conflict),
     }
 }
 

@@ -10,12 +10,12 @@ use Rattle.cap_database_laws.proofs.UndoneLemmas.{put-again, put-found}
 use Rattle.cap_changes.specs.declared.record_kind.RecordKind.TheVariants as record_kinds
 use Rattle.cap_changes.specs.declared.patch.Patch.TheVariants as patched
 use Rattle.cap_changes.proofs.PatchLemmas.{update_fits}
-use Rattle.cap_apply.proofs.Common.{length-map, IfOk-at_ok, IfOk-weaker, bytes_cmp, Refusal, Fields, fields_cmp, fields_cmp_total, fields_eq_decides, key_fields, key_of, has_key, get, put_entry, take_entry, with_key, without, IsRising, TableState, Key, found-own, fields_same, changes_to, run, AreRising, Tables, Direct, Change, RecordFields, change_fits, patch_fits, patch_of, update_record, new_requirements, requirements, satisfy, RowChange, Patch, Contents, AppliedState, apply, change_applied, change_in, concluded, counted, left_out, noted, nothing_applied, with_row_in, FitsItsColumns, AreRun, IsMadeOrOmitted, deletes, directly, inserts, operations_of_change, operations_of_patch, other_fields, answer_to, is_made, made_anyway, Requested, requested_by_change, requested_by_patch, requested_of, conflict_of, key_record_of, key_values, new_row, row_after, set_fields, columns_fit, target}
+use Rattle.cap_apply.proofs.Common.{missed, length-map, IfOk-at_ok, IfOk-weaker, bytes_cmp, Refusal, Fields, fields_cmp, fields_cmp_total, fields_eq_decides, key_fields, key_of, has_key, get, put_entry, take_entry, with_key, without, IsRising, TableState, Key, found-own, fields_same, changes_to, run, AreRising, Tables, Direct, Change, RecordFields, change_fits, patch_fits, patch_of, update_record, new_requirements, requirements, satisfy, RowChange, Patch, Contents, AppliedState, apply, change_applied, change_in, concluded, counted, left_out, noted, nothing_applied, with_row_in, FitsItsColumns, AreRun, IsMadeOrOmitted, deletes, directly, inserts, operations_of_change, operations_of_patch, other_fields, answer_to, is_made, made_anyway, Requested, requested_by_change, requested_by_patch, requested_of, conflict_of, key_record_of, key_values, new_row, row_after, set_fields, columns_fit, target}
 use Rattle.cap_apply.specs.declared.conflict.ConflictKind.{ConflictKind}
 use Rattle.cap_apply.specs.declared.policy.Policy.{Policy}
 use Rattle.cap_apply.specs.declared.policy.Answer.{Answer}
 use Rattle.cap_apply.specs.declared.policy.Answer.TheVariants.{Omit}
-use Rattle.cap_apply.proofs.ChangeLemmas.{HasTarget, applied_at, missed_made, the_target}
+use Rattle.cap_apply.proofs.ChangeLemmas.{HasTarget, applied_at, the_target}
 use Rattle.cap_apply.proofs.GroupLemmas.{groups_keep}
 use Rattle.cap_apply.proofs.KeyLemmas.{Keyed, change-keyed, patch-keyed}
 use Rattle.cap_apply.proofs.OperationLemmas.{delete_is, insert_is, update_is}
@@ -28,6 +28,12 @@ omits : (number : ℕ) (kind : ConflictKind) (answer : Answer) → made_anyway n
 omits number kind answer e = grind arith
 
 module _ {A : Type 0} where
+  -- there is nothing to replace where no row was found
+  missed_made : (policy : Policy) (number : ℕ) (flags : List Bool) (old : RecordFields A) (before : Option (Fields A)) →
+      is_made policy number (missed flags old before) ≡ Ok true → (row : Fields A) × (before ≡ Some row)
+  missed_made policy number flags old None e = absurd (grind arith)
+  missed_made policy number flags old (Some row) e = (row, refl)
+
   -- a row that is put where another was taken out
   put-taken : (es : List (Fields A × Fields A)) (key row : Fields A) → is_sorted fields_cmp es ≡ true → put_entry fields_cmp (take_entry fields_cmp es key) key row ≡ put_entry fields_cmp es key row
   put-taken es key row s =
