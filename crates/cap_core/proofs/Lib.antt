@@ -1,5 +1,6 @@
 pub mod CarriedLemmas
 pub mod ChangeLemmas
+pub mod ChangesetLemmas
 pub mod CommitLemmas
 pub mod Crossing
 pub mod DiffLemmas

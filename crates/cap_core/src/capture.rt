@@ -11,8 +11,9 @@ ghost use Rattle.cap_codec.specs.Patchset.{patch_list_bytes, patch_list_bytes_wi
 ghost use Rattle.cap_core.specs.Capture.{changes_of, session_changes, table_changes};
 ghost use Rattle.cap_core.specs.CanCapture.{are_own_records, are_own_tables, is_own_session};
 
+use crate::changeset::changeset_of;
 use cap_changes::{ChangeList, Group, is_changed, to_patches};
-use cap_codec::{KeyFlags, write_changes_with, write_patches_with};
+use cap_codec::{KeyFlags, write_patches_with};
 use cap_database::Database;
 use cap_session::{Attached, Records, Session};
 use cap_table::Table;
@@ -77,8 +78,7 @@ impl<A: AllocHandle> Capture<A> {
     pub fn changeset_with(&self, alloc: A, key_flags: KeyFlags) -> Result<Vec<u8, A>, OutOfMemory>
         ensures { IfOk result (λ bytes. bytes.items ≡ list_bytes_with key_flags self.now.changes) }
     {
-        let changes = self.changes(alloc)?;
-        write_changes_with(alloc, key_flags, &changes)
+        changeset_of(alloc, key_flags, self.session.attached(), &self.main)
     }
 
     /// The bytes of the patchset (The Session Extension, "sqlite3session_patchset").

@@ -2,6 +2,7 @@
 #![tactic(auto)]
 
 mod capture;
+mod changeset;
 mod command;
 mod commit_hook;
 mod diff;
