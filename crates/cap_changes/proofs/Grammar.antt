@@ -19,7 +19,7 @@ use Rattle.cap_changes.specs.Spelling.{SpellsOperation, SpellsRecords, SpellsPat
 use Rattle.cap_changes.specs.declared.operation.Operation.{Operation}
 use Rattle.cap_changes.specs.declared.operation.Operation.TheVariants as operations
 use Rattle.cap_changes.specs.declared.record_kind.RecordKind.{RecordKind}
-use Rattle.cap_changes.specs.declared.record_kind.RecordKind.TheVariants.{Full, Keyed, KeyAlone}
+use Rattle.cap_changes.specs.declared.record_kind.RecordKind.TheVariants.{Full, Keyed}
 use Rattle.cap_changes.specs.declared.row_change.RowChange.{RowChange}
 use Rattle.cap_changes.specs.declared.row_change.RowChange.TheVariants as changed
 use Rattle.cap_changes.specs.declared.patch.Patch.{Patch}

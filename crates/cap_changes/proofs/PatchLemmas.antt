@@ -1,5 +1,5 @@
 -- The patch of a change that fits its table fits it too.
-use Rattle.std.proofs.Common.{◌≡◌, List, [], ◌∷◌, Bool, true, arith}
+use Rattle.std.proofs.Common.{◌≡◌, List, ◌∷◌, Bool, true, arith}
 use Rattle.cap_changes.specs.FieldRecord.{RecordFields}
 use Rattle.cap_changes.specs.Requirements.{requirements, new_requirements, satisfy}
 use Rattle.cap_changes.specs.Fits.{change_fits, patch_fits}

@@ -1,5 +1,5 @@
 -- Entries as their bytes, one after another, and where each ends.
-use Rattle.std.proofs.Common.{◌≡◌, ℕ, zero, suc, ◌-◌, ◌≤◌, ◌<◌, Bool, List, [], ◌∷◌, ◌++◌, length, take, drop, get_or, slice_get, Option, Some, None, IsTrue, Result, Ok, Err, is_ok, refl, sym, ap, subst, ◌∙◌, append-nil, length-append, length-drop, arith, if◌then◌else◌}
+use Rattle.std.proofs.Common.{◌≡◌, ℕ, zero, suc, ◌-◌, ◌≤◌, ◌<◌, Bool, List, [], ◌∷◌, ◌++◌, length, take, drop, get_or, slice_get, Option, Some, IsTrue, Result, Ok, Err, is_ok, refl, sym, ap, subst, ◌∙◌, append-nil, length-append, length-drop, arith, if◌then◌else◌}
 use mathlib.Core.List.{IsPrefix}
 use Rattle.std.specs.Prelude.{All, OnOk, OnErr}
 use Rattle.std.specs.List.{AllByRecursion, flat_map}

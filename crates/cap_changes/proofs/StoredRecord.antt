@@ -135,9 +135,9 @@ module _ (A : Type 0) where
       (sym view ∙ f.fields, grind (arith, f.parts, length-append (field_bytes field) rest, take-append_seam (field_bytes field) rest), f.fits)
 
 -- the bytes of a record that has all fields are not empty
-pub whole_left : (keys : Option (List Bool)) (bytes : List ℕ) → keys ≡ None → (length bytes == 0) ≡ false → HasFirst keys keys bytes
-whole_left keys [] none some = absurd cc
-whole_left keys (byte ∷ bytes) none some = inl (none, none, omega arith)
+pub whole_left : (keys others : Option (List Bool)) (bytes : List ℕ) → keys ≡ None → others ≡ None → (length bytes == 0) ≡ false → HasFirst keys others bytes
+whole_left keys others [] none none' some = absurd cc
+whole_left keys others (byte ∷ bytes) none none' some = inl (none, none', omega arith)
 
 -- the columns behind the first, as a pattern gives them
 abbrev pub Others : List Bool → List Bool
@@ -147,8 +147,8 @@ pub first_flag : (keys : Option (List Bool)) (flags : List Bool) (key d : Bool) 
 first_flag keys [] key d some long is = absurd (omega arith)
 first_flag keys (flag ∷ flags) key d some long is = rw (some, is, take_all (length (flag ∷ flags) - 1) flags (omega arith)) refl
 
-pub key_left : (keys : Option (List Bool)) (flags : List Bool) (bytes : List ℕ) (d : Bool) → keys ≡ Some flags → 1 ≤ length flags → get_or flags 0 d ≡ true → HasFirst keys (Some (Others flags)) bytes
-key_left keys flags bytes d some long inside = inr (Others flags, first_flag keys flags true d some long inside, refl)
+pub key_left : (keys others : Option (List Bool)) (flags : List Bool) (bytes : List ℕ) (d : Bool) → keys ≡ Some flags → others ≡ Some (Others flags) → 1 ≤ length flags → get_or flags 0 d ≡ true → HasFirst keys others bytes
+key_left keys others flags bytes d some left long inside = inr (Others flags, first_flag keys flags true d some long inside, left)
 
 -- ---- a field that is defined is a value
 

@@ -1,5 +1,5 @@
 -- The records of a touched key, field by field.
-use Rattle.std.proofs.Common.{arith, ◌≡◌, ℕ, ◌+◌, ◌<◌, List, [], ◌∷◌, ◌++◌, Bool, true, false, not, ◌&&◌, ◌||◌, cond, length, drop, get_or, Option, refl, ap, ◌∙◌}
+use Rattle.std.proofs.Common.{arith, ◌≡◌, ℕ, List, [], ◌∷◌, ◌++◌, Bool, true, false, not, ◌&&◌, ◌||◌, cond, Option, refl, ap}
 use Rattle.std.proofs.lemmas.Bool.Decides.{same_from_decides}
 use Rattle.std.proofs.lemmas.Slice.Eq.{bytes_eq-Decides}
 use Rattle.cap_value.specs.Bytes.{bytes_eq}
@@ -7,12 +7,9 @@ use Rattle.cap_value.specs.declared.value.Value.{Value}
 use Rattle.cap_value.specs.Value.{IsValue, value_eq, value_eq_decides}
 use Rattle.cap_field.specs.Field.{value_bytes, values_bytes}
 use Rattle.cap_field.proofs.FieldAgain.{value_again}
-use Rattle.cap_row.specs.Encoding.{BeginsWith}
 use Rattle.cap_row.specs.Fields.{Fields}
 use Rattle.cap_changes.specs.Change.{full_record, old_field, new_field}
-use Rattle.cap_changes.specs.Column.{by_column}
 use Rattle.cap_changes.specs.Field.{record_bytes, field_bytes}
-use Rattle.cap_changes.proofs.PutLemmas.{goes_on}
 
 module _ {A : Type 0} where
   -- the bytes of a row are those of the record in which every field is defined
@@ -35,15 +32,6 @@ module _ {A : Type 0} where
   side_field false key image now = new_field key image now
 
   -- by the bytes of its fields
-  side_by_bytes : (old key : Bool) (a b : Value A) → IsValue a → IsValue b
+  pub side_by_bytes : (old key : Bool) (a b : Value A) → IsValue a → IsValue b
       → cond ((old && key) || (not key && not (bytes_eq (value_bytes a) (value_bytes b)))) (cond old (value_bytes a) (value_bytes b)) (0 ∷ []) ≡ field_bytes (side_field old key a b)
   side_by_bytes old key a b p q = grind (arith, eq_by_bytes a b p q)
-
-  -- one column more, by the bytes of its fields
-  pub side_goes_on : (old : Bool) (flags : List Bool) (i : ℕ) (image now image' now' : List (Value A)) (was is : List ℕ) (out new all : List ℕ) → i < length flags
-      → out ++ record_bytes (by_column (side_field old) (drop i flags) image now) ≡ all → BeginsWith image was image' → BeginsWith now is now'
-      → new ≡ out ++ cond ((old && get_or flags i false) || (not (get_or flags i false) && not (bytes_eq was is))) (cond old was is) (0 ∷ [])
-      → new ++ record_bytes (by_column (side_field old) (drop (i + 1) flags) image' now') ≡ all
-  side_goes_on old flags i image now image' now' was is out new all lt so (a, ia, (wa, p)) (b, ib, (wb, q)) new_is =
-      goes_on (side_field old) flags i image now image' now' a b out new all lt so ia ib
-      (new_is ∙ ap (λ (r : List ℕ). out ++ r) (rw (wa, wb) (side_by_bytes old (get_or flags i false) a b p q)))

@@ -68,6 +68,7 @@ pub(crate) fn push_patch<A: AllocHandle>(
 }
 
 /// Appends the key fields of `old`, and the other fields of `new`.
+#[tactic(auto, using(crate::proofs::PutLemmas::no_pairs, std::proofs::lemmas::Grind::common_steps))]
 pub fn push_update_record<A: AllocHandle>(
     out: &mut Vec<u8, A>,
     flags: &[bool],

@@ -96,10 +96,7 @@ impl<'a, A: AllocHandle> RecordRef<'a, A> {
         ensures field { TakesFirst field_of self.old result self.new }
         ensures fits { IfSome result (λ field. IfSome (field_of {A = A} field) IsValue) }
     {
-        match self.next_parts() {
-            Some((field, _)) => Some(field),
-            None => None,
-        }
+        Some(self.next_parts()?.0)
     }
 
     /// The next field, as its bytes, a zero byte where it is undefined.
@@ -108,10 +105,7 @@ impl<'a, A: AllocHandle> RecordRef<'a, A> {
         ensures { MatchOption result ((self.old ≡ []) × (self.new ≡ []))
             (λ field. BeginsWithField self.old field.now self.new) }
     {
-        match self.next_parts() {
-            Some((_, bytes)) => Some(bytes),
-            None => None,
-        }
+        Some(self.next_parts()?.1)
     }
 
     // The next field, and its bytes.
@@ -121,15 +115,9 @@ impl<'a, A: AllocHandle> RecordRef<'a, A> {
         ensures { MatchOption result ((self.old ≡ []) × (self.new ≡ [])) (λ parts.
             IsFirstField self.old (field_of parts.0) parts.1.now self.new) }
     {
-        match self.keys {
-            None => {
-                if self.bytes.is_empty() {
-                    return None;
-                }
-                let (field, front, rest) = first_field::<A>(self.bytes);
-                self.bytes = rest;
-                Some((field, front))
-            }
+        let keys = match self.keys {
+            None if self.bytes.is_empty() => return None,
+            None => None,
             Some(keys) => {
                 let [key, others @ ..] = keys else {
                     return None;
@@ -138,15 +126,17 @@ impl<'a, A: AllocHandle> RecordRef<'a, A> {
                     self.keys = Some(others);
                     return Some((None, NO_FIELD));
                 }
-                let (field, front, rest) = first_field::<A>(self.bytes);
-                *self = RecordRef {
-                    bytes: rest,
-                    keys: Some(others),
-                    marker: PhantomData,
-                };
-                Some((field, front))
+                Some(others)
             }
-        }
+        };
+        let (field, rest) = stored_field::<A>(self.bytes);
+        let front = &self.bytes[..self.bytes.len().saturating_sub(rest.len())];
+        *self = RecordRef {
+            bytes: rest,
+            keys,
+            marker: PhantomData,
+        };
+        Some((field, front))
     }
 
     /// The value of the column so many places on, none where it is undefined or outside the record.
@@ -207,21 +197,6 @@ impl<'a, A: AllocHandle> RecordRef<'a, A> {
             Some(_) => Err(self),
         }
     }
-}
-
-// The field that these bytes begin with, its bytes, and those behind it.
-#[inline(always)]
-fn first_field<'a, A: AllocHandle>(bytes: &'a [u8]) -> (Option<ValueRef<'a>>, &'a [u8], &'a [u8])
-    requires { IsOk (field_at {A = A} 0 Any bytes.now) }
-    ensures read { field_at {A = A} 0 Any bytes.now ≡ Ok (field_of result.0, result.2.now) }
-    ensures front { result.1.now ≡ take (length bytes.now - length result.2.now) bytes.now }
-{
-    let (field, rest) = stored_field::<A>(bytes);
-    (
-        field,
-        &bytes[..bytes.len().saturating_sub(rest.len())],
-        rest,
-    )
 }
 
 impl<'a, A: AllocHandle> Iterator for RecordRef<'a, A> {

@@ -106,6 +106,7 @@ fn push_row<A: AllocHandle>(out: &mut Vec<u8, A>, row: &Row<A>) -> Result<(), Ou
 
 // Appends the old record of an update, the key fields and the modified fields as they were, or the new one,
 // the modified fields as they are now.
+#[tactic(auto, using(crate::proofs::PutLemmas::no_pairs, crate::proofs::TouchedLemmas::side_by_bytes, std::proofs::lemmas::Grind::common_steps))]
 fn push_side<A: AllocHandle>(
     out: &mut Vec<u8, A>,
     flags: &[bool],
@@ -128,14 +129,6 @@ fn push_side<A: AllocHandle>(
     Ok(())
 }
 
-// Whether a column is modified, by the bytes of its fields: it is not in the key, and they differ.
-#[inline(always)]
-fn is_modified(key: bool, was: &[u8], is: &[u8]) -> bool
-    ensures { result ≡ (not key && not (bytes_eq was.now is.now)) }
-{
-    !key && was != is
-}
-
 // Appends the field of a column in the old or the new record, by its bytes as they were and as they are.
 #[inline(always)]
 fn push_field<A: AllocHandle>(
@@ -150,7 +143,7 @@ fn push_field<A: AllocHandle>(
         then (if old then was.now else is.now) else 0 ∷ [])) }
     ensures begins { OnErr result (IsPrefix out.old.items out.new.items) }
 {
-    if old && key || is_modified(key, was, is) {
+    if old && key || !key && was != is {
         out.extend_from_slice(if old { was } else { is })?;
     } else {
         out.push(UNDEFINED)?;

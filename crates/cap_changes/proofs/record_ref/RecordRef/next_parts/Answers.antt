@@ -1,19 +1,29 @@
-use Rattle.std.proofs.Common.{◌∙◌, sym, ap}
+use Rattle.std.proofs.Common.{◌∙◌, sym, ap, ℕ, take}
 use Rattle.std.specs.Option.{option_copied}
-use Rattle.cap_changes.proofs.StoredRecord.{is_read, first_is, first_parts, whole_left, key_left}
+use Rattle.cap_changes.proofs.StoredRecord.{HasFirst, is_read, first_is, first_parts, whole_left, key_left}
 use Rattle.cap_changes.proofs.record_ref.RecordRef.next_parts.Goals as goal
+use Rattle.cap_changes.proofs.record_ref.RecordRef.next_parts.Goals.{in-None-2, in-Some+in-len1-up+else-not-key}
 
-pub invariant_of-self : goal.invariant_of-self
-invariant_of-self g c = (first_is g.row.A.Denot (option_copied c.self.inside.keys) _ c.self.inside.bytes.now c.first_field.result.2.now _ (whole_left _ _ (ap option_copied c.in-None.is) (sym c.is_empty.ensures ∙ c.if-is_empty.false)) c.self.invariant c.first_field.ensures.read).stored
+pub stored_field-requires : goal.stored_field-requires
+stored_field-requires g c =
+    let has : HasFirst (option_copied c.self.inside.keys) (option_copied c.match-self.keys) c.self.inside.bytes.now = elim c.match-self.branch [
+      | in-None-2 w ↦ whole_left _ _ _ (ap option_copied w.in-None.is) (ap option_copied w.keys-is) (sym w.is_empty.ensures ∙ w.if-is_empty.false)
+      | in-Some+in-len1-up+else-not-key w ↦ key_left _ _ w.in-Some.keys.now _ _ (ap option_copied w.in-Some.is) (ap option_copied w.keys-is) w.in-len1-up.len_at_least w.if-not-key.false
+    ] in
+    is_read g.row.A.Denot _ _ _ has c.self.invariant
 
-pub returns-else-is_empty : goal.returns-else-is_empty
-returns-else-is_empty g c = first_parts g.row.A.Denot (option_copied c.self.inside.keys) _ c.self.inside.bytes.now _ _ _ _ (whole_left _ _ (ap option_copied c.in-None.is) (sym c.is_empty.ensures ∙ c.if-is_empty.false)) c.self.invariant c.first_field.ensures.read c.first_field.ensures.front c.self.view_is
+pub invariant_of-self-2 : goal.invariant_of-self-2
+invariant_of-self-2 g c =
+    let has : HasFirst (option_copied c.self.inside.keys) (option_copied c.match-self.keys) c.self.inside.bytes.now = elim c.match-self.branch [
+      | in-None-2 w ↦ whole_left _ _ _ (ap option_copied w.in-None.is) (ap option_copied w.keys-is) (sym w.is_empty.ensures ∙ w.if-is_empty.false)
+      | in-Some+in-len1-up+else-not-key w ↦ key_left _ _ w.in-Some.keys.now _ _ (ap option_copied w.in-Some.is) (ap option_copied w.keys-is) w.in-len1-up.len_at_least w.if-not-key.false
+    ] in
+    (first_is g.row.A.Denot _ _ _ _ _ has c.self.invariant c.stored_field.ensures).stored
 
-pub first_field-requires-in-Some : goal.first_field-requires-in-Some
-first_field-requires-in-Some g c = is_read g.row.A.Denot (option_copied c.self.inside.keys) _ c.self.inside.bytes.now (key_left _ c.in-Some.keys.now _ _ (ap option_copied c.in-Some.is) c.in-len1-up.len_at_least c.if-not-key.false) c.self.invariant
-
-pub invariant_of-self-in-Some : goal.invariant_of-self-in-Some
-invariant_of-self-in-Some g c = (first_is g.row.A.Denot (option_copied c.self.inside.keys) _ c.self.inside.bytes.now c.first_field-in-Some.result.2.now _ (key_left _ c.in-Some.keys.now _ _ (ap option_copied c.in-Some.is) c.in-len1-up.len_at_least c.if-not-key.false) c.self.invariant c.first_field-in-Some.ensures.read).stored
-
-pub returns-else-not-key : goal.returns-else-not-key
-returns-else-not-key g c = first_parts g.row.A.Denot (option_copied c.self.inside.keys) _ c.self.inside.bytes.now _ _ _ _ (key_left _ c.in-Some.keys.now _ _ (ap option_copied c.in-Some.is) c.in-len1-up.len_at_least c.if-not-key.false) c.self.invariant c.first_field-in-Some.ensures.read c.first_field-in-Some.ensures.front c.self.view_is
+pub returns : goal.returns
+returns g c =
+    let has : HasFirst (option_copied c.self.inside.keys) (option_copied c.match-self.keys) c.self.inside.bytes.now = elim c.match-self.branch [
+      | in-None-2 w ↦ whole_left _ _ _ (ap option_copied w.in-None.is) (ap option_copied w.keys-is) (sym w.is_empty.ensures ∙ w.if-is_empty.false)
+      | in-Some+in-len1-up+else-not-key w ↦ key_left _ _ w.in-Some.keys.now _ _ (ap option_copied w.in-Some.is) (ap option_copied w.keys-is) w.in-len1-up.len_at_least w.if-not-key.false
+    ] in
+    first_parts g.row.A.Denot _ _ c.self.inside.bytes.now _ _ _ _ has c.self.invariant c.stored_field.ensures (ap (λ (n : ℕ). take n c.self.inside.bytes.now) c.saturating_sub.ensures) c.self.view_is
