@@ -35,7 +35,7 @@ use Rattle.std.proofs.lemmas.List.{length-map}
 use Rattle.std.proofs.lemmas.List.Elements.{All-append}
 use Rattle.cap_value.specs.declared.value.Value.{Value}
 use Rattle.cap_value.specs.Value.{IsValue}
-use Rattle.cap_changes.proofs.PassLemmas.{behind_made, read_of, fault_of}
+use Rattle.cap_changes.proofs.PassLemmas.{behind_made, read_of}
 use Rattle.cap_changes.specs.Record.{fields_of, keys_of, IsRecord, IsKeyRecord}
 use Rattle.cap_changes.proofs.StoredRecord.{stored, stored_key}
 use Rattle.cap_changes.proofs.ValueLemmas.{each_of}
@@ -106,9 +106,6 @@ module _ (A : Type 0) where
       )
 
   -- ---- two records that are passed
-
-  pub old_fails : (total : ℕ) (flags : List Bool) (first : List ℕ) (f : BlobFault) → behind (record_at {A = A} total (requirements Keyed flags) first) ≡ Err f → behind (records_at both total flags first) ≡ Err f
-  old_fails total flags first f wrong = let old = fault_of (record_at {A = A} total (requirements Keyed flags) first) f wrong in rw old refl
 
   pub new_behind : (total : ℕ) (flags : List Bool) (first new : List ℕ) → behind (record_at {A = A} total (requirements Keyed flags) first) ≡ Ok new
       → behind (records_at both total flags first) ≡ behind (record_at {A = A} total (new_requirements flags (old_in A total flags first)) new)
@@ -242,9 +239,6 @@ module _ {A C : Type 0} {fits : List Bool → C → Bool} {values : C → Type 0
       }
 
   -- ---- passed over
-
-  pub no_flag : (total : ℕ) (flags : List Bool) (operation : Operation) (given : List ℕ) (f : BlobFault) → byte_at total given ≡ Err f → behind (one_at total flags (operation_byte operation) given) ≡ Err f
-  no_flag total flags operation given f read = rw (g.read total flags operation given, read) refl
 
   pub behind_records : (total : ℕ) (flags : List Bool) (operation : Operation) (form : Form) (given first : List ℕ) (flag : ℕ) → g.form operation ≡ form → byte_at total given ≡ Ok (flag, first)
       → behind (one_at total flags (operation_byte operation) given) ≡ behind (records_at A form total flags first)

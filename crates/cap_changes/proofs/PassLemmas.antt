@@ -41,18 +41,13 @@ module _ (A : Type 0) where
   unfolding record_at
   pass_goes_on total requirement requirements others given after field all parts read so_far = grind arith
 
-  pub pass_fails : (total : ℕ) (requirement : FieldRequirement) (requirements others : List FieldRequirement) (given : List ℕ) (f : BlobFault) (all : Result (List ℕ) BlobFault) → requirements ≡ requirement ∷ others
-      → field_at {A = A} total requirement given ≡ Err f → behind (record_at {A = A} total requirements given) ≡ all → all ≡ Err f
-  unfolding record_at
-  pass_fails total requirement requirements others given f all parts wrong so_far = grind arith
-
   -- ---- the old record of an UPDATE, which is known to be there
 
   abbrev pub BeginsOld : ℕ → List Bool → List ℕ → Type 0
   BeginsOld total flags bytes = IsOk (record_at {A = A} total (requirements Keyed flags) bytes)
 
   -- its first field is read as any field is
-  known_field : (total : ℕ) (key : Bool) (given : List ℕ) → AreLow given → IsOk (field_at {A = A} total (requirement_of Keyed key) given) → field_at {A = A} 0 required.Any given ≡ field_at total (requirement_of Keyed key) given
+  pub known_field : (total : ℕ) (key : Bool) (given : List ℕ) → AreLow given → IsOk (field_at {A = A} total (requirement_of Keyed key) given) → field_at {A = A} 0 required.Any given ≡ field_at total (requirement_of Keyed key) given
   known_field total key given low is =
       let x = ok_of (field_at total (requirement_of Keyed key) given) is in
       let spelled = field_spelled total (requirement_of Keyed key) given x.0 low x.1 in
@@ -77,14 +72,9 @@ module _ (A : Type 0) where
     low = low_behind given _ after (field_spelled 0 required.Any given (field, after) low read).0 low;
   }
 
-  -- ---- the new record, by it
-
+  -- what is left of the new record, by it
   abbrev pub NewLeft : ℕ → List Bool → List ℕ → List ℕ → Result (List ℕ) BlobFault → Type 0
   NewLeft total flags old given all = behind (record_at {A = A} total (new_requirements flags (old_in A total flags old)) given) ≡ all
-
-  pub new_ends : (total : ℕ) (columns : List Bool) (old given : List ℕ) (all : Result (List ℕ) BlobFault) → columns ≡ [] → NewLeft total columns old given all → all ≡ Ok given
-  unfolding record_at
-  new_ends total columns old given all none so_far = grind arith
 
 pub flags-cons : (flags : List Bool) (i : ℕ) → i < length flags → drop i flags ≡ get_or flags i false ∷ drop (i + 1) flags
 flags-cons flags i lt = rw (add-one, drop-cons flags i false) refl

@@ -74,6 +74,7 @@ impl<A: AllocHandle> Entry for Patch<A> {
         PATCHSET_KIND
     }
 
+    #[tactic(auto, using(crate::proofs::Grammar::patch_read))]
     fn pass<'a>(
         total: usize,
         flags: &[bool],

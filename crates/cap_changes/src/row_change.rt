@@ -62,6 +62,7 @@ impl<A: AllocHandle> Entry for RowChange<A> {
         CHANGESET_KIND
     }
 
+    #[tactic(auto, unfolding(crate::specs::ChangeReading::change_at))]
     fn pass<'a>(
         total: usize,
         flags: &[bool],
