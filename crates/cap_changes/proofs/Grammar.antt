@@ -1,6 +1,6 @@
 -- The grammar of a change, of a changeset and of a patchset alike: an operation byte, the indirect flag, and the
 -- records of the operation.
-use Rattle.std.proofs.Common.{◌≡◌, ℕ, Bool, true, false, ◌&&◌, List, [], ◌∷◌, ◌++◌, IsTrue, Result, Ok, Err, refl, sym, ap, subst, ◌∙◌, append_assoc, ◌≤◌, length, length-append, take, drop, take_at, drop_at, Option, IfSome, arith, inl, inr, ◌==◌, append-nil, ◌⊎◌, if◌then◌else◌}
+use Rattle.std.proofs.Common.{◌≡◌, ℕ, Bool, true, false, ◌&&◌, List, [], ◌∷◌, ◌++◌, IsTrue, Result, Ok, Err, refl, sym, ap, subst, ◌∙◌, append_assoc, ◌≤◌, length, length-append, take, drop, take_at, drop_at, Option, IfSome, arith, ◌==◌, append-nil, if◌then◌else◌}
 use Rattle.std.proofs.lemmas.Bool.{and_parts, and_from}
 use Rattle.cap_field.specs.declared.fault.BlobFault.{BlobFault}
 use Rattle.cap_field.specs.Reading.{◌>>=◌, byte_at, Reads}
@@ -13,7 +13,7 @@ use Rattle.cap_changes.specs.FieldRecord.{RecordFields}
 use Rattle.cap_changes.specs.Fits.{change_fits, patch_fits}
 use Rattle.cap_changes.specs.HasValues.{AreValues, HasValues, PatchHasValues}
 use Rattle.cap_changes.specs.Operation.{operation_byte, is_operation}
-use Rattle.cap_changes.specs.RecordReading.{record_at, value_in, old_in}
+use Rattle.cap_changes.specs.RecordReading.{record_at, value_in}
 use Rattle.cap_changes.specs.Requirements.{requirements, new_requirements, requirement_of, satisfies, satisfy}
 use Rattle.cap_changes.specs.Spelling.{SpellsOperation, SpellsRecords, SpellsPatchRecord}
 use Rattle.cap_changes.specs.declared.operation.Operation.{Operation}
@@ -35,7 +35,7 @@ use Rattle.std.proofs.lemmas.List.{length-map}
 use Rattle.std.proofs.lemmas.List.Elements.{All-append}
 use Rattle.cap_value.specs.declared.value.Value.{Value}
 use Rattle.cap_value.specs.Value.{IsValue}
-use Rattle.cap_changes.proofs.PassLemmas.{behind_made, read_of}
+use Rattle.cap_changes.proofs.PassLemmas.{read_of}
 use Rattle.cap_changes.specs.Record.{fields_of, keys_of, IsRecord, IsKeyRecord}
 use Rattle.cap_changes.proofs.StoredRecord.{stored, stored_key}
 use Rattle.cap_changes.proofs.ValueLemmas.{each_of}
@@ -104,14 +104,6 @@ module _ (A : Type 0) where
         (first.0, second.0),
         first.1 ∙ ap (λ (b : List ℕ). record_bytes old.0.0 ++ b) second.1 ∙ sym (append_assoc (record_bytes old.0.0) (record_bytes new.0.0) new.0.1),
       )
-
-  -- ---- two records that are passed
-
-  pub new_behind : (total : ℕ) (flags : List Bool) (first new : List ℕ) → behind (record_at {A = A} total (requirements Keyed flags) first) ≡ Ok new
-      → behind (records_at both total flags first) ≡ behind (record_at {A = A} total (new_requirements flags (old_in A total flags first)) new)
-  new_behind total flags first new known =
-      let (old, is) = read_of (record_at {A = A} total (requirements Keyed flags) first) new known in
-      rw is (behind_made _ (record_at {A = A} total (new_requirements flags old) new))
 
 -- ---- a change by its records
 
@@ -240,21 +232,11 @@ module _ {A C : Type 0} {fits : List Bool → C → Bool} {values : C → Type 0
 
   -- ---- passed over
 
-  pub behind_records : (total : ℕ) (flags : List Bool) (operation : Operation) (form : Form) (given first : List ℕ) (flag : ℕ) → g.form operation ≡ form → byte_at total given ≡ Ok (flag, first)
-      → behind (one_at total flags (operation_byte operation) given) ≡ behind (records_at A form total flags first)
-  behind_records total flags operation form given first flag same read =
-      rw (g.read total flags operation given, read) (behind_made (g.make operation (is_set flag)) (records_at A (g.form operation) total flags first))
-      ∙ ap (λ (f : Form). behind (records_at A f total flags first)) same
-
-  -- where the records are passed, the change is
-  pub passes : {X : Type 0} (view : X → List ℕ) (result : Result X BlobFault) (total : ℕ) (flags : List Bool) (operation : Operation) (form : Form) (given first : List ℕ) (flag : ℕ) → AreLow given → g.form operation ≡ form → byte_at total given ≡ Ok (flag, first)
-      → Reads view result (behind (records_at A form total flags first))
-      → Reads view result (behind (one_at total flags (operation_byte operation) given)) × IfOk result (λ rest. IsPassed fits values bytes_of stored one_at total flags (operation_byte operation) given (view rest))
-  passes view (Ok rest) total flags operation form given first flag low same read is =
-      let reads = behind_records total flags operation form given first flag same read ∙ is in
-      let (x, found) = read_of (one_at total flags (operation_byte operation) given) (view rest) reads in
-      (reads, passed total flags operation given (x, view rest) low found)
-  passes view (Err f) total flags operation form given first flag low same read is = (behind_records total flags operation form given first flag same read ∙ is, tt)
+  pub passes : {X : Type 0} (view : X → List ℕ) (result : Result X BlobFault) (total : ℕ) (flags : List Bool) (operation : Operation) (given : List ℕ) → AreLow given → Reads view result (behind (one_at total flags (operation_byte operation) given))
+      → IfOk result (λ rest. IsPassed fits values bytes_of stored one_at total flags (operation_byte operation) given (view rest))
+  passes view (Ok rest) total flags operation given low reads =
+      let (x, found) = read_of (one_at total flags (operation_byte operation) given) (view rest) reads in passed total flags operation given (x, view rest) low found
+  passes view (Err f) total flags operation given low reads = tt
 
 abbrev pub change_form : Operation → Form
 change_form operations.Insert = one Full
@@ -322,10 +304,6 @@ module _ {A : Type 0} where
 
   abbrev pub patches : Grammar A (patch_fits {A = A}) PatchHasValues patch_bytes SpellsPatchRecord patch_at stored_patch
   patches = record { form = λ operation. one (patch_kind operation); make = patch_of; has = patch_has; each = patch_each; read = patch_read; other = patched.Delete false []; keeps = patch_keeps }
-
-pub full_form : (operation : Operation) → (operation ≡ operations.Insert) ⊎ (operation ≡ operations.Delete) → change_form operation ≡ one Full
-full_form operation (inl is) = ap change_form is
-full_form operation (inr is) = ap change_form is
 
 -- ---- taken apart
 

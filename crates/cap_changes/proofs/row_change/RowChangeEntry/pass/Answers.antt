@@ -1,14 +1,20 @@
-use Rattle.std.proofs.Common.{ap, arith}
+use Rattle.std.proofs.Common.{arith, rules}
+use Rattle.std.proofs.lemmas.Grind.{common_steps}
 use Rattle.cap_field.proofs.Spelled.{are_low}
-use Rattle.cap_changes.proofs.Grammar.{both, change_form, changes, new_behind, full_form, passes}
+use Rattle.cap_field.specs.Reading.{Reads}
+use Rattle.cap_changes.specs.ChangeReading.{behind, change_at}
+use Rattle.cap_changes.specs.Operation.{operation_byte}
+use Rattle.cap_changes.proofs.Grammar.{changes, passes}
 use Rattle.cap_changes.proofs.row_change.RowChangeEntry.pass.Goals as goal
 
 pub returns-in-Insert-clause-entry : goal.returns-in-Insert-clause-entry
+unfolding change_at
 returns-in-Insert-clause-entry g c =
-    (passes (changes {A = g.row.A.Denot}) (λ rest. rest.now) c.pass_record.result c.args.total c.args.flags.now c.args.operation _ c.args.given.now c.in_ok-first.first.now _ (are_low c.args.given.now (λ i. omega (arith, c.type_inv.given i)))
-    (full_form c.args.operation c.in-Insert.is) c.in_ok-first.ensures.reads c.pass_record.ensures.reads).1
+    let reads : Reads (λ rest. rest.now) c.pass_record.result (behind (change_at {A = g.row.A.Denot} c.args.total c.args.flags.now (operation_byte c.args.operation) c.args.given.now)) = search rules in
+    passes changes (λ rest. rest.now) c.pass_record.result c.args.total c.args.flags.now c.args.operation c.args.given.now (are_low c.args.given.now (λ i. omega (arith, c.type_inv.given i))) reads
 
 pub returns-in_ok-new-in-Update-clause-entry : goal.returns-in_ok-new-in-Update-clause-entry
+unfolding change_at
 returns-in_ok-new-in-Update-clause-entry g c =
-    (passes (changes {A = g.row.A.Denot}) (λ rest. rest.now) c.pass_new_record.result c.args.total c.args.flags.now c.args.operation both c.args.given.now c.in_ok-first.first.now _ (are_low c.args.given.now (λ i. omega (arith, c.type_inv.given i)))
-    (ap change_form c.in-Update.is) c.in_ok-first.ensures.reads (rw (new_behind g.row.A.Denot c.args.total c.args.flags.now c.in_ok-first.first.now c.in_ok-new-in-Update.new.now c.in_ok-new-in-Update.ensures.reads) c.pass_new_record.ensures.reads)).1
+    let reads : Reads (λ rest. rest.now) c.pass_new_record.result (behind (change_at {A = g.row.A.Denot} c.args.total c.args.flags.now (operation_byte c.args.operation) c.args.given.now)) = grind (arith, common_steps) in
+    passes changes (λ rest. rest.now) c.pass_new_record.result c.args.total c.args.flags.now c.args.operation c.args.given.now (are_low c.args.given.now (λ i. omega (arith, c.type_inv.given i))) reads
