@@ -1,17 +1,15 @@
 -- Records that are passed over, field by field.
-use Rattle.std.proofs.Common.{arith, ◌≡◌, ℕ, ◌+◌, ◌<◌, ◌≤◌, Bool, false, List, [], ◌∷◌, ◌++◌, length, drop, get_or, Option, Result, Ok, Err, refl, sym, ap, ◌∙◌, add-one, drop-cons}
+use Rattle.std.proofs.Common.{arith, ◌≡◌, ℕ, ◌+◌, ◌<◌, ◌≤◌, Bool, false, List, [], ◌∷◌, ◌++◌, length, drop, get_or, Result, Ok, Err, refl, sym, ap, ◌∙◌, add-one, drop-cons}
 use Rattle.std.specs.Prelude.{IsOk}
 use Rattle.std.proofs.lemmas.List.{drop_all}
-use Rattle.cap_value.specs.declared.value.Value.{Value}
 use Rattle.cap_field.specs.declared.fault.BlobFault.{BlobFault}
 use Rattle.cap_field.specs.Reading.{◌>>=◌}
 use Rattle.cap_field.proofs.Binds.{ok_is}
-use Rattle.cap_field.proofs.Spelled.{AreLow, low_behind}
+use Rattle.cap_field.proofs.Spelled.{AreLow}
 use Rattle.cap_changes.specs.ChangeReading.{behind}
 use Rattle.cap_changes.specs.FieldReading.{field_at}
 use Rattle.cap_changes.specs.RecordReading.{record_at, old_in}
-use Rattle.cap_changes.specs.Requirements.{requirement_of, requirements, new_requirement, new_requirements}
-use Rattle.cap_changes.specs.declared.field_requirement.FieldRequirement.{FieldRequirement}
+use Rattle.cap_changes.specs.Requirements.{requirement_of, requirements, new_requirements}
 use Rattle.cap_changes.specs.declared.field_requirement.FieldRequirement.TheVariants as required
 use Rattle.cap_changes.specs.declared.record_kind.RecordKind.TheVariants.{Keyed}
 use Rattle.cap_changes.proofs.FieldAgain.{field_again}
@@ -34,13 +32,6 @@ module _ {X : Type 0} where
   fault_of read f e = grind arith
 
 module _ (A : Type 0) where
-  -- ---- a record
-
-  pub pass_goes_on : (total : ℕ) (requirement : FieldRequirement) (requirements others : List FieldRequirement) (given after : List ℕ) (field : Option (Value A)) (all : Result (List ℕ) BlobFault) → requirements ≡ requirement ∷ others
-      → field_at total requirement given ≡ Ok (field, after) → behind (record_at {A = A} total requirements given) ≡ all → behind (record_at {A = A} total others after) ≡ all
-  unfolding record_at
-  pass_goes_on total requirement requirements others given after field all parts read so_far = grind arith
-
   -- ---- the old record of an UPDATE, which is known to be there
 
   abbrev pub BeginsOld : ℕ → List Bool → List ℕ → Type 0
@@ -52,25 +43,6 @@ module _ (A : Type 0) where
       let x = ok_of (field_at total (requirement_of Keyed key) given) is in
       let spelled = field_spelled total (requirement_of Keyed key) given x.0 low x.1 in
       ap (field_at 0 required.Any) (spelled.0 ∙ ap (λ (b : List ℕ). b ++ x.0.1) (of_keyed key x.0.0)) ∙ field_again 0 required.Any x.0.0 x.0.1 refl spelled.1 ∙ sym x.1
-
-  pub old_has_field : (total : ℕ) (columns flags : List Bool) (key : Bool) (given : List ℕ) → columns ≡ key ∷ flags → AreLow given → BeginsOld total columns given → IsOk (field_at {A = A} 0 required.Any given)
-  unfolding record_at
-  old_has_field total columns flags key given parts low known = grind (arith, known_field total key given low)
-
-  -- what is left behind it, and what is required of the new record
-  pub record OldStep (total : ℕ) (columns flags : List Bool) (key : Bool) (given : List ℕ) (field : Option (Value A)) (after : List ℕ) : Type 0 where
-    pub left : BeginsOld total flags after
-    pub asked : new_requirements columns (old_in A total columns given) ≡ new_requirement (key, field) ∷ new_requirements flags (old_in A total flags after)
-    pub low : AreLow after
-
-  pub old_left : (total : ℕ) (columns flags : List Bool) (key : Bool) (given : List ℕ) (field : Option (Value A)) (after : List ℕ) → columns ≡ key ∷ flags → AreLow given → BeginsOld total columns given
-      → field_at 0 required.Any given ≡ Ok (field, after) → OldStep total columns flags key given field after
-  unfolding record_at
-  old_left total columns flags key given field after parts low known read = record {
-    left = grind (arith, known_field total key given low);
-    asked = grind (arith, known_field total key given low);
-    low = low_behind given _ after (field_spelled 0 required.Any given (field, after) low read).0 low;
-  }
 
   -- what is left of the new record, by it
   abbrev pub NewLeft : ℕ → List Bool → List ℕ → List ℕ → Result (List ℕ) BlobFault → Type 0

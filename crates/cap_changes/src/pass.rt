@@ -33,7 +33,7 @@ pub(crate) fn pass_record<'a, A: AllocHandle>(
 }
 
 /// The bytes behind the new record of an UPDATE, by its old record.
-#[tactic(auto, unfolding(crate::specs::RecordReading::record_at), using(crate::proofs::PassLemmas::known_field, crate::proofs::PassLemmas::old_left, std::proofs::lemmas::Grind::common_steps))]
+#[tactic(auto, unfolding(crate::specs::RecordReading::record_at), using(crate::proofs::PassLemmas::known_field, std::proofs::lemmas::Grind::common_steps))]
 pub(crate) fn pass_new_record<'a, A: AllocHandle>(
     total: usize,
     flags: &[bool],
