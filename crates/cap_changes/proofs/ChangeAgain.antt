@@ -1,5 +1,5 @@
 -- Changes are read as what their bytes spell, whatever follows them that is no change.
-use Rattle.std.proofs.Common.{◌≡◌, ℕ, Bool, true, false, List, [], ◌∷◌, ◌++◌, Result, Ok, refl, ap, subst, ◌∙◌, append_assoc, zero, suc, ◌≤◌, length, arith, length-append}
+use Rattle.std.proofs.Common.{◌≡◌, ℕ, Bool, true, false, List, [], ◌∷◌, ◌++◌, Result, Ok, refl, ap, ◌∙◌, append_assoc, zero, suc, ◌≤◌, length, arith, length-append}
 use Rattle.cap_field.specs.declared.fault.BlobFault.{BlobFault}
 use Rattle.cap_changes.specs.ChangeReading.{change_at, patch_at, changes_at}
 use Rattle.cap_changes.specs.Operation.{is_operation}
@@ -36,28 +36,18 @@ module _ {X : Type 0} (one_at : ℕ → List Bool → ℕ → List ℕ → Resul
   none_again (suc most) (byte ∷ rest) stops = rw stops refl
   none_again most rest stops = refl
 
-  next_again : (most op : ℕ) (x : X) (xs : List X) (behind others rest : List ℕ) → is_operation op ≡ true → one_at total flags op (behind ++ (others ++ rest)) ≡ Ok (x, others ++ rest)
-      → changes_at one_at most total flags (others ++ rest) ≡ Ok (xs, rest) → changes_at one_at (suc most) total flags (op ∷ (behind ++ (others ++ rest))) ≡ Ok (x ∷ xs, rest)
-  unfolding changes_at
-  next_again most op x xs behind others rest operation read later = rw (operation, read, later) refl
-
   regrouped : (bytes front others rest behind : List ℕ) (op : ℕ) → bytes ≡ front ++ others → front ≡ op ∷ behind → bytes ++ rest ≡ op ∷ (behind ++ (others ++ rest))
   regrouped bytes front others rest behind op parts first = ap (λ (b : List ℕ). b ++ rest) (parts ∙ ap (λ (b : List ℕ). b ++ others) first) ∙ append_assoc (op ∷ behind) others rest
 
-  longer : (most op : ℕ) (bytes others rest behind : List ℕ) → bytes ++ rest ≡ op ∷ (behind ++ (others ++ rest)) → length (bytes ++ rest) ≤ most → suc (length (others ++ rest)) ≤ most
-  longer most op bytes others rest behind same le =
-      let long : length (op ∷ (behind ++ (others ++ rest))) ≤ most = subst (λ (all : List ℕ). length all ≤ most) same le in
-      omega (arith, long, length-append behind (others ++ rest))
-
   pub each_again : IsRead → (most : ℕ) (xs : List X) (bytes rest : List ℕ) → length (bytes ++ rest) ≤ most → SpellsEach one xs bytes → NoChange rest
       → changes_at one_at most total flags (bytes ++ rest) ≡ Ok (xs, rest)
+  unfolding changes_at
   each_again read most [] bytes rest le none stops = ap (λ (b : List ℕ). changes_at one_at most total flags (b ++ rest)) none ∙ none_again most rest stops
   each_again read zero (x ∷ xs) bytes rest le (front, others, parts, is, spelled) stops =
       let (op, behind, first, operation, again) = read x front is in
-      absurd (omega (arith, longer zero op bytes others rest behind (regrouped bytes front others rest behind op parts first) le))
+      absurd (omega (arith, le, ap length (regrouped bytes front others rest behind op parts first)))
   each_again read (suc most) (x ∷ xs) bytes rest le (front, others, parts, is, spelled) stops =
       let (op, behind, first, operation, again) = read x front is in
       let same : bytes ++ rest ≡ op ∷ (behind ++ (others ++ rest)) = regrouped bytes front others rest behind op parts first in
-      ap (changes_at one_at (suc most) total flags) same
-      ∙ next_again most op x xs behind others rest operation (again (others ++ rest))
-      (each_again read most xs others rest (omega (arith, longer (suc most) op bytes others rest behind same le)) spelled stops)
+      let later = each_again read most xs others rest (omega (arith, le, ap length same, length-append behind (others ++ rest))) spelled stops in
+      rw (same, operation, again (others ++ rest), later) refl

@@ -1,5 +1,5 @@
 -- Reading the changes of a group one after the other, as a loop does.
-use Rattle.std.proofs.Common.{◌≡◌, ℕ, zero, suc, ◌-◌, ◌<◌, ◌≤◌, Bool, true, false, List, [], ◌∷◌, ◌++◌, length, take, drop, get_or, Result, Ok, Err, refl, sym, ap, subst, ◌∙◌, append_assoc, length-append, arith, ◌+◌, is_ok, is_err, if◌then◌else◌}
+use Rattle.std.proofs.Common.{◌≡◌, ℕ, zero, suc, ◌-◌, ◌<◌, ◌≤◌, Bool, true, false, List, [], ◌∷◌, ◌++◌, length, take, drop, get_or, Result, Ok, Err, refl, sym, ap, subst, ◌∙◌, append_assoc, length-append, arith, ◌+◌}
 use Rattle.std.proofs.lemmas.List.{append-nil, take_all, length-set, drop-append-le, drop_all}
 use Rattle.cap_changes.specs.Entries.{TableEntries}
 use Rattle.cap_field.specs.declared.fault.BlobFault.{BlobFault}
@@ -148,10 +148,6 @@ module _ {C : Type 0} {fits_in : List Bool → C → Bool} {has_values : C → T
         left = λ table. changes_go_on one_at (group_of stored table flags (joined held old front ends) ends) _ total (byte ∷ behind) after _ _ (ap (λ (xs : List C). record { table = table; schema = flags; changes = xs }) a.entries)
             some operation (ap (λ (b : ℕ). one_at total flags b (behind_of (byte ∷ behind))) is ∙ passed.read) (omega (arith, ap length behind_are, length-append passed.front after)) (goes.left table);
       })
-
--- the list that `push` leaves, where it was no error
-pub was_pushed : {E : Type 0} (result : Result (Unit {0}) E) (failed : Bool) (old more new : List ℕ) → new ≡ if is_ok result then more else old → failed ≡ is_err result → failed ≡ false → new ≡ more
-was_pushed result failed old more new is tells none = grind arith
 
 -- ---- the flags that are written
 

@@ -48,9 +48,6 @@ module _ {C : Type 0} (fits_in : List Bool → C → Bool) (has_values : C → T
     pub end : end_of start ends ≡ length bytes
     pub entries : entries_of stored flags bytes start ends ≡ before ++ entry ∷ []
 
-  abbrev pub Appended : List ℕ → List ℕ → List C → C → Type 0
-  Appended bytes ends before entry = AppendedFrom 0 bytes ends before entry
-
   appended_from : (old piece : List ℕ) (start : ℕ) (ends : List ℕ) → Are old start ends → end_of start ends ≡ length old → Is piece
       → AppendedFrom start (old ++ piece) (ends ++ length (old ++ piece) ∷ []) (entries_of stored flags old start ends) (stored flags piece)
   appended_from old piece start [] are end is =
@@ -68,7 +65,7 @@ module _ {C : Type 0} (fits_in : List Bool → C → Bool) (has_values : C → T
       }
 
   pub appended : (old ends piece new new_ends : List ℕ) (before : List C) (entry : C) → Are old 0 ends → end_of 0 ends ≡ length old → entries_of stored flags old 0 ends ≡ before
-      → Is piece → stored flags piece ≡ entry → new ≡ old ++ piece → new_ends ≡ ends ++ length new ∷ [] → Appended new new_ends before entry
+      → Is piece → stored flags piece ≡ entry → new ≡ old ++ piece → new_ends ≡ ends ++ length new ∷ [] → AppendedFrom 0 new new_ends before entry
   appended old ends piece new new_ends before entry are end seen is entry_is new_is ends_are = rw (ends_are, new_is, ← seen, ← entry_is) (appended_from old piece 0 ends are end is)
 
   -- ---- what is known of each

@@ -1,9 +1,10 @@
+use Rattle.std.proofs.lemmas.Grind.{common_steps}
 use Rattle.std.proofs.Common.{arith, get_or, ◌≡◌, false}
 use Rattle.std.proofs.lemmas.Result.{err_from_is_err_and}
 use Rattle.cap_changes.specs.Operation.{is_operation}
 use Rattle.cap_changes.specs.Judged.{group_of, joined, front_of}
 use Rattle.cap_changes.proofs.PassLemmas.{fault_of}
-use Rattle.cap_changes.proofs.ChangeLoops.{goes_first, goes_on, changes_fail, changes_stop, no_operation, was_pushed}
+use Rattle.cap_changes.proofs.ChangeLoops.{goes_first, goes_on, changes_fail, changes_stop, no_operation}
 use Rattle.cap_changes.proofs.group.judge.Goals as goal
 use Rattle.cap_changes.proofs.group.judge.Goals.{in_default, in-len1-up+in_default-of}
 
@@ -19,7 +20,7 @@ returns-in_err-after-clause-gives g c =
 pub loop-rest-preserved : goal.loop-rest-preserved
 loop-rest-preserved g c =
     goes_on g.C.Entry.one_at c.args.total c.args.bytes.now c.loop-rest.invariant c.in-len1-up.len_at_least c.in-Some.ensures.byte c.in-Some.ensures.some c.in_ok-after.ensures.entry
-    (was_pushed c.push.result c.is_err.result _ _ _ c.push.ensures.items c.is_err.ensures.value c.if-is_err.false)
+    (grind (arith, common_steps))
 
 pub returns-clause-gives : goal.returns-clause-gives
 returns-clause-gives g c =
