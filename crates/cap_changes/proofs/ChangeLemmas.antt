@@ -1,5 +1,5 @@
 -- The change of a touched key fits its table.
-use Rattle.std.proofs.Common.{◌≡◌, List, [], ◌∷◌, length, Bool, true, false, Some, None, is_some, cond, refl, arith}
+use Rattle.std.proofs.Common.{◌≡◌, List, [], ◌∷◌, length, Bool, true, false, Some, None, is_some, refl, arith}
 use Rattle.std.proofs.lemmas.Bool.{true_from_ne_false}
 use Rattle.std.specs.declared.cmp.Ordering.{Ordering}
 use Rattle.std.specs.declared.cmp.Ordering.TheVariants.{Equal}
@@ -8,7 +8,7 @@ use Rattle.std.specs.List.{list_any}
 use Rattle.cap_value.specs.declared.value.Value.{Value}
 use Rattle.cap_value.specs.Value.{is_null, value_eq_decides}
 use Rattle.cap_row.specs.Fields.{Fields}
-use Rattle.cap_row.specs.Key.{key_of, key_fields, is_key, fields_cmp, fields_cmp-Equal}
+use Rattle.cap_row.specs.Key.{key_of, key_fields, fields_cmp, fields_cmp-Equal}
 use Rattle.cap_changes.specs.Requirements.{requirements, satisfy}
 use Rattle.cap_changes.specs.Fits.{change_fits}
 use Rattle.cap_changes.specs.Column.{by_column}
@@ -62,13 +62,9 @@ module _ {A : Type 0} where
   same_from_unmodified (key ∷ flags) (old ∷ image) (new ∷ now) wide wide' keys none = grind (arith, value_eq_decides old new, same_from_unmodified flags image now)
   same_from_unmodified flags image now wide wide' keys none = cc
 
-  kept_key : (some_key other_key : Bool) (x y : Fields A) → is_some (cond some_key (Some x) None) ≡ true →
-      cond some_key (Some x) None ≡ cond other_key (Some y) None → x ≡ y
-  kept_key some_key other_key x y e h = grind arith
-
   pub update_modifies : (flags : List Bool) (image now : Fields A) → IsKeyedRow flags image → IsKeyedRow flags now →
       key_of flags image ≡ key_of flags now → (image ≡ now → ⊥) → list_any is_some (by_column new_field flags image now) ≡ true
   update_modifies flags image now h h' keys other =
       true_from_ne_false (list_any is_some (by_column new_field flags image now))
       (λ none. other (same_from_unmodified flags image now h.wide h'.wide
-      (kept_key (is_key (key_fields flags image)) (is_key (key_fields flags now)) _ _ h.keyed keys) none))
+      (let keyed = h.keyed in grind arith) none))

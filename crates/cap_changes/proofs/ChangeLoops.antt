@@ -3,7 +3,6 @@ use Rattle.std.proofs.Common.{◌≡◌, ℕ, zero, suc, ◌-◌, ◌<◌, ◌�
 use Rattle.std.proofs.lemmas.List.{append-nil, take_all, length-set, drop-append-le, drop_all}
 use Rattle.cap_changes.specs.Entries.{TableEntries}
 use Rattle.cap_field.specs.declared.fault.BlobFault.{BlobFault}
-use Rattle.cap_field.specs.Reading.{◌>>=◌}
 use Rattle.cap_changes.specs.Operation.{is_operation}
 use Rattle.cap_changes.specs.ChangeReading.{changes_at, with_changes, is_set}
 use Rattle.cap_changes.specs.Judged.{front_of, HaveFlags, Judged, group_of, joined, with_flag, with_flags}
@@ -28,15 +27,12 @@ module _ {X : Type 0} (one_at : ℕ → List Bool → ℕ → List ℕ → Resul
   unfolding ChangesLeft
   changes_start group total bytes = (length bytes, omega arith, refl)
 
-  put_first : (group : TableEntries X) (x : X) (read : Result (List X × List ℕ) BlobFault) → with_changes group (read >>= λ y. Ok (x ∷ y.0, y.1)) ≡ with_changes (record group { changes = group.changes ++ x ∷ [] }) read
-  put_first group x read = grind (arith, append_assoc)
-
   changes_go_on : (group grown : TableEntries X) (total : ℕ) (rest after : List ℕ) (x : X) (all : Result (TableEntries X × List ℕ) BlobFault) → grown ≡ record group { changes = group.changes ++ x ∷ [] }
       → 1 ≤ length rest → is_operation (get_or rest 0 0) ≡ true → one_at total group.schema (get_or rest 0 0) (behind_of rest) ≡ Ok (x, after) → length after ≤ length (behind_of rest)
       → ChangesLeft group total rest all → ChangesLeft grown total after all
   unfolding ChangesLeft changes_at
   changes_go_on group grown total (op ∷ behind) after x all is some operation read shorter (suc most, le, e) =
-      (most, omega (arith, shorter, ap length (behind-is op behind), le), grind (arith, behind-is op behind, put_first group x (changes_at one_at most total group.schema after)))
+      (most, omega (arith, shorter, ap length (behind-is op behind), le), grind (arith, behind-is op behind, append_assoc))
   changes_go_on group grown total rest after x all is some operation read shorter (most, le, e) = absurd (omega (arith, some, le))
 
   pub changes_fail : (group : TableEntries X) (total : ℕ) (rest : List ℕ) (f : BlobFault) (all : Result (TableEntries X × List ℕ) BlobFault) → 1 ≤ length rest → is_operation (get_or rest 0 0) ≡ true

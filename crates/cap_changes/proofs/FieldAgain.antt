@@ -26,9 +26,6 @@ module _ {A : Type 0} where
   type_byte (Some (Text t)) = 3
   type_byte (Some (Blob b)) = 4
 
-  is_allowed : (requirement : FieldRequirement) (field : Option (Value A)) → satisfies requirement field ≡ true → allows requirement (type_byte field) ≡ true
-  is_allowed requirement field met = grind arith
-
   typed_again : (total at : ℕ) (requirement : FieldRequirement) (field : Option (Value A)) (rest : List ℕ) → allows requirement (type_byte field) ≡ true → IfSome field IsValue
       → (byte_at total (field_bytes field ++ rest) >>= (λ kind. typed_at total at requirement kind.0 kind.1)) ≡ Ok (field, rest)
   unfolding content_at
@@ -48,7 +45,7 @@ module _ {A : Type 0} where
   unfolding field_at
   field_again total required.Omitted None rest met fits = refl
   field_again total required.Omitted (Some value) rest met fits = absurd cc
-  field_again total requirement field rest met fits = typed_again total (place total (field_bytes field ++ rest)) requirement field rest (is_allowed requirement field met) fits
+  field_again total requirement field rest met fits = typed_again total (place total (field_bytes field ++ rest)) requirement field rest (grind arith) fits
 
 -- ---- records
 

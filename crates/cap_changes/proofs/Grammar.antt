@@ -131,9 +131,6 @@ module _ (A : Type 0) {C : Type 0} (fits : List Bool → C → Bool) (values : C
     pub other : C
     pub keeps : (flags : List Bool) (op : ℕ) (bytes : List ℕ) → stored flags (op ∷ bytes) ≡ value_in other (one_at 0 flags op bytes)
 
-pub operation_is : (operation : Operation) → is_operation (operation_byte operation) ≡ true
-operation_is operation = grind arith
-
 -- the operation of a byte that is one
 abbrev known_by : ℕ → Operation
 known_by op = if op == 0x12 then operations.Insert else (if op == 0x17 then operations.Update else operations.Delete)
@@ -172,7 +169,7 @@ module _ {A C : Type 0} {fits : List Bool → C → Bool} {values : C → Type 0
         operation_byte operation,
         flag ∷ records_bytes A (g.form operation) records,
         parts,
-        operation_is operation,
+        grind arith,
         λ rest.
             g.read total flags operation (flag ∷ (records_bytes A (g.form operation) records ++ rest))
             ∙ rw (records_again A (g.form operation) total flags records rest (sym (is.fit flags) ∙ so.0) (is.have_values so.1), marked) refl,

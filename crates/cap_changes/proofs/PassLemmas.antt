@@ -28,9 +28,6 @@ module _ {X : Type 0} where
   read_of (Ok x) rest e = (x.0, ap (λ (r : List ℕ). Ok (x.0, r)) (ok_is x.1 rest e))
   read_of (Err f) rest e = absurd cc
 
-  pub fault_of : (read : Result (X × List ℕ) BlobFault) (f : BlobFault) → behind read ≡ Err f → read ≡ Err f
-  fault_of read f e = grind arith
-
 module _ (A : Type 0) where
   -- ---- the old record of an UPDATE, which is known to be there
 

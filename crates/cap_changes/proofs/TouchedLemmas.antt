@@ -17,14 +17,10 @@ module _ {A : Type 0} where
   row_is_record [] = refl
   row_is_record (value ∷ row) = ap (λ (r : List ℕ). value_bytes value ++ r) (row_is_record row)
 
-  -- no two values have the same bytes
-  one_value : (a b : Value A) → IsValue a → IsValue b → value_bytes a ≡ value_bytes b → a ≡ b
-  one_value a b p q same = grind (arith, value_again 0 a [], value_again 0 b [])
-
   pub eq_by_bytes : (a b : Value A) → IsValue a → IsValue b → value_eq a b ≡ bytes_eq (value_bytes a) (value_bytes b)
   eq_by_bytes a b p q =
       let bytes = bytes_eq-Decides (value_bytes a) (value_bytes b) in
-      same_from_decides (value_eq a b) (bytes_eq (value_bytes a) (value_bytes b)) (value_eq_decides a b) (λ t. one_value a b p q (bytes.0 t), λ e. bytes.1 (ap value_bytes e))
+      same_from_decides (value_eq a b) (bytes_eq (value_bytes a) (value_bytes b)) (value_eq_decides a b) (λ t. let same = bytes.0 t in grind (arith, value_again 0 a [], value_again 0 b []), λ e. bytes.1 (ap value_bytes e))
 
   -- the field of a column in the old record, or in the new one
   abbrev pub side_field : Bool → Bool → Value A → Value A → Option (Value A)

@@ -3,7 +3,6 @@ use Rattle.std.proofs.Common.{arith, get_or, ◌≡◌, false}
 use Rattle.std.proofs.lemmas.Result.{err_from_is_err_and}
 use Rattle.cap_changes.specs.Operation.{is_operation}
 use Rattle.cap_changes.specs.Judged.{group_of, joined, front_of}
-use Rattle.cap_changes.proofs.PassLemmas.{fault_of}
 use Rattle.cap_changes.proofs.ChangeLoops.{goes_first, goes_on, changes_fail, changes_stop, no_operation}
 use Rattle.cap_changes.proofs.group.judge.Goals as goal
 use Rattle.cap_changes.proofs.group.judge.Goals.{in_default, in-len1-up+in_default-of}
@@ -15,7 +14,7 @@ pub returns-in_err-after-clause-gives : goal.returns-in_err-after-clause-gives
 returns-in_err-after-clause-gives g c =
     let p = err_from_is_err_and c.from_residual.result c.from_residual.ensures.1 in
     λ table. rw (p.1, p.2) (changes_fail g.C.Entry.one_at (group_of g.C.Entry.stored table c.args.flags.now (joined c.args.held.now c.args.ends.now.items (front_of c.args.bytes.now c.loop-rest.rest.now) c.loop-rest.ends.items) c.loop-rest.ends.items)
-    c.args.total c.loop-rest.rest.now c.in_err-after.field-0.0 _ c.in-len1-up.len_at_least c.in-Some.ensures.some (rw c.in-Some.ensures.byte (fault_of _ _ c.in_err-after.ensures.reads)) (c.loop-rest.invariant.left table))
+    c.args.total c.loop-rest.rest.now c.in_err-after.field-0.0 _ c.in-len1-up.len_at_least c.in-Some.ensures.some (grind (arith, common_steps)) (c.loop-rest.invariant.left table))
 
 pub loop-rest-preserved : goal.loop-rest-preserved
 loop-rest-preserved g c =
