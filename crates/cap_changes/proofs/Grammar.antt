@@ -139,10 +139,6 @@ known_by op = if op == 0x12 then operations.Insert else (if op == 0x17 then oper
 abbrev pub Begins : {X : Type 0} → (X → List ℕ → Type 0) → ℕ → List ℕ → X × List ℕ → Type 0
 Begins spells op bytes x = (front : List ℕ) × (bytes ≡ front ++ x.1) × spells x.0 (op ∷ front)
 
--- the bytes as they are written, and that the flag is there
-written_back : (op op' : ℕ) (indirect : Bool) (records front : List ℕ) → SpellsOperation op indirect records (op' ∷ front) → (normal (op' ∷ front) ≡ op ∷ flag_byte indirect ∷ records) × (1 ≤ length front)
-written_back op op' indirect records front spelled = grind arith
-
 module _ {A C : Type 0} {fits : List Bool → C → Bool} {values : C → Type 0} {bytes_of : C → List ℕ} {spells : C → List ℕ → Type 0}
     {one_at : ℕ → List Bool → ℕ → List ℕ → Result (C × List ℕ) BlobFault} {stored : List Bool → List ℕ → C} (g : Grammar A fits values bytes_of spells one_at stored) where
   -- what holds of each change that is made holds of every one
@@ -208,8 +204,9 @@ module _ {A C : Type 0} {fits : List Bool → C → Bool} {values : C → Type 0
       by_records (λ c. spells c (op ∷ front) → (normal (op ∷ front) ≡ bytes_of c) × (1 ≤ length front))
       (λ operation indirect records spelled.
       let is = g.has operation indirect records in
-      let so = written_back (operation_byte operation) op indirect (records_bytes A (g.form operation) records) front (is.spelled (op ∷ front) spelled) in
-      (so.0 ∙ sym is.bytes, so.1))
+      let (flag, marked, parts) = is.spelled (op ∷ front) spelled in
+      let so : normal (op ∷ front) ≡ operation_byte operation ∷ flag_byte indirect ∷ records_bytes A (g.form operation) records = grind (arith, marked, parts) in
+      (so ∙ sym is.bytes, grind (arith, parts)))
       change
 
   -- what was read is passed

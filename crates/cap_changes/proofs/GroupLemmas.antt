@@ -158,9 +158,3 @@ module _ {A : Type 0} where
         so_far = put_on (take begin bytes) (take end new) piece (inverses flags others) (inverses flags changes) all ((λ i. take (sym count i) (parts i)) ∙ take-append_seam front (flat_map change_bytes others)) (ap (inverses flags) is) w.so_far;
         fit = others_fit (change_fits {A = A}) flags changes others change is w.fit;
       }
-
-  -- the change ends within the bytes
-  pub ends_within : (flags : List Bool) (bytes : List ℕ) (begin : ℕ) (changes others : List (RowChange A)) (change : RowChange A) (all : List ℕ) → Written flags bytes begin changes all → changes ≡ change ∷ others
-      → begin + length (change_bytes change) ≤ length bytes
-  ends_within flags bytes begin changes others change all w is =
-      omega (arith, w.within, ap length (w.left ∙ ap (flat_map change_bytes) is), length-drop begin bytes, length-append (change_bytes change) (flat_map change_bytes others))

@@ -1,10 +1,14 @@
-use Rattle.std.proofs.Common.{List, ℕ, ap, arith, length, take, drop, ◌++◌, ◌∙◌, ◌+◌}
+use Rattle.std.proofs.Common.{length-drop, length-append, List, ℕ, ap, arith, length, take, drop, ◌++◌, ◌∙◌, ◌+◌}
 use Rattle.std.proofs.lemmas.List.{drop-drop}
-use Rattle.cap_changes.proofs.GroupLemmas.{ends_within, one_more}
+use Rattle.std.specs.List.{flat_map}
+use Rattle.cap_changes.specs.ChangeBytes.{change_bytes}
+use Rattle.cap_changes.proofs.GroupLemmas.{one_more}
 use Rattle.cap_changes.proofs.inverse.write_inverses.Goals as goal
 
 pub slice_bounds-write_inverse-end : goal.slice_bounds-write_inverse-end
-slice_bounds-write_inverse-end g c = let within = ends_within _ _ _ _ _ _ _ c.loop-change.invariant c.in-Some.ensures.steps in omega (arith, within, ap length c.as_bytes.ensures.bytes)
+slice_bounds-write_inverse-end g c =
+    let left = c.loop-change.invariant.left ∙ ap (flat_map change_bytes) c.in-Some.ensures.steps in
+    omega (arith, c.loop-change.invariant.within, ap length left, length-drop c.loop-change.begin c.loop-change.bytes, length-append (change_bytes c.in-Some.change) (flat_map change_bytes c.next.new.self), ap length c.as_bytes.ensures.bytes)
 
 pub loop-change-preserved : goal.loop-change-preserved
 loop-change-preserved g c =

@@ -5,11 +5,10 @@ use Rattle.cap_changes.proofs.entry_ref.EntryRef+RowChange+A.read.Goals as goal
 pub of-requires : goal.of-requires
 of-requires g c = (change_insert c.self.inside.flags.now c.parts-operation.result.0 c.parts-operation.result.1 c.parts-operation.result.2.now c.self.inside.bytes.now c.parts-operation.ensures _ c.self.invariant c.in-Insert.is).0
 
-pub split_record-old-requires-clause-is : goal.split_record-old-requires-clause-is
-split_record-old-requires-clause-is g c = (change_update c.self.inside.flags.now c.parts-operation.result.0 c.parts-operation.result.1 c.parts-operation.result.2.now c.self.inside.bytes.now c.parts-operation.ensures _ c.self.invariant c.in-Update.is).0
-
-pub split_record-old-requires-clause-wide : goal.split_record-old-requires-clause-wide
-split_record-old-requires-clause-wide g c = (change_update c.self.inside.flags.now c.parts-operation.result.0 c.parts-operation.result.1 c.parts-operation.result.2.now c.self.inside.bytes.now c.parts-operation.ensures _ c.self.invariant c.in-Update.is).1
+pub split_record-old-requires : goal.split_record-old-requires
+split_record-old-requires g c =
+    let u = change_update c.self.inside.flags.now c.parts-operation.result.0 c.parts-operation.result.1 c.parts-operation.result.2.now c.self.inside.bytes.now c.parts-operation.ensures _ c.self.invariant c.in-Update.is in
+    record { is = u.0; wide = u.1 }
 
 pub of-requires-in-Delete : goal.of-requires-in-Delete
 of-requires-in-Delete g c = (change_delete c.self.inside.flags.now c.parts-operation.result.0 c.parts-operation.result.1 c.parts-operation.result.2.now c.self.inside.bytes.now c.parts-operation.ensures _ c.self.invariant c.in-Delete.is).0
