@@ -16,21 +16,17 @@ use Rattle.cap_changes.specs.declared.record_kind.RecordKind.TheVariants as reco
 use Rattle.cap_changes.proofs.PatchLemmas.{update_fits}
 
 module _ {A : Type 0} where
-  new_fits : (flags : List Bool) (old new : RecordFields A) → satisfy (requirements record_kinds.Keyed flags) old ≡ true → satisfy (new_requirements flags old) new ≡ true →
-      satisfy (new_requirements flags (update_record flags old new)) (update_record flags new old) ≡ true
-  new_fits (key ∷ flags) (before ∷ old) (after ∷ new) met met' = grind (arith, new_fits flags old new)
-  new_fits flags old new met met' = grind arith
-
-  pub inverse_of-fits : (flags : List Bool) (change : RowChange A) → change_fits flags change ≡ true → change_fits flags (inverse_of flags change) ≡ true
-  inverse_of-fits flags (Update indirect old new) fit = grind (arith, update_fits flags old new, new_fits flags old new)
-  inverse_of-fits flags change fit = fit
-
-  -- the fields of two records exchanged twice, but for the key fields
+  -- two records whose fields are exchanged, but for the key fields, fit, and are the same when exchanged again
   exchanged : (flags : List Bool) (old new : RecordFields A) → satisfy (requirements record_kinds.Keyed flags) old ≡ true → satisfy (new_requirements flags old) new ≡ true →
-      (update_record flags (update_record flags old new) (update_record flags new old) ≡ old)
+      (satisfy (new_requirements flags (update_record flags old new)) (update_record flags new old) ≡ true)
+      × (update_record flags (update_record flags old new) (update_record flags new old) ≡ old)
       × (update_record flags (update_record flags new old) (update_record flags old new) ≡ new)
   exchanged (key ∷ flags) (before ∷ old) (after ∷ new) met met' = grind (arith, exchanged flags old new)
   exchanged flags old new met met' = grind arith
+
+  pub inverse_of-fits : (flags : List Bool) (change : RowChange A) → change_fits flags change ≡ true → change_fits flags (inverse_of flags change) ≡ true
+  inverse_of-fits flags (Update indirect old new) fit = grind (arith, update_fits flags old new, exchanged flags old new)
+  inverse_of-fits flags change fit = fit
 
   pub inverse_of-back : (flags : List Bool) (change : RowChange A) → change_fits flags change ≡ true → inverse_of flags (inverse_of flags change) ≡ change
   inverse_of-back flags (Update indirect old new) fit = grind (arith, exchanged flags old new)
