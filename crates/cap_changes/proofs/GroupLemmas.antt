@@ -20,7 +20,7 @@ use Rattle.cap_changes.specs.Patch.{patch_of, update_record}
 use Rattle.cap_changes.specs.Stored.{IsEntry, AreEntries, IsKept, end_of, entries_of, part}
 use Rattle.cap_changes.specs.declared.row_change.RowChange.{RowChange}
 use Rattle.cap_changes.specs.declared.patch.Patch.{Patch}
-use Rattle.cap_changes.proofs.InvertLemmas.{inverse_of-fits}
+use Rattle.cap_changes.proofs.InvertLemmas.{inverse_of-fits, exchanged}
 use Rattle.cap_changes.proofs.PatchLemmas.{patch_of-fits}
 use Rattle.cap_changes.proofs.StoredChange.{change_entry, patch_entry}
 use Rattle.cap_changes.proofs.ValueLemmas.{inverse_values, patch_values, values_of}
@@ -29,8 +29,6 @@ use Rattle.std.proofs.Math.Seq.{drop-append_seam, take-append_seam}
 use Rattle.cap_changes.specs.Entries.{AllFit}
 use Rattle.cap_changes.specs.Field.{record_bytes}
 use Rattle.cap_changes.specs.FieldRecord.{RecordFields}
-use Rattle.cap_changes.specs.Requirements.{requirements, new_requirements, satisfy}
-use Rattle.cap_changes.specs.declared.record_kind.RecordKind.TheVariants.{Keyed}
 use Rattle.cap_changes.proofs.LeftLemmas.{first_fits, others_fit}
 use Rattle.cap_changes.proofs.PutLemmas.{put_on}
 
@@ -74,12 +72,6 @@ module _ {A : Type 0} where
 -- ---- the inverse of each change, written over its bytes, which are as many
 
 module _ {A : Type 0} where
-  -- two records whose fields are exchanged are as many bytes
-  exchanged : (flags : List Bool) (old new : RecordFields A) → satisfy (requirements Keyed flags) old ≡ true → satisfy (new_requirements flags old) new ≡ true →
-      length (record_bytes (update_record flags old new)) + length (record_bytes (update_record flags new old)) ≡ length (record_bytes old) + length (record_bytes new)
-  exchanged (key ∷ flags) (before ∷ old) (after ∷ new) met met' = grind (arith, length-append, exchanged flags old new)
-  exchanged flags old new met met' = grind arith
-
   pub as_many : (flags : List Bool) (change : RowChange A) → IsTrue (change_fits flags change) → length (change_bytes (inverse_of flags change)) ≡ length (change_bytes change)
   as_many flags (Update indirect old new) fits = grind (arith, length-append, exchanged flags old new)
   as_many flags change fits = refl

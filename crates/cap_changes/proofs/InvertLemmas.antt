@@ -1,9 +1,10 @@
 -- The inverse of a change that fits its table fits it too, and its inverse is the change again.
-use Rattle.std.proofs.Common.{◌≡◌, List, [], ◌∷◌, map, Bool, true, IsTrue, Result, Ok, Err, refl, ap, ◌∙◌, arith}
+use Rattle.std.proofs.Common.{length, length-append, ◌+◌, ◌≡◌, List, [], ◌∷◌, map, Bool, true, IsTrue, Result, Ok, Err, refl, ap, ◌∙◌, arith}
 use Rattle.std.specs.Prelude.{IfOk}
 use Rattle.std.specs.List.{AllByRecursion}
 use Rattle.std.proofs.lemmas.List.Elements.{recursion_from_All}
 use Rattle.cap_changes.specs.Entries.{IsFitting, AreFitting}
+use Rattle.cap_changes.specs.Field.{record_bytes}
 use Rattle.cap_changes.specs.FieldRecord.{RecordFields}
 use Rattle.cap_changes.specs.Requirements.{requirements, new_requirements, satisfy}
 use Rattle.cap_changes.specs.Fits.{change_fits}
@@ -16,12 +17,14 @@ use Rattle.cap_changes.specs.declared.record_kind.RecordKind.TheVariants as reco
 use Rattle.cap_changes.proofs.PatchLemmas.{update_fits}
 
 module _ {A : Type 0} where
-  -- two records whose fields are exchanged, but for the key fields, fit, and are the same when exchanged again
-  exchanged : (flags : List Bool) (old new : RecordFields A) → satisfy (requirements record_kinds.Keyed flags) old ≡ true → satisfy (new_requirements flags old) new ≡ true →
+  -- two records whose fields are exchanged, but for the key fields, fit, are as many bytes, and are the same when
+  -- exchanged again
+  pub exchanged : (flags : List Bool) (old new : RecordFields A) → satisfy (requirements record_kinds.Keyed flags) old ≡ true → satisfy (new_requirements flags old) new ≡ true →
       (satisfy (new_requirements flags (update_record flags old new)) (update_record flags new old) ≡ true)
+      × (length (record_bytes (update_record flags old new)) + length (record_bytes (update_record flags new old)) ≡ length (record_bytes old) + length (record_bytes new))
       × (update_record flags (update_record flags old new) (update_record flags new old) ≡ old)
       × (update_record flags (update_record flags new old) (update_record flags old new) ≡ new)
-  exchanged (key ∷ flags) (before ∷ old) (after ∷ new) met met' = grind (arith, exchanged flags old new)
+  exchanged (key ∷ flags) (before ∷ old) (after ∷ new) met met' = grind (arith, length-append, exchanged flags old new)
   exchanged flags old new met met' = grind arith
 
   pub inverse_of-fits : (flags : List Bool) (change : RowChange A) → change_fits flags change ≡ true → change_fits flags (inverse_of flags change) ≡ true
