@@ -1,7 +1,6 @@
 -- Groups and blobs are read as what their bytes spell.
-use Rattle.cap_codec.proofs.Common.{◌≡◌, ℕ, zero, suc, ◌≤◌, ◌⊎◌, inl, inr, Bool, false, nat_le, List, [], ◌∷◌, ◌++◌, length, map, Result, Ok, refl, ap, ◌∙◌, append_assoc, arith, length-append, nat_tests, and_parts, eq-eqb, length-map, is_utf8-from_IsUtf8, TableChanges, TablePatches, BlobFault, Contents, Changes, Patches, count_at, flags_at, header_at, is_set, change_at, patch_at, varint_bytes, is_operation, TableEntries, entries_at, group_at, patch_group_at, groups_at, blob_at, SpellsEach, SpellsChange, SpellsPatch, SpellsGroup, Spells, ◌>>=◌, IsTable, varint_again, bytes_again}
+use Rattle.cap_codec.proofs.Common.{◌≡◌, ℕ, zero, suc, ◌≤◌, ◌⊎◌, inl, inr, Bool, false, nat_le, List, [], ◌∷◌, ◌++◌, length, map, Result, Ok, refl, ap, ◌∙◌, append_assoc, arith, length-append, nat_tests, and_parts, eq-eqb, length-map, is_utf8-from_IsUtf8, TableChanges, TablePatches, BlobFault, Contents, Changes, Patches, count_at, flags_at, header_at, is_set, change_at, patch_at, varint_bytes, is_operation, TableEntries, entries_at, groups_at, blob_at, SpellsEach, SpellsChange, SpellsPatch, SpellsGroup, Spells, ◌>>=◌, IsTable, varint_again, bytes_again}
 use Rattle.cap_codec.proofs.HeaderLemmas.{name_is, key_is_set}
-use Rattle.cap_codec.proofs.Left.{changes_are, patches_are}
 use Rattle.cap_changes.proofs.ChangeAgain as change_read
 use Rattle.cap_changes.proofs.ChangeAgain.{NoChange, change_again, patch_again, each_again}
 
@@ -61,14 +60,12 @@ module _ {X : Type 0} (one_at : ℕ → List Bool → ℕ → List ℕ → Resul
 module _ {A : Type 0} where
   -- Bytes that spell a blob are read as that blob.
   pub blob_again : (blob : Contents A) (bytes : List ℕ) → Spells blob bytes → blob_at bytes ≡ Ok blob
-  unfolding blob_at group_at patch_group_at
+  unfolding blob_at
   blob_again (Changes groups) bytes spelled = elim (begins change_at 0x54 SpellsChange change_again groups bytes spelled) [
     | inl (none, nothing) ↦ rw (none, nothing) refl
-    | inr (others, is) ↦ changes_are bytes (rw is (omega arith)) (rw is refl) ∙ ap (λ (read : Result (List (TableChanges A)) BlobFault). read >>= (λ groups. Ok (Changes groups)))
-        (groups_again change_at 0x54 SpellsChange change_again refl (length bytes) (length bytes) groups bytes (omega arith) spelled)
+    | inr (others, is) ↦ let read = rw is at (groups_again change_at 0x54 SpellsChange change_again refl (length bytes) (length bytes) groups bytes (omega arith) spelled) in rw (is, read) refl
   ]
   blob_again (Patches groups) bytes (spelled, some) = elim (begins patch_at 0x50 SpellsPatch patch_again groups bytes spelled) [
     | inl (none, nothing) ↦ absurd (some nothing)
-    | inr (others, is) ↦ patches_are bytes (rw is (omega arith)) (rw is refl) ∙ ap (λ (read : Result (List (TablePatches A)) BlobFault). read >>= (λ groups. Ok (Patches groups)))
-        (groups_again patch_at 0x50 SpellsPatch patch_again refl (length bytes) (length bytes) groups bytes (omega arith) spelled)
+    | inr (others, is) ↦ let read = rw is at (groups_again patch_at 0x50 SpellsPatch patch_again refl (length bytes) (length bytes) groups bytes (omega arith) spelled) in rw (is, read) refl
   ]

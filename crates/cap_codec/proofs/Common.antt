@@ -23,7 +23,7 @@ pub use Rattle.cap_changes.specs.PatchGroup.{TablePatches}
 unfoldable pub use Rattle.cap_changes.specs.RecordReading.{record_at}
 pub use Rattle.cap_changes.specs.Spelling.{SpellsEach, SpellsChange, SpellsPatch}
 pub use Rattle.cap_changes.specs.declared.field_requirement.FieldRequirement.{FieldRequirement}
-unfoldable pub use Rattle.cap_codec.specs.BlobReading.{group_at, patch_group_at, groups_at, blob_at}
+unfoldable pub use Rattle.cap_codec.specs.BlobReading.{groups_at, blob_at}
 pub use Rattle.cap_codec.specs.BlobReading.{entries_at, wrong_kind}
 pub use Rattle.cap_codec.specs.Changeset.{key_place, flags_bytes, entries_bytes, header_bytes, list_bytes}
 unfoldable pub use Rattle.cap_codec.specs.HeaderReading.{count_at, flags_at, name_at, header_at}

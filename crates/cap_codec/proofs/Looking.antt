@@ -1,5 +1,5 @@
 -- Scanning the front of a blob: each change and header that is whole leads on, whatever follows.
-use Rattle.cap_codec.proofs.Common.{◌≡◌, ℕ, zero, suc, ◌+◌, ◌<◌, ◌≤◌, Bool, true, ◌==◌, List, [], ◌∷◌, ◌++◌, length, take, drop, get_or, Option, Some, None, IfSome, Result, Ok, Err, refl, sym, ap, subst, ◌∙◌, inl, inr, ◌⊎◌, arith, append_assoc, append-nil, length-append, length-drop, take-append-drop, drop_at, cases_Bool, eqb-true, drop-append-le, BlobFault, Truncated, Kind, Header, skip_at, is_cut, ends_early, lasting, ended, kind_byte, one_as, part_as, GoesOn, Leads, Lacks, IsQuiet, IsScanned, IsLookedAt, ◌>>=◌, place, TableEntries, is_operation, behind, changes_at, with_changes, entries_at, group_at, patch_group_at, groups_at, blob_at}
+use Rattle.cap_codec.proofs.Common.{◌≡◌, ℕ, zero, suc, ◌+◌, ◌<◌, ◌≤◌, Bool, true, ◌==◌, List, [], ◌∷◌, ◌++◌, length, take, drop, get_or, Option, Some, None, IfSome, Result, Ok, Err, refl, sym, ap, subst, ◌∙◌, inl, inr, ◌⊎◌, arith, append_assoc, append-nil, length-append, length-drop, take-append-drop, drop_at, cases_Bool, eqb-true, drop-append-le, BlobFault, Truncated, Kind, Header, skip_at, is_cut, ends_early, lasting, ended, kind_byte, one_as, part_as, GoesOn, Leads, Lacks, IsQuiet, IsScanned, IsLookedAt, ◌>>=◌, place, TableEntries, is_operation, behind, changes_at, with_changes, entries_at, groups_at, blob_at}
 use Rattle.cap_codec.specs.declared.scan.Kind.TheVariants as kinds
 use Rattle.cap_codec.specs.declared.scan.ScanPosition.{ScanPosition}
 use Rattle.cap_codec.proofs.Steady.{IsBehind, Stays, Any, further, again, no_longer, same_place, skip_flag, one_stays, header_stays}
@@ -7,14 +7,6 @@ use Rattle.cap_codec.proofs.Steady.{IsBehind, Stays, Any, further, again, no_lon
 pub either : {X : Type 0} (read : Result X BlobFault) → ((x : X) × (read ≡ Ok x)) ⊎ ((f : BlobFault) × (read ≡ Err f))
 either (Ok x) = inl (x, refl)
 either (Err f) = inr (f, refl)
-
-pub lasting_ended : {X : Type 0} (read : Result X BlobFault) → lasting (ended read) ≡ lasting read
-lasting_ended (Ok x) = refl
-lasting_ended (Err f) = refl
-
--- a fault that further bytes may mend does not last
-cut_is : {X : Type 0} (read : Result X BlobFault) (answer : Result (Unit {0}) BlobFault) → ends_early read ≡ true → ((f : BlobFault) → read ≡ Err f → answer ≡ lasting {X = Unit {0}} (Err f)) → answer ≡ Ok tt
-cut_is read answer early stops = grind (arith, stops)
 
 -- the bytes behind a part, at their offset
 place_is : (bytes rest : List ℕ) → IsBehind rest bytes → (place (length bytes) rest ≤ length bytes) × (drop (place (length bytes) rest) bytes ≡ rest)
@@ -87,7 +79,7 @@ module _ (A : Type 0) (kind : Kind) where
   -- or its fault is that of the bytes
   pub stops : (bytes rest : List ℕ) (flags : List Bool) (f : BlobFault) → Leads A kind bytes rest flags → part_as A kind (length bytes) flags rest ≡ Err f → lasting (blob_at {A = A} bytes) ≡ lasting {X = Unit {0}} (Err f)
   unfolding Leads
-  stops bytes rest flags f leads read = sym (lasting_ended (blob_at {A = A} bytes)) ∙ rw read at (part_follows (length bytes) flags rest _ (rw (append-nil bytes, append-nil rest) at (leads [])))
+  stops bytes rest flags f leads read = let follows = rw read at (part_follows (length bytes) flags rest _ (rw (append-nil bytes, append-nil rest) at (leads []))) in grind (arith, follows)
 
   pub leads_longer : (bytes rest piece : List ℕ) (flags : List Bool) → Leads A kind bytes rest flags → Leads A kind (bytes ++ piece) (rest ++ piece) flags
   unfolding Leads
@@ -128,7 +120,7 @@ module _ (A : Type 0) (kind : Kind) where
 module _ (A : Type 0) where
   -- the first part begins a blob of its kind
   pub first_leads : (kind : Kind) (bytes : List ℕ) → 1 ≤ length bytes → get_or bytes 0 0 ≡ kind_byte kind → Leads A kind bytes bytes []
-  unfolding Leads changes_at group_at patch_group_at blob_at
+  unfolding Leads changes_at blob_at
   first_leads kind [] some first = absurd (omega arith)
   first_leads kinds.Changes (byte ∷ bytes) some first = λ more. let all = byte ∷ (bytes ++ more) in (length all, length all, omega arith, omega arith, grind (arith, first))
   first_leads kinds.Patches (byte ∷ bytes) some first = λ more. let all = byte ∷ (bytes ++ more) in (length all, length all, omega arith, omega arith, grind (arith, first))
@@ -144,9 +136,6 @@ module _ (A : Type 0) where
       grind (arith, changes, patches, fault)
 
   -- ---- what a decoder knows of its bytes
-
-  pub looked_fault : (bytes all : List ℕ) (place : Option (ScanPosition A)) (fault : Option BlobFault) (f : BlobFault) → bytes ≡ all → fault ≡ Some f → IsLookedAt bytes place fault → lasting (blob_at {A = A} all) ≡ Err f
-  looked_fault bytes all place fault f same is looked = grind (arith, same, is, looked)
 
   pub looked_place : (bytes piece all : List ℕ) (place taken : Option (ScanPosition A)) (fault : Option BlobFault) → fault ≡ None → taken ≡ place → all ≡ bytes ++ piece → IsLookedAt bytes place fault → IfSome taken (IsScanned all)
   unfolding IsQuiet
@@ -194,7 +183,8 @@ module _ (A : Type 0) where
   unfolding Lacks IsQuiet
   is_quiet kind bytes rest flags missing due f read cut leads lacks le = λ more lt.
       let early = lacks kind flags more (omega (arith, length-append bytes more)) (rw read cut) in
-      cut_is (part_as A kind (length (bytes ++ more)) flags (rest ++ more)) _ (rw (length-append bytes more) early) (λ g. stops A kind (bytes ++ more) (rest ++ more) flags g (leads_longer A kind bytes rest more flags leads))
+      let stop = λ (g : BlobFault). stops A kind (bytes ++ more) (rest ++ more) flags g (leads_longer A kind bytes rest more flags leads) in
+      grind (arith, length-append bytes more, early, stop)
 
   pub quiet_now : (bytes : List ℕ) (due : ℕ) → length bytes < due → IsQuiet A bytes due → lasting (blob_at {A = A} bytes) ≡ Ok tt
   unfolding IsQuiet

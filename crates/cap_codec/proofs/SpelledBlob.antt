@@ -1,5 +1,5 @@
 -- What was read is spelled by the bytes that were read: headers, groups and blobs.
-use Rattle.cap_codec.proofs.Common.{◌≡◌, ℕ, zero, suc, ◌≤◌, Bool, true, ◌==◌, List, [], ◌∷◌, ◌++◌, length, take, map, IfOk, Result, Ok, Err, IsTrue, IsUtf8, refl, ap, subst, ◌∙◌, append_assoc, arith, length-take, length-append, list_any, position_or_len, nat_tests, eqb-true, length-map, IsUtf8-from_is_utf8, Fault, AnswersUnlessMemory, AreBytes, is_name, TableChanges, TablePatches, BlobFault, Contents, Changes, Header, is_zero, count_at, flags_at, name_at, header_at, is_set, change_at, patch_at, changes_at, lasting, varint_bytes, is_operation, TableEntries, entries_at, group_at, patch_group_at, groups_at, blob_at, SpellsEach, SpellsChange, SpellsPatch, SpellsChanges, SpellsPatches, Spells, IsTable, bind_ok, check_ok, ok_is, AreLow, low_behind, varint_spelled, bytes_spelled}
+use Rattle.cap_codec.proofs.Common.{◌≡◌, ℕ, zero, suc, ◌≤◌, Bool, true, ◌==◌, List, [], ◌∷◌, ◌++◌, length, take, map, IfOk, Result, Ok, Err, IsTrue, IsUtf8, refl, ap, subst, ◌∙◌, append_assoc, arith, length-take, length-append, list_any, position_or_len, nat_tests, eqb-true, length-map, IsUtf8-from_is_utf8, Fault, AnswersUnlessMemory, AreBytes, is_name, TableChanges, TablePatches, BlobFault, Contents, Changes, Header, is_zero, count_at, flags_at, name_at, header_at, is_set, change_at, patch_at, changes_at, lasting, varint_bytes, is_operation, TableEntries, entries_at, groups_at, blob_at, SpellsEach, SpellsChange, SpellsPatch, SpellsChanges, SpellsPatches, Spells, IsTable, bind_ok, check_ok, ok_is, AreLow, low_behind, varint_spelled, bytes_spelled}
 use Rattle.cap_codec.proofs.HeaderLemmas.{zero_at, key_is_set, is_schema_of, name_before}
 use Rattle.cap_codec.proofs.BlobAgain.{SpelledAs, blob_again}
 use Rattle.cap_changes.proofs.ChangeSpelled.{Begins, change_spelled, patch_spelled, each_spelled}
@@ -80,23 +80,13 @@ module _ {X : Type 0} (one_at : ℕ → List Bool → ℕ → List ℕ → Resul
 module _ {A : Type 0} where
   -- Bytes that are read as a blob spell it.
   pub blob_spelled : (bytes : List ℕ) (blob : Contents A) → AreLow bytes → blob_at bytes ≡ Ok blob → Spells blob bytes
-  unfolding blob_at group_at patch_group_at
+  unfolding blob_at
   blob_spelled [] blob low e = subst (λ (b : Contents A). Spells b []) (ok_is (Changes []) blob e) refl
   blob_spelled (kind ∷ bytes) blob low e =
       let all = length (kind ∷ bytes) in
-      let changes : (groups : List (TableChanges A)) → groups_at group_at 0x54 all all (kind ∷ bytes) ≡ Ok groups → SpellsEach SpellsChanges groups (kind ∷ bytes) = λ groups. groups_spelled change_at 0x54 SpellsChange change_spelled all all (kind ∷ bytes) groups low (omega arith) in
-      let patches : (groups : List (TablePatches A)) → groups_at patch_group_at 0x50 all all (kind ∷ bytes) ≡ Ok groups → SpellsEach SpellsPatches groups (kind ∷ bytes) = λ groups. groups_spelled patch_at 0x50 SpellsPatch patch_spelled all all (kind ∷ bytes) groups low (omega arith) in
+      let changes : (groups : List (TableChanges A)) → groups_at (entries_at change_at) 0x54 all all (kind ∷ bytes) ≡ Ok groups → SpellsEach SpellsChanges groups (kind ∷ bytes) = λ groups. groups_spelled change_at 0x54 SpellsChange change_spelled all all (kind ∷ bytes) groups low (omega arith) in
+      let patches : (groups : List (TablePatches A)) → groups_at (entries_at patch_at) 0x50 all all (kind ∷ bytes) ≡ Ok groups → SpellsEach SpellsPatches groups (kind ∷ bytes) = λ groups. groups_spelled patch_at 0x50 SpellsPatch patch_spelled all all (kind ∷ bytes) groups low (omega arith) in
       grind (arith, nat_tests, changes, patches, e)
-
-  -- ---- what a reader answers
-
-  pub answer_spelled : (bytes : List ℕ) (answer : Result (Contents A) (Fault BlobFault)) → AreLow bytes → AnswersUnlessMemory answer (blob_at bytes) → IfOk answer (λ blob. Spells blob bytes)
-  answer_spelled bytes answer low is = let spelled = λ (blob : Contents A). blob_spelled bytes blob low in grind (arith, spelled, is)
-
-module _ (A : Type 0) where
-  -- what spells a blob has no fault
-  pub none_lasts : (bytes : List ℕ) (blob : Contents A) (f : BlobFault) → Spells blob bytes → lasting (blob_at {A = A} bytes) ≡ Err f → ⊥
-  none_lasts bytes blob f spelled lasts = let none : lasting (blob_at {A = A} bytes) ≡ Ok tt = ap lasting (blob_again blob bytes spelled) in cc
 
 pub low_bytes : (bytes : List ℕ) → AreBytes bytes → AreLow bytes
 low_bytes [] are = tt

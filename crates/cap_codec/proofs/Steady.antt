@@ -44,7 +44,7 @@ module _ (P : Result (List ℕ) ℕ → Type 0) where
   stays_then bytes more (Err e) later f g stays others = grind (arith, stays)
 
   -- a test of what does not change
-  pub either_stays : {X : Type 0} (bytes more : List ℕ) (test : Bool) (x y later_x later_y : Result (X × List ℕ) BlobFault) → Stays P bytes more x later_x → Stays P bytes more y later_y
+  pub either_stays : {X : Type 0} (bytes more : List ℕ) (test : Bool) (x y later_x later_y : Result (X × List ℕ) BlobFault) → (test ≡ true → Stays P bytes more x later_x) → (test ≡ false → Stays P bytes more y later_y)
       → Stays P bytes more (cond test x y) (cond test later_x later_y)
   either_stays bytes more test x y later_x later_y of_x of_y = grind (arith, of_x, of_y)
 
@@ -85,29 +85,15 @@ module _ (A : Type 0) (P : Result (List ℕ) ℕ → Type 0) where
       let rest = λ (count : ℕ) (left : List ℕ) (behind : IsBehind left bytes) (q : P (skip_content (Ok (count, left)))). wider P left bytes more _ _ behind (bytes_stay P total (total + length more) count left more q) in
       grind (arith, read, same, rest, p)
 
-  text_stays : (total at : ℕ) (bytes more : List ℕ) → P (skip_content (varint_at total bytes)) → Stays P bytes more (text_at total at bytes) (text_at (total + length more) at (bytes ++ more))
-  unfolding text_at
-  text_stays total at bytes more p = let sized = sized_stays total at bytes more p in grind (arith, sized)
-
-  -- a test that what is skipped makes too
-  either_skip : {X : Type 0} (bytes more : List ℕ) (test : Bool) (s t : Result (ℕ × List ℕ) BlobFault) (x y later_x later_y : Result (X × List ℕ) BlobFault) → (P (skip_content s) → Stays P bytes more x later_x)
-      → (P (skip_content t) → Stays P bytes more y later_y) → P (skip_content (cond test s t)) → Stays P bytes more (cond test x y) (cond test later_x later_y)
-  either_skip bytes more test s t x y later_x later_y of_x of_y p = grind (arith, of_x, of_y)
-
   content_stays : (total at kind : ℕ) (bytes more : List ℕ) → P (skip_content (content_len_at total kind bytes)) → Stays P bytes more (content_at {A = A} total at kind bytes) (content_at (total + length more) at kind (bytes ++ more))
-  unfolding content_at
+  unfolding content_at text_at
   content_stays total at kind bytes more p =
       let none : nat_lt (length bytes) 0 ≡ false = le-ltb (length bytes) 0 (omega arith) in
-      either_skip bytes more (kind == 0) _ _ _ _ _ _ (λ q. (refl, ([], refl), rw none at q))
-      (either_skip bytes more (kind == 1) _ _ _ _ _ _
-      (λ q. stays_then P bytes more (number_at total bytes) _ _ _ (stays_then P bytes more _ _ _ _ (bytes_stay P total (total + length more) 8 bytes more q) (λ n r. (refl, ([], refl), r))) (λ n r. (refl, ([], refl), r)))
-      (either_skip bytes more (kind == 3) _ _ _ _ _ _ (λ q. stays_then P bytes more _ _ _ _ (text_stays total at bytes more q) (λ text r. (refl, ([], refl), r)))
-      (either_skip bytes more (kind == 4) _ _ _ _ _ _ (λ q. stays_then P bytes more _ _ _ _ (sized_stays total at bytes more q) (λ blob r. (refl, ([], refl), r)))
-      (λ q. (refl, ([], refl), rw none at q))))) p
-
-  typed_stays : (total at : ℕ) (requirement : FieldRequirement) (kind : ℕ) (bytes more : List ℕ) → P (skip_content (content_len_at total kind bytes))
-      → Stays P bytes more (typed_at {A = A} total at requirement kind bytes) (typed_at (total + length more) at requirement kind (bytes ++ more))
-  typed_stays total at requirement kind bytes more p = let content = content_stays total at kind bytes more p in grind (arith, content)
+      either_stays P bytes more (kind == 0) _ _ _ _ (λ is. (refl, ([], refl), rw none at (rw is at p)))
+      (λ no_0. either_stays P bytes more (kind == 1) _ _ _ _ (λ is. let number = bytes_stay P total (total + length more) 8 bytes more (rw (no_0, is) at p) in grind (arith, number))
+      (λ no_1. either_stays P bytes more (kind == 3) _ _ _ _ (λ is. let text = sized_stays total at bytes more (rw (no_0, no_1, is) at p) in grind (arith, text))
+      (λ no_3. either_stays P bytes more (kind == 4) _ _ _ _ (λ is. let blob = sized_stays total at bytes more (rw (no_0, no_1, no_3, is) at p) in grind (arith, blob))
+      (λ no_4. (refl, ([], refl), rw none at (rw (no_0, no_1, no_3, no_4) at p))))))
 
 -- the bytes behind the flag byte of a change, or that it lacks
 abbrev pub skip_flag : List ℕ → Result (List ℕ) ℕ
@@ -121,8 +107,9 @@ module _ (A : Type 0) (P : Result (List ℕ) ℕ → Type 0) (total : ℕ) (next
   unfolding field_at
   field_stays required.Omitted bytes more p = (refl, ([], refl), p)
   field_stays requirement [] more p = (λ lasts. absurd cc, λ cut. (1, next [] p, λ lt. grind arith))
-  field_stays requirement (kind ∷ bytes) more p = rw (same_place total (kind ∷ bytes) more)
-      (wider P bytes (kind ∷ bytes) more _ _ (kind ∷ [], refl) (typed_stays A P total (place total (kind ∷ bytes)) requirement kind bytes more (next (kind ∷ bytes) p)))
+  field_stays requirement (kind ∷ bytes) more p =
+      let content = content_stays A P total (place total (kind ∷ bytes)) kind bytes more (next (kind ∷ bytes) p) in
+      rw (same_place total (kind ∷ bytes) more) (wider P bytes (kind ∷ bytes) more _ _ (kind ∷ [], refl) (grind (arith, content)))
 
   record_stays : (requirements : List FieldRequirement) (bytes more : List ℕ) → P (Ok bytes) → Stays P bytes more (record_at {A = A} total requirements bytes) (record_at (total + length more) requirements (bytes ++ more))
   unfolding record_at

@@ -7,17 +7,6 @@ use Rattle.cap_codec.specs.declared.stream.ReadFault.TheVariants as read
 use Rattle.cap_stream.specs.StreamCalls.{GaveAtMost, ReadsGave}
 use Rattle.cap_codec.proofs.Looking.{err_lasts}
 
--- ---- the bytes of a reader
-
--- where they show a fault
-fault_of : (A : Type 0) (a c : Option (List ℕ)) (fed : List ℕ) (f : BlobFault) → Consumes a c fed → lasting (blob_at {A = A} fed) ≡ Err f → IfSome a (λ given. blob_at {A = A} given ≡ Err f)
-fault_of A a c fed f p lasts = let later = λ (more : List ℕ). err_lasts A fed more f lasts in grind (arith, later, p)
-
--- ---- what the reads gave
-
-pub within_piece : (count : ℕ) (piece : List ℕ) → length piece ≡ 4096 → length (take count piece) ≤ 4096
-within_piece count piece long = omega (arith, length-take count piece)
-
 module _ (A : Type 0) {R : Type 0} (remaining : R → Option (List ℕ)) (gave failed : R → R → Type 0) where
   abbrev On : ℕ → R → R → List ℕ → Type 0
   On n old new bytes = ReadsOn A remaining gave failed n old new bytes
@@ -39,7 +28,7 @@ module _ (A : Type 0) {R : Type 0} (remaining : R → Option (List ℕ)) (gave f
   blob_is (Err (read.Blob f)) old new (n, lt, before, front, piece, on, last, given) =
       let all = all_fed n old before new front piece on last in
       elim given [
-        | inl lasts ↦ fault_of A (remaining old) (remaining new) (front ++ piece) f all lasts
+        | inl lasts ↦ let later = λ (more : List ℕ). err_lasts A (front ++ piece) more f lasts in grind (arith, later, all)
         | inr (none, end, read) ↦ Consumes-whole (remaining old) (remaining new) (front ++ piece) (λ given. blob_at given ≡ Err f) all end (rw (none, append-nil front) read)
       ]
   blob_is (Err fault) old new ends = grind arith

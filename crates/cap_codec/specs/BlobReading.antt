@@ -2,8 +2,6 @@
 use Rattle.std.specs.Prelude.{ℕ, zero, suc, Bool, List, [], ◌∷◌, length, Result, Ok, Err, ◌==◌, ◌||◌}
 use Rattle.std.specs.Prelude.{if◌then◌else◌}
 use Rattle.cap_changes.specs.Entries.{TableEntries}
-use Rattle.cap_changes.specs.Group.{TableChanges}
-use Rattle.cap_changes.specs.PatchGroup.{TablePatches}
 use Rattle.cap_field.specs.declared.fault.BlobFault.{BlobFault}
 use Rattle.cap_field.specs.declared.fault.FaultKind.TheVariants.{BadHeader, BadOp, Mixed}
 use Rattle.cap_codec.specs.declared.read.Contents.{Contents}
@@ -28,15 +26,6 @@ entries_at {X} one_at total bytes = header_at total bytes >>= (λ header.
     with_changes {X = X} (record { table = header.0.table; schema = header.0.flags; changes = [] })
     (changes_at one_at (length header.1) total header.0.flags header.1))
 
-module _ {A : Type 0} where
-  -- a group of a changeset, behind its kind byte
-  unfoldable pub group_at : ℕ → List ℕ → Result (TableChanges A × List ℕ) BlobFault
-  group_at total bytes = entries_at change_at total bytes
-
-  -- a group of a patchset, behind its kind byte
-  unfoldable pub patch_group_at : ℕ → List ℕ → Result (TablePatches A × List ℕ) BlobFault
-  patch_group_at total bytes = entries_at patch_at total bytes
-
 module _ {X : Type 0} where
   -- Groups of one kind up to the end, at most `most` of them.
   unfoldable pub groups_at : (ℕ → List ℕ → Result (X × List ℕ) BlobFault) → ℕ → ℕ → ℕ → List ℕ →
@@ -55,9 +44,9 @@ module _ {A : Type 0} where
   blob_at [] = Ok (Changes [])
   blob_at (kind ∷ bytes) =
       if kind == changeset_kind
-      then groups_at group_at kind (length (kind ∷ bytes)) (length (kind ∷ bytes)) (kind ∷ bytes)
+      then groups_at (entries_at change_at) kind (length (kind ∷ bytes)) (length (kind ∷ bytes)) (kind ∷ bytes)
       >>= (λ groups. Ok (Changes groups))
       else (if kind == patchset_kind
-      then groups_at patch_group_at kind (length (kind ∷ bytes)) (length (kind ∷ bytes)) (kind ∷ bytes)
+      then groups_at (entries_at patch_at) kind (length (kind ∷ bytes)) (length (kind ∷ bytes)) (kind ∷ bytes)
       >>= (λ groups. Ok (Patches groups))
       else fault BadHeader 0)

@@ -37,12 +37,9 @@ entries_bytes key_flags kind bytes group =
     changes_under bytes (header_bytes key_flags kind group.table group.schema) group.changes
 
 module _ {A : Type 0} where
-  abbrev pub group_bytes : KeyFlags → TableChanges A → List ℕ
-  group_bytes key_flags group = entries_bytes key_flags changeset_kind change_bytes group
-
   -- the groups in the list's order
   abbrev pub list_bytes_with : KeyFlags → List (TableChanges A) → List ℕ
-  list_bytes_with key_flags groups = flat_map (group_bytes key_flags) groups
+  list_bytes_with key_flags groups = flat_map (entries_bytes key_flags changeset_kind change_bytes) groups
 
   -- with the key flags of the documentation
   abbrev pub list_bytes : List (TableChanges A) → List ℕ

@@ -9,12 +9,9 @@ use Rattle.cap_changes.specs.KindByte.{patchset_kind}
 use Rattle.cap_codec.specs.Changeset.{entries_bytes}
 
 module _ {A : Type 0} where
-  abbrev pub patch_group_bytes : KeyFlags → TablePatches A → List ℕ
-  patch_group_bytes key_flags group = entries_bytes key_flags patchset_kind patch_bytes group
-
   -- the groups in the list's order
   abbrev pub patch_list_bytes_with : KeyFlags → List (TablePatches A) → List ℕ
-  patch_list_bytes_with key_flags groups = flat_map (patch_group_bytes key_flags) groups
+  patch_list_bytes_with key_flags groups = flat_map (entries_bytes key_flags patchset_kind patch_bytes) groups
 
   -- with the key flags of the documentation
   abbrev pub patch_list_bytes : List (TablePatches A) → List ℕ

@@ -1,25 +1,12 @@
 //! How many bytes a change lacks that is not complete.
 
 ghost use Rattle.std.specs.Prelude.{◌≡◌, ◌<◌, ◌≤◌, length, Ok, Err, IfOk, IfErr};
-ghost use Rattle.cap_field.specs.Reading.{Reads};
-ghost use Rattle.cap_codec.specs.Missing.{content_len_at, skip_at};
+ghost use Rattle.cap_codec.specs.Missing.{skip_at};
 ghost use Rattle.cap_codec.specs.Pieces.{Lacks};
 
 use cap_changes::Operation;
-use cap_field::{BLOB, BlobFault, INTEGER, TEXT, take_varint};
+use cap_field::{BLOB, INTEGER, TEXT, take_varint};
 use cap_value::AllocHandle;
-
-// How many bytes the content behind this type byte has, and the bytes that it begins.
-fn content_len(total: usize, kind: u8, bytes: &[u8]) -> Result<(usize, &[u8]), BlobFault>
-    ensures reads { Reads (λ x. (x.0, x.1.now)) result (content_len_at total kind bytes.now) }
-    ensures behind { IfOk result (λ x. length x.1.now ≤ length bytes.now) }
-{
-    match kind {
-        INTEGER => Ok((8, bytes)),
-        TEXT | BLOB => take_varint(total, bytes),
-        _ => Ok((0, bytes)),
-    }
-}
 
 // The bytes behind the field, or how many bytes it lacks at least.
 fn skip_field(total: usize, bytes: &[u8]) -> Result<&[u8], usize>
@@ -30,7 +17,12 @@ fn skip_field(total: usize, bytes: &[u8]) -> Result<&[u8], usize>
     let [kind, rest @ ..] = bytes else {
         return Err(1);
     };
-    let Ok((len, content)) = content_len(total, *kind, rest) else {
+    let part = match *kind {
+        INTEGER => Ok((8, rest)),
+        TEXT | BLOB => take_varint(total, rest),
+        _ => Ok((0, rest)),
+    };
+    let Ok((len, content)) = part else {
         return Err(1);
     };
     if content.len() < len {

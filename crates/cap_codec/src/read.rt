@@ -56,7 +56,7 @@ fn take_groups<C: Entry + Drop, A: AllocHandle>(
     Ok(list)
 }
 
-#[tactic(auto, using(crate::proofs::Left::changes_are, crate::proofs::Left::patches_are), unfolding(crate::specs::BlobReading::blob_at, crate::specs::BlobReading::group_at, crate::specs::BlobReading::patch_group_at))]
+#[tactic(auto, using(crate::proofs::Left::first_is), unfolding(crate::specs::BlobReading::blob_at))]
 fn take_blob<A: AllocHandle>(alloc: A, bytes: &[u8]) -> Result<Contents<A>, Fault<BlobFault>>
     ensures answers { AnswersUnlessMemory result (blob_at bytes.now) }
     ensures first { RefusesFirst (first_fault bytes.now) result }

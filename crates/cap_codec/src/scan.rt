@@ -3,7 +3,7 @@
 
 ghost use Rattle.std.specs.Prelude.{◌≡◌, IfSome, OnErr};
 ghost use Rattle.cap_value.specs.Memory.{ShowsUnlessMemory};
-ghost use Rattle.cap_codec.specs.Pieces.{is_cut, part_at, part_as, IsPlace, IsScanned, Scans};
+ghost use Rattle.cap_codec.specs.Pieces.{part_at, part_as, IsPlace, IsScanned, Scans};
 
 use crate::group::set_flags;
 use crate::header::{fault, take_header};
@@ -31,13 +31,6 @@ pub struct ScanPosition<A: AllocHandle> {
     at: usize,
     // Whatever follows, no fault but `Truncated` is there before the blob has this many bytes.
     due: usize,
-}
-
-// Whether further bytes may mend the fault: the blob ends too early.
-fn is_cut(fault: BlobFault) -> bool
-    ensures { result ≡ is_cut fault.kind }
-{
-    fault.kind == FaultKind::Truncated
 }
 
 // Passes the next change or header in a group of these columns, and answers the bytes behind it.
@@ -96,7 +89,8 @@ fn scan_from<A: AllocHandle>(
         match pass_as(alloc, bytes.len(), place.kind, &mut place.flags, rest) {
             Ok(behind) => place.at = place_of(bytes.len(), behind),
             Err(Fault::Refused(fault)) => {
-                if is_cut(fault) {
+                // Further bytes may mend a blob that ends too early.
+                if fault.kind == FaultKind::Truncated {
                     let missing = missing::<A>(bytes.len(), rest);
                     place.due = bytes.len().saturating_add(missing);
                     return Ok(Some(place));

@@ -91,13 +91,11 @@ pub fn push_group_header<A: AllocHandle>(
     ensures kept { OnErr result (out.new.items ≡ out.old.items) }
 {
     let before = out.len();
-    match push_header(out, key_flags, CHANGESET_KIND, table, schema) {
-        Ok(()) => Ok(()),
-        Err(_) => {
-            out.truncate(before);
-            Err(OutOfMemory)
-        }
+    let pushed = push_header(out, key_flags, CHANGESET_KIND, table, schema);
+    if pushed.is_err() {
+        out.truncate(before);
     }
+    pushed
 }
 
 // Appends a group. A group without changes has no bytes.

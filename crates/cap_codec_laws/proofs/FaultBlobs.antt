@@ -3,7 +3,8 @@ use Rattle.cap_codec.proofs.Common.{◌≡◌, ℕ, zero, suc, ◌≤◌, inl, i
 use Rattle.cap_codec.specs.declared.scan.Kind.{Kind}
 use Rattle.cap_codec.specs.declared.scan.Kind.TheVariants as kinds
 use Rattle.cap_codec.proofs.Looking.{either, leads_on, leads_longer, stops, ends, first_leads}
-use Rattle.cap_codec.proofs.SpelledBlob.{blob_spelled, none_lasts, low_bytes}
+use Rattle.cap_codec.proofs.BlobAgain.{blob_again}
+use Rattle.cap_codec.proofs.SpelledBlob.{blob_spelled, low_bytes}
 use Rattle.cap_codec_laws.specs.FaultPlace.{IsFaultyPart, Begins, IsFaultAt}
 use Rattle.cap_codec_laws.proofs.FaultParts.{Reader, Reads, Part, low_both, done, bind, choice, byte_part}
 use Rattle.cap_codec_laws.proofs.FaultFields.{record_part}
@@ -44,7 +45,7 @@ module _ (A : Type 0) (bytes : List ℕ) (f : BlobFault) (stopped : lasting (blo
   unfolding IsFaultAt
   found kind front part rest more parts is low end stuck =
       let (blob, read, ok) = bind_ok (blob_at {A = A} (front ++ more)) (λ b. Ok tt) tt end in
-      let never : Begins A (front ++ part) → ⊥ = λ (others, other, so). none_lasts A (front ++ (part ++ others)) other _ (rw (append_assoc front part others) at so) (stuck others) in
+      let never : Begins A (front ++ part) → ⊥ = λ (others, other, so). let again = blob_again other (front ++ (part ++ others)) (rw (append_assoc front part others) at so) in absurd (grind (arith, again, stuck others)) in
       subst (IsFaultAt A bytes) (err_is {A = Unit {0}} _ f (sym (stuck rest) ∙ rw parts at stopped))
       (front, part, rest, parts, omega (arith, length-append front (part ++ rest)), is, (more, blob, blob_spelled (front ++ more) blob low read), never)
 
