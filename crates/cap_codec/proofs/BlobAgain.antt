@@ -1,5 +1,5 @@
 -- Groups and blobs are read as what their bytes spell.
-use Rattle.cap_codec.proofs.Common.{◌≡◌, ℕ, zero, suc, ◌≤◌, ◌⊎◌, inl, inr, Bool, false, nat_le, List, [], ◌∷◌, ◌++◌, length, map, Result, Ok, refl, ap, ◌∙◌, append_assoc, arith, length-append, nat_tests, and_parts, eq-eqb, length-map, is_utf8-from_IsUtf8, TableChanges, TablePatches, BlobFault, Contents, Changes, Patches, count_at, flags_at, header_at, is_set, change_at, patch_at, varint_bytes, is_operation, TableEntries, entries_at, groups_at, blob_at, SpellsEach, SpellsChange, SpellsPatch, SpellsGroup, Spells, ◌>>=◌, IsTable, varint_again, bytes_again}
+use Rattle.cap_codec.proofs.Common.{◌≡◌, ℕ, zero, suc, ◌≤◌, ◌⊎◌, inl, inr, Bool, false, nat_le, List, [], ◌∷◌, ◌++◌, length, map, Result, Ok, refl, ap, ◌∙◌, append_assoc, arith, length-append, nat_tests, and_parts, eq-eqb, length-map, is_utf8-from_IsUtf8, BlobFault, Contents, Changes, Patches, count_at, flags_at, header_at, is_set, change_at, patch_at, varint_bytes, is_operation, TableEntries, entries_at, groups_at, blob_at, SpellsEach, SpellsChange, SpellsPatch, SpellsGroup, Spells, IsTable, varint_again, bytes_again}
 use Rattle.cap_codec.proofs.HeaderLemmas.{name_is, key_is_set}
 use Rattle.cap_changes.proofs.ChangeAgain as change_read
 use Rattle.cap_changes.proofs.ChangeAgain.{NoChange, change_again, patch_again, each_again}

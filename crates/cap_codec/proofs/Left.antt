@@ -1,5 +1,5 @@
 -- Reading the groups of a blob one after the other, as the loop does: what was read, and what is left.
-use Rattle.cap_codec.proofs.Common.{fault, BadHeader, entries_at, change_at, patch_at, eqb-true, if◌then◌else◌, ◌≡◌, ℕ, zero, suc, ◌<◌, ◌≤◌, ◌==◌, true, false, List, [], ◌∷◌, ◌++◌, length, get_or, Result, Ok, Err, refl, sym, ap, ◌∙◌, append_assoc, append-nil, arith, BlobFault, Fault, Refused, OutOfMemory, RefusesUnlessMemory, ◌>>=◌, place, Changes, Patches, wrong_kind, groups_at, blob_at, behind_of, behind-is}
+use Rattle.cap_codec.proofs.Common.{fault, BadHeader, entries_at, change_at, patch_at, eqb-true, if◌then◌else◌, ◌≡◌, ℕ, zero, suc, ◌<◌, ◌≤◌, ◌==◌, List, [], ◌∷◌, ◌++◌, length, get_or, Result, Ok, Err, sym, ap, ◌∙◌, append-nil, arith, BlobFault, ◌>>=◌, place, Changes, Patches, wrong_kind, groups_at, blob_at, behind_of, behind-is}
 
 module _ {X : Type 0} (one_at : ℕ → List ℕ → Result (X × List ℕ) BlobFault) (kind : ℕ) where
   -- `all` is these groups, and those that are read from these bytes, of which at most `most` are left

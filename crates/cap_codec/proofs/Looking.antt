@@ -1,5 +1,5 @@
 -- Scanning the front of a blob: each change and header that is whole leads on, whatever follows.
-use Rattle.cap_codec.proofs.Common.{◌≡◌, ℕ, zero, suc, ◌+◌, ◌<◌, ◌≤◌, Bool, true, ◌==◌, List, [], ◌∷◌, ◌++◌, length, take, drop, get_or, Option, Some, None, IfSome, Result, Ok, Err, refl, sym, ap, subst, ◌∙◌, inl, inr, ◌⊎◌, arith, append_assoc, append-nil, length-append, length-drop, take-append-drop, drop_at, cases_Bool, eqb-true, drop-append-le, BlobFault, Truncated, Kind, Header, skip_at, is_cut, ends_early, lasting, ended, kind_byte, one_as, part_as, GoesOn, Leads, Lacks, IsQuiet, IsScanned, IsLookedAt, ◌>>=◌, place, TableEntries, is_operation, behind, changes_at, with_changes, entries_at, groups_at, blob_at}
+use Rattle.cap_codec.proofs.Common.{◌≡◌, ℕ, zero, suc, ◌+◌, ◌<◌, ◌≤◌, Bool, true, ◌==◌, List, [], ◌∷◌, ◌++◌, length, take, drop, get_or, Option, Some, None, IfSome, Result, Ok, Err, refl, sym, ap, subst, ◌∙◌, inl, inr, ◌⊎◌, arith, append_assoc, append-nil, length-append, length-drop, take-append-drop, drop_at, cases_Bool, eqb-true, drop-append-le, BlobFault, Truncated, Kind, Header, skip_at, is_cut, lasting, ended, kind_byte, one_as, part_as, GoesOn, Leads, Lacks, IsQuiet, IsScanned, IsLookedAt, ◌>>=◌, place, TableEntries, is_operation, behind, changes_at, with_changes, entries_at, groups_at, blob_at}
 use Rattle.cap_codec.specs.declared.scan.Kind.TheVariants as kinds
 use Rattle.cap_codec.specs.declared.scan.ScanPosition.{ScanPosition}
 use Rattle.cap_codec.proofs.Steady.{IsBehind, Stays, Any, further, again, no_longer, same_place, skip_flag, one_stays, header_stays}

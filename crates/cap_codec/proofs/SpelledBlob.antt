@@ -1,7 +1,7 @@
 -- What was read is spelled by the bytes that were read: headers, groups and blobs.
-use Rattle.cap_codec.proofs.Common.{◌≡◌, ℕ, zero, suc, ◌≤◌, Bool, true, ◌==◌, List, [], ◌∷◌, ◌++◌, length, take, map, IfOk, Result, Ok, Err, IsTrue, IsUtf8, refl, ap, subst, ◌∙◌, append_assoc, arith, length-take, length-append, list_any, position_or_len, nat_tests, eqb-true, length-map, IsUtf8-from_is_utf8, Fault, AnswersUnlessMemory, AreBytes, is_name, TableChanges, TablePatches, BlobFault, Contents, Changes, Header, is_zero, count_at, flags_at, name_at, header_at, is_set, change_at, patch_at, changes_at, lasting, varint_bytes, is_operation, TableEntries, entries_at, groups_at, blob_at, SpellsEach, SpellsChange, SpellsPatch, SpellsChanges, SpellsPatches, Spells, IsTable, bind_ok, check_ok, ok_is, AreLow, low_behind, varint_spelled, bytes_spelled}
+use Rattle.cap_codec.proofs.Common.{◌≡◌, ℕ, zero, suc, ◌≤◌, Bool, true, ◌==◌, List, [], ◌∷◌, ◌++◌, length, take, map, Result, Ok, IsTrue, IsUtf8, refl, ap, subst, ◌∙◌, append_assoc, arith, length-take, length-append, list_any, position_or_len, nat_tests, eqb-true, length-map, IsUtf8-from_is_utf8, AreBytes, is_name, TableChanges, TablePatches, BlobFault, Contents, Changes, Header, is_zero, count_at, flags_at, name_at, header_at, is_set, change_at, patch_at, changes_at, varint_bytes, is_operation, TableEntries, entries_at, groups_at, blob_at, SpellsEach, SpellsChange, SpellsPatch, SpellsChanges, SpellsPatches, Spells, IsTable, bind_ok, check_ok, ok_is, AreLow, low_behind, varint_spelled, bytes_spelled}
 use Rattle.cap_codec.proofs.HeaderLemmas.{zero_at, key_is_set, is_schema_of, name_before}
-use Rattle.cap_codec.proofs.BlobAgain.{SpelledAs, blob_again}
+use Rattle.cap_codec.proofs.BlobAgain.{SpelledAs}
 use Rattle.cap_changes.proofs.ChangeSpelled.{Begins, change_spelled, patch_spelled, each_spelled}
 
 -- ---- headers

@@ -1,7 +1,6 @@
 -- What was read, and a fault other than `Truncated`, stay as they are where more bytes follow. What ends early
 -- still does, while fewer bytes follow than it lacks.
-use Rattle.cap_codec.proofs.Common.{◌≡◌, ℕ, ◌+◌, ◌-◌, ◌*◌, ◌<◌, ◌≤◌, Bool, true, false, cond, nat_lt, ◌==◌, List, [], ◌∷◌, ◌++◌, length, take, drop, Result, Ok, Err, refl, sym, ap, subst, ◌∙◌, arith, append_assoc, append-nil, length-append, length-take, take-append-drop, le-ltb, position_or_len, nat_tests, take-append-le, drop-append-le, FieldRequirement, BlobFault, sized_at, text_at, content_at, typed_at, field_at, is_zero, count_at, flags_at, name_at, header_at, change_at, patch_at, content_len_at, skip_content, skip_at, Kind, is_cut, ends_early, one_as, ◌>>=◌, place, byte_at, bytes_at, varint_from, varint_at, record_at}
-use Rattle.cap_field.specs.FieldReading.{number_at}
+use Rattle.cap_codec.proofs.Common.{◌≡◌, ℕ, ◌+◌, ◌-◌, ◌*◌, ◌<◌, ◌≤◌, Bool, true, false, cond, nat_lt, ◌==◌, List, [], ◌∷◌, ◌++◌, length, take, drop, Result, Ok, Err, refl, sym, ap, subst, ◌∙◌, arith, append_assoc, append-nil, length-append, length-take, take-append-drop, le-ltb, position_or_len, nat_tests, take-append-le, drop-append-le, FieldRequirement, BlobFault, sized_at, text_at, content_at, field_at, is_zero, count_at, flags_at, name_at, header_at, change_at, patch_at, content_len_at, skip_content, skip_at, Kind, is_cut, ends_early, one_as, ◌>>=◌, place, byte_at, bytes_at, varint_from, varint_at, record_at}
 use Rattle.cap_changes.specs.declared.field_requirement.FieldRequirement.TheVariants as required
 use Rattle.cap_changes.specs.Requirements.{requirements}
 use Rattle.cap_codec.specs.declared.scan.Kind.TheVariants as kinds

@@ -1,5 +1,5 @@
 -- What was read of a reader's bytes.
-use Rattle.cap_codec.proofs.Common.{◌≡◌, ℕ, zero, suc, ◌+◌, ◌<◌, ◌≤◌, inl, inr, refl, arith, List, [], ◌++◌, length, take, Option, IfSome, Result, Ok, Err, ap, subst, ◌∙◌, add-one, append-nil, length-take, AnswersUnlessMemory, Fault, Refused, OutOfMemory, BlobFault, Contents, blob_at, lasting, IsBlobOf, ReadsOn, EndsReads, read_fault}
+use Rattle.cap_codec.proofs.Common.{◌≡◌, ℕ, zero, suc, ◌+◌, ◌<◌, inl, inr, refl, arith, List, [], ◌++◌, Option, IfSome, Result, Ok, Err, ap, subst, ◌∙◌, add-one, append-nil, AnswersUnlessMemory, Fault, Refused, OutOfMemory, BlobFault, Contents, blob_at, lasting, IsBlobOf, ReadsOn, EndsReads, read_fault}
 use Rattle.std.specs.Io.KnownBytes.{Consumes, IsAtEnd, Keeps}
 use Rattle.std.proofs.KnownBytes.{Consumes-nil, Consumes-trans, Consumes-kept, Consumes-whole}
 use Rattle.cap_codec.specs.declared.stream.ReadFault.{ReadFault}
@@ -18,15 +18,12 @@ module _ (A : Type 0) {R : Type 0} (remaining : R → Option (List ℕ)) (gave f
   fed zero old new bytes (same, none) = rw (none, same) (Consumes-nil (remaining new))
   fed (suc n) old new bytes (before, front, piece, parts, on, last) = rw parts (Consumes-trans (remaining old) (remaining before) (remaining new) front piece (fed n old before front on) last.2)
 
-  all_fed : (n : ℕ) (old before new : R) (front piece : List ℕ) → On n old before front → Gave before new piece → Consumes (remaining old) (remaining new) (front ++ piece)
-  all_fed n old before new front piece on last = Consumes-trans (remaining old) (remaining before) (remaining new) front piece (fed n old before front on.0) last.2
-
   -- what was answered is what all the bytes read as
   pub blob_is : (result : Result (Contents A) ReadFault) (old new : R) → EndsReads A remaining gave failed result old new → IfSome (remaining old) (λ given. IsBlobOf result (blob_at given))
   blob_is (Ok blob) old new (n, lt, before, front, piece, on, last, (none, end, read)) =
-      Consumes-whole (remaining old) (remaining new) (front ++ piece) (λ given. blob_at given ≡ Ok blob) (all_fed n old before new front piece on last) end (rw (none, append-nil front) read)
+      Consumes-whole (remaining old) (remaining new) (front ++ piece) (λ given. blob_at given ≡ Ok blob) (fed (suc n) old new (front ++ piece) (before, front, piece, refl, on.0, last)) end (rw (none, append-nil front) read)
   blob_is (Err (read.Blob f)) old new (n, lt, before, front, piece, on, last, given) =
-      let all = all_fed n old before new front piece on last in
+      let all = fed (suc n) old new (front ++ piece) (before, front, piece, refl, on.0, last) in
       elim given [
         | inl lasts ↦ let later = λ (more : List ℕ). err_lasts A (front ++ piece) more f lasts in grind (arith, later, all)
         | inr (none, end, read) ↦ Consumes-whole (remaining old) (remaining new) (front ++ piece) (λ given. blob_at given ≡ Err f) all end (rw (none, append-nil front) read)
@@ -43,14 +40,6 @@ module _ (A : Type 0) {R : Type 0} (remaining : R → Option (List ℕ)) (gave f
       let cut : lasting (blob_at {A = A} (front ++ [])) ≡ Ok tt = ap (λ (bytes : List ℕ). lasting (blob_at {A = A} bytes)) same ∙ on.1 in
       subst (λ (bytes : List ℕ). On (n + 1) old new bytes) same
       (reads_on n old before new front [] on (went, omega arith, Consumes-kept (remaining before) (remaining before) (remaining new) [] (Consumes-nil (remaining before)) keeps) cut)
-
-  -- the last read gave nothing
-  pub gave_none : (before new : R) (piece : List ℕ) (count : ℕ) → gave before new → Consumes (remaining before) (remaining new) (take count piece) → count ≡ 0 → Gave before new []
-  gave_none before new piece count went taken none = (went, omega arith, subst (λ (k : ℕ). Consumes (remaining before) (remaining new) (take k piece)) none taken)
-
-  pub ends_ok : (n : ℕ) (old before new : R) (front : List ℕ) (blob : Contents A) → n < 1099511627776 → On n old before front → Gave before new [] → IsAtEnd (remaining new) → blob_at front ≡ Ok blob
-      → EndsReads A remaining gave failed (Ok blob) old new
-  ends_ok n old before new front blob lt on last end read = (n, lt, before, front, [], on, last, (refl, end, read))
 
   -- the whole blob has a fault, or memory is out
   pub ends_whole : (fault : Fault BlobFault) (n : ℕ) (old before new : R) (front : List ℕ) → n < 1099511627776 → On n old before front → Gave before new [] → IsAtEnd (remaining new)

@@ -3,7 +3,6 @@
 ghost use mathlib.Core.List.{IsPrefix};
 ghost use Rattle.std.specs.Prelude.{◌≡◌, ◌++◌, OnErr, OnOk, IfOk};
 ghost use Rattle.std.specs.List.{flat_map};
-ghost use Rattle.cap_codec.specs.declared.key_flags.KeyFlags.TheVariants.{Ones, Places};
 ghost use Rattle.cap_codec.specs.Changeset.{flags_bytes, header_bytes, entries_bytes};
 ghost use Rattle.cap_codec.specs.Changeset.{list_bytes, list_bytes_with};
 ghost use Rattle.cap_changes.specs.KindByte.{changeset_kind};
@@ -17,32 +16,6 @@ use cap_field::push_varint;
 use cap_row::Schema;
 use cap_value::{AllocHandle, Name, OutOfMemory};
 
-fn push_ones<A: AllocHandle>(out: &mut Vec<u8, A>, flags: &[bool]) -> Result<(), OutOfMemory>
-    ensures bytes { OnOk result (out.new.items ≡ out.old.items ++ flags_bytes Ones flags.now) }
-    ensures begins { OnErr result (IsPrefix out.old.items out.new.items) }
-{
-    for flag in flags {
-        out.push(*flag as u8)?;
-    }
-    Ok(())
-}
-
-fn push_places<A: AllocHandle>(out: &mut Vec<u8, A>, flags: &[bool]) -> Result<(), OutOfMemory>
-    ensures bytes { OnOk result (out.new.items ≡ out.old.items ++ flags_bytes Places flags.now) }
-    ensures begins { OnErr result (IsPrefix out.old.items out.new.items) }
-{
-    let mut place = 0u8;
-    for flag in flags {
-        if *flag {
-            place = place.saturating_add(1);
-            out.push(place)?;
-        } else {
-            out.push(0)?;
-        }
-    }
-    Ok(())
-}
-
 fn push_flags<A: AllocHandle>(
     out: &mut Vec<u8, A>,
     key_flags: KeyFlags,
@@ -51,10 +24,17 @@ fn push_flags<A: AllocHandle>(
     ensures bytes { OnOk result (out.new.items ≡ out.old.items ++ flags_bytes key_flags flags.now) }
     ensures begins { OnErr result (IsPrefix out.old.items out.new.items) }
 {
-    match key_flags {
-        KeyFlags::Ones => push_ones(out, flags),
-        KeyFlags::Places => push_places(out, flags),
+    let mut place = 0u8;
+    for flag in flags {
+        place = place.saturating_add(*flag as u8);
+        let byte = match (key_flags, *flag) {
+            (KeyFlags::Ones, key) => key as u8,
+            (KeyFlags::Places, true) => place,
+            (KeyFlags::Places, false) => 0,
+        };
+        out.push(byte)?;
     }
+    Ok(())
 }
 
 /// Appends the header of a group: its kind, the columns with their key flags, and the table's name.

@@ -1,4 +1,4 @@
-use Rattle.cap_codec.proofs.Common.{ℕ, arith, are_low, Contents}
+use Rattle.cap_codec.proofs.Common.{arith, are_low, Contents}
 use Rattle.cap_codec.proofs.SpelledBlob.{blob_spelled}
 use Rattle.cap_codec.proofs.read.read_blob.Goals as goal
 
