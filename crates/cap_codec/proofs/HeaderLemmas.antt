@@ -1,5 +1,5 @@
 -- The name and the flags of a header that was read.
-use Rattle.cap_codec.proofs.Common.{◌≡◌, ℕ, zero, suc, ◌+◌, ◌<◌, ◌≤◌, true, false, nat_lt, ◌&&◌, List, [], ◌∷◌, ◌++◌, length, take, drop, map, position, Some, Ok, if◌then◌else◌, refl, sym, ap, ◌∙◌, arith, length-take, length-append, drop-drop, take_at, drop_at, list_any, position_or_len, is_utf8, nat_tests, length-map, get_or-take, length-take-le, list_any_none, is_name, has_key, is_schema, BadName, fault, place, is_zero, name_at, is_set}
+use Rattle.cap_codec.proofs.Common.{◌≡◌, ℕ, zero, suc, ◌+◌, ◌<◌, ◌≤◌, true, false, nat_lt, ◌&&◌, List, [], ◌∷◌, ◌++◌, length, take, drop, map, position, Some, Ok, if◌then◌else◌, refl, sym, ap, ◌∙◌, arith, length-take, length-append, drop-drop, take_at, drop_at, list_any, position_or_len, is_utf8, nat_tests, get_or-take, length-take-le, list_any_none, is_name, has_key, BadName, fault, place, is_zero, name_at, is_set}
 use Rattle.std.proofs.lemmas.List.Quantifiers.{position-Some}
 
 -- ---- the first zero byte
@@ -50,6 +50,3 @@ name_before bytes len first some within short =
 pub key_is_set : (flags : List ℕ) → has_key (map is_set flags) ≡ list_any is_set flags
 key_is_set [] = refl
 key_is_set (flag ∷ flags) = rw (key_is_set flags) refl
-
-pub is_schema_of : (flags : List ℕ) → 1 ≤ length flags → length flags ≤ 2000 → is_schema (map is_set flags) ≡ true
-is_schema_of flags some fits = let long = length-map flags is_set in grind (arith, nat_tests, long)

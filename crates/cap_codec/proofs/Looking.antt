@@ -32,7 +32,7 @@ module _ {X : Type 0} (one_at : ℕ → List Bool → ℕ → List ℕ → Resul
   groups n total changes = groups_at (entries_at one_at) kind n total changes.1
 
   change_follows : (m n total : ℕ) (flags : List Bool) (bytes : List ℕ) (answer : Result (Unit {0}) BlobFault) (read later : Result (X × List ℕ) BlobFault) → length bytes ≤ m → length bytes ≤ n → Stays Any bytes [] read later
-      → ended ((read >>= (λ change. changes_at one_at m total flags change.1 >>= (λ others. Ok (change.0 ∷ others.0, others.1)))) >>= groups n total) ≡ answer → Follows total answer (behind read >>= (λ rest. Ok (flags, rest)))
+      → ended ((read >>= (λ change. changes_at one_at m total flags change.1 >>= (λ others. Ok (change.0 ∷ others.0, others.1)))) >>= groups n total) ≡ answer → Follows total answer (read >>= (λ change. Ok (flags, change.1)))
   change_follows m n total flags bytes answer (Ok x) later le le2 stays e = let shorter = no_longer x.1 bytes stays.1 in (m, n, omega arith, omega arith, grind (arith, e))
   change_follows m n total flags bytes answer (Err f) later le le2 stays e = ap lasting (sym e)
 
@@ -45,7 +45,7 @@ module _ {X : Type 0} (one_at : ℕ → List Bool → ℕ → List ℕ → Resul
 module _ (A : Type 0) (kind : Kind) where
   -- a change, with more bytes behind
   pub change_stays : (P : Result (List ℕ) ℕ → Type 0) (total : ℕ) → ((bytes : List ℕ) → P (Ok bytes) → P (skip_at total bytes)) → (flags : List Bool) (op : ℕ) (bytes more : List ℕ) → P (skip_flag bytes)
-      → Stays P bytes more (behind (one_as A kind total flags op bytes) >>= (λ rest. Ok (flags, rest))) (behind (one_as A kind (total + length more) flags op (bytes ++ more)) >>= (λ rest. Ok (flags, rest)))
+      → Stays P bytes more (one_as A kind total flags op bytes >>= (λ change. Ok (flags, change.1))) (one_as A kind (total + length more) flags op (bytes ++ more) >>= (λ change. Ok (flags, change.1)))
   change_stays P total next flags op bytes more p = let one = one_stays A P total next kind flags op bytes more p in grind (arith, one)
 
   part_stays : (total : ℕ) (flags : List Bool) (first : ℕ) (bytes more : List ℕ) → Stays Any bytes more (part_as A kind total flags (first ∷ bytes)) (part_as A kind (total + length more) flags (first ∷ (bytes ++ more)))

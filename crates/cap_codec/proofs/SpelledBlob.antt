@@ -1,6 +1,6 @@
 -- What was read is spelled by the bytes that were read: headers, groups and blobs.
 use Rattle.cap_codec.proofs.Common.{◌≡◌, ℕ, zero, suc, ◌≤◌, Bool, true, ◌==◌, List, [], ◌∷◌, ◌++◌, length, take, map, Result, Ok, IsTrue, IsUtf8, refl, ap, subst, ◌∙◌, append_assoc, arith, length-take, length-append, list_any, position_or_len, nat_tests, eqb-true, length-map, IsUtf8-from_is_utf8, AreBytes, is_name, TableChanges, TablePatches, BlobFault, Contents, Changes, Header, is_zero, count_at, flags_at, name_at, header_at, is_set, change_at, patch_at, changes_at, varint_bytes, is_operation, TableEntries, entries_at, groups_at, blob_at, SpellsEach, SpellsChange, SpellsPatch, SpellsChanges, SpellsPatches, Spells, IsTable, bind_ok, check_ok, ok_is, AreLow, low_behind, varint_spelled, bytes_spelled}
-use Rattle.cap_codec.proofs.HeaderLemmas.{zero_at, key_is_set, is_schema_of, name_before}
+use Rattle.cap_codec.proofs.HeaderLemmas.{zero_at, key_is_set, name_before}
 use Rattle.cap_codec.proofs.BlobAgain.{SpelledAs}
 use Rattle.cap_changes.proofs.ChangeSpelled.{Begins, change_spelled, patch_spelled, each_spelled}
 
@@ -37,8 +37,7 @@ header_spelled total bytes x low e =
     let keyed = flags_spelled total count.0.0 count.0.1 flags.0 flags.1 in
     let named = name_spelled total flags.0.1 name.0 name.1 in
     let long = length-map flags.0.0 is_set in
-    let schema = is_schema_of flags.0.0 in
-    let table : IsTable name.0.0 (map is_set flags.0.0) = record { name = named.0; utf8 = named.1; columns = grind (arith, schema, columns, keyed); keyed = key_is_set flags.0.0 ∙ keyed.0 } in
+    let table : IsTable name.0.0 (map is_set flags.0.0) = record { name = named.0; utf8 = named.1; columns = grind (arith, nat_tests, long, columns, keyed); keyed = key_is_set flags.0.0 ∙ keyed.0 } in
     subst (IsHeader bytes) (ok_is _ x name.2) (table, (flags.0.0, refl, grind (arith, append_assoc, columns, keyed, named, long)))
 
 -- ---- groups

@@ -15,7 +15,7 @@ use Rattle.cap_field.specs.Reading.{◌>>=◌, byte_at, place}
 use Rattle.cap_codec.specs.HeaderReading.{header_at}
 use Rattle.cap_changes.specs.KindByte.{changeset_kind, patchset_kind}
 use Rattle.cap_changes.specs.Operation.{is_operation}
-use Rattle.cap_changes.specs.ChangeReading.{behind, change_at, patch_at, changes_at}
+use Rattle.cap_changes.specs.ChangeReading.{change_at, patch_at, changes_at}
 use Rattle.cap_codec.specs.BlobReading.{wrong_kind, entries_at, groups_at, blob_at}
 
 -- the blob ends too early, which further bytes may mend
@@ -47,7 +47,7 @@ module _ {X : Type 0} (one_at : ℕ → List Bool → ℕ → List ℕ → Resul
   abbrev pub part_at : ℕ → List Bool → List ℕ → Result (List Bool × List ℕ) BlobFault
   part_at total flags bytes = byte_at total bytes >>= (λ first.
       if is_operation first.0
-      then behind (one_at total flags first.0 first.1) >>= (λ rest. Ok (flags, rest))
+      then one_at total flags first.0 first.1 >>= (λ change. Ok (flags, change.1))
       else (if first.0 == kind
       then header_at total first.1 >>= (λ header. Ok (header.0.flags, header.1))
       else Err (wrong_kind first.0 (place total bytes))))

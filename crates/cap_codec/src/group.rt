@@ -35,7 +35,7 @@ pub fn set_flags<A: AllocHandle>(alloc: A, flags: &[u8]) -> Result<Vec<bool, A>,
 }
 
 /// The schema with these key flags: any byte but zero flags a key column.
-#[tactic(auto, using(crate::proofs::HeaderLemmas::is_schema_of, crate::proofs::HeaderLemmas::key_is_set))]
+#[tactic(auto, using(crate::proofs::HeaderLemmas::key_is_set, std::proofs::lemmas::Bool::Decides::nat_tests))]
 pub fn own_schema<A: AllocHandle>(alloc: A, flags: &[u8]) -> Result<Schema<A>, Fault<BlobFault>>
     requires some { 1 ≤ length flags.now }
     requires fits { length flags.now ≤ COLUMNS_MAX }

@@ -1,5 +1,5 @@
 -- Where the reading of changes, groups and a blob stops at a fault.
-use Rattle.cap_codec.proofs.Common.{◌≡◌, ℕ, zero, suc, ◌≤◌, inl, inr, Bool, true, false, cond, ◌==◌, ◌||◌, List, [], ◌∷◌, ◌++◌, length, Ok, Err, refl, sym, ap, subst, ◌∙◌, append_assoc, append-nil, arith, length-append, cases_Bool, eqb-true, AreBytes, change_at, patch_at, is_operation, BlobFault, FaultKind, BadHeader, ◌>>=◌, fault, place, bind_ok, err_is, AreLow, low_behind, low_front, wrong_kind, blob_at, header_at, is_cut, lasting, ended, kind_byte, one_as, part_as, Leads}
+use Rattle.cap_codec.proofs.Common.{◌≡◌, ℕ, zero, suc, ◌≤◌, inl, inr, Bool, true, false, cond, ◌==◌, ◌||◌, List, [], ◌∷◌, ◌++◌, length, Ok, Err, refl, sym, ap, subst, ◌∙◌, append_assoc, append-nil, arith, length-append, cases_Bool, eqb-true, AreBytes, change_at, patch_at, is_operation, BlobFault, FaultKind, BadHeader, fault, place, bind_ok, err_is, AreLow, low_behind, low_front, wrong_kind, blob_at, is_cut, lasting, ended, kind_byte, one_as, part_as, Leads}
 use Rattle.cap_codec.specs.declared.scan.Kind.{Kind}
 use Rattle.cap_codec.specs.declared.scan.Kind.TheVariants as kinds
 use Rattle.cap_codec.proofs.Looking.{either, leads_on, leads_longer, stops, ends, first_leads}
@@ -22,12 +22,7 @@ module _ (A : Type 0) (kind : Kind) where
 
   -- behind its first byte: the columns of the changes that follow
   abbrev next_at : List Bool → ℕ → Reader (List Bool)
-  next_at flags first total bytes =
-      cond (is_operation first) (one_as A kind total flags first bytes >>= (λ change. Ok (flags, change.1)))
-      (cond (first == kind_byte kind) (header_at total bytes >>= (λ header. Ok (header.0.flags, header.1))) (Err (wrong_kind first (place total (first ∷ bytes)))))
-
-  same_next : (flags : List Bool) (first total : ℕ) (bytes : List ℕ) → part_as A kind total flags (first ∷ bytes) ≡ next_at flags first total bytes
-  same_next flags first total bytes = grind arith
+  next_at flags first total bytes = part_as A kind total flags (first ∷ bytes)
 
   abbrev is_next : ℕ → Bool
   is_next first = is_operation first || (first == kind_byte kind)
@@ -61,13 +56,13 @@ module _ (A : Type 0) (bytes : List ℕ) (f : BlobFault) (stopped : lasting (blo
         let low' = low_behind bytes before (first ∷ rest) parts low in
         let judged = (next_part A kind flags first known).judged (λ more whole. whole) (length bytes) rest low'.1 in
         let on : (columns : List Bool) (front : List ℕ) → Reads (next_at A kind flags first) columns front → Leads A kind (before ++ first ∷ front) [] columns = λ columns front reads.
-        leads_on A kind (before ++ first ∷ front) (first ∷ front) [] flags columns (leads front) (λ more. let total = length ((before ++ first ∷ front) ++ more) in same_next A kind flags first total (front ++ more) ∙ reads.1 total more) in
+        leads_on A kind (before ++ first ∷ front) (first ∷ front) [] flags columns (leads front) (λ more. let total = length ((before ++ first ∷ front) ++ more) in reads.1 total more) in
         elim (either (next_at A kind flags first (length bytes) rest)) [
           | inl (x, read) ↦
               let (front, is, reads) = rw read at judged.answer in
               others (before ++ first ∷ front) x.1 x.0 (parts ∙ simp (is, append_assoc) refl) (omega (arith, ap length is, length-append front x.1)) (on x.0 front reads)
           | inr (g, read) ↦
-              let here : lasting {X = Unit {0}} (Err g) ≡ Err f = sym (stops A kind bytes (first ∷ rest) flags g (rw parts (leads rest)) (same_next A kind flags first (length bytes) rest ∙ read)) ∙ stopped in
+              let here : lasting {X = Unit {0}} (Err g) ≡ Err f = sym (stops A kind bytes (first ∷ rest) flags g (rw parts (leads rest)) (read)) ∙ stopped in
               let lasts : is_cut g.kind ≡ false = grind (arith, here) in
               let (front, part, rest', is, faulty, (more, (columns, reads)), stuck) = (rw read at judged.answer) lasts in
               let apart = λ (more : List ℕ). append_assoc before (first ∷ front) more in
@@ -76,7 +71,7 @@ module _ (A : Type 0) (bytes : List ℕ) (f : BlobFault) (stopped : lasting (blo
               (rw (apart more) (ends A kind _ columns (on columns (front ++ more) reads)))
               (λ behind.
               let all = before ++ first ∷ (front ++ (part ++ behind)) in
-              let last = stops A kind all (first ∷ (front ++ (part ++ behind))) flags (record { at = place (length all) (part ++ behind); kind = g.kind }) (leads (front ++ (part ++ behind))) (same_next A kind flags first (length all) (front ++ (part ++ behind)) ∙ stuck (length all) behind) in
+              let last = stops A kind all (first ∷ (front ++ (part ++ behind))) flags (record { at = place (length all) (part ++ behind); kind = g.kind }) (leads (front ++ (part ++ behind))) (stuck (length all) behind) in
               rw (apart (part ++ behind)) (last ∙ rw lasts refl))
         ]
 
