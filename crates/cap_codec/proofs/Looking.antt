@@ -1,5 +1,5 @@
 -- Scanning the front of a blob: each change and header that is whole leads on, whatever follows.
-use Rattle.cap_codec.proofs.Common.{◌≡◌, ℕ, zero, suc, ◌+◌, ◌<◌, ◌≤◌, Bool, true, ◌==◌, List, [], ◌∷◌, ◌++◌, length, take, drop, get_or, Option, Some, None, IfSome, Result, Ok, Err, refl, sym, ap, subst, ◌∙◌, inl, inr, ◌⊎◌, arith, append_assoc, append-nil, length-append, length-drop, take-append-drop, drop_at, cases_Bool, eqb-true, drop-append-le, BlobFault, Truncated, Kind, Header, skip_at, is_cut, lasting, ended, kind_byte, one_as, part_as, GoesOn, Leads, Lacks, IsQuiet, IsScanned, IsLookedAt, ◌>>=◌, place, TableEntries, is_operation, behind, changes_at, with_changes, entries_at, groups_at, blob_at}
+use Rattle.cap_codec.proofs.Common.{◌≡◌, ℕ, zero, suc, ◌+◌, ◌<◌, ◌≤◌, Bool, true, ◌==◌, List, [], ◌∷◌, ◌++◌, length, take, drop, get_or, Option, Some, None, IfSome, Result, Ok, Err, refl, sym, ap, subst, ◌∙◌, inl, inr, ◌⊎◌, arith, append_assoc, append-nil, length-append, length-drop, take-append-drop, drop_at, cases_Bool, eqb-true, drop-append-le, BlobFault, Truncated, Kind, Header, skip_at, is_cut, lasting, ended, kind_byte, one_as, part_as, GoesOn, Leads, Lacks, IsQuiet, IsScanned, IsLookedAt, ◌>>=◌, place, is_operation, behind, changes_at, with_changes, entries_at, groups_at, blob_at}
 use Rattle.cap_codec.specs.declared.scan.Kind.TheVariants as kinds
 use Rattle.cap_codec.specs.declared.scan.ScanPosition.{ScanPosition}
 use Rattle.cap_codec.proofs.Steady.{IsBehind, Stays, Any, further, again, no_longer, same_place, skip_flag, one_stays, header_stays}
@@ -28,11 +28,8 @@ module _ {X : Type 0} (one_at : ℕ → List Bool → ℕ → List ℕ → Resul
   none_left total flags answer (suc m, zero, le, le2, e) = sym e
   none_left total flags answer (m, n, le, le2, e) = sym e
 
-  abbrev groups : ℕ → ℕ → List X × List ℕ → Result (List (TableEntries X)) BlobFault
-  groups n total changes = groups_at (entries_at one_at) kind n total changes.1
-
   change_follows : (m n total : ℕ) (flags : List Bool) (bytes : List ℕ) (answer : Result (Unit {0}) BlobFault) (read later : Result (X × List ℕ) BlobFault) → length bytes ≤ m → length bytes ≤ n → Stays Any bytes [] read later
-      → ended ((read >>= (λ change. changes_at one_at m total flags change.1 >>= (λ others. Ok (change.0 ∷ others.0, others.1)))) >>= groups n total) ≡ answer → Follows total answer (read >>= (λ change. Ok (flags, change.1)))
+      → ended ((read >>= (λ change. changes_at one_at m total flags change.1 >>= (λ others. Ok (change.0 ∷ others.0, others.1)))) >>= (λ (changes : List X × List ℕ). groups_at (entries_at one_at) kind n total changes.1)) ≡ answer → Follows total answer (read >>= (λ change. Ok (flags, change.1)))
   change_follows m n total flags bytes answer (Ok x) later le le2 stays e = let shorter = no_longer x.1 bytes stays.1 in (m, n, omega arith, omega arith, grind (arith, e))
   change_follows m n total flags bytes answer (Err f) later le le2 stays e = ap lasting (sym e)
 

@@ -1,5 +1,5 @@
 -- What was read of a reader's bytes.
-use Rattle.cap_codec.proofs.Common.{◌≡◌, ℕ, zero, suc, ◌+◌, ◌<◌, inl, inr, refl, arith, List, [], ◌++◌, Option, IfSome, Result, Ok, Err, ap, subst, ◌∙◌, add-one, append-nil, AnswersUnlessMemory, Fault, Refused, OutOfMemory, BlobFault, Contents, blob_at, lasting, IsBlobOf, ReadsOn, EndsReads, read_fault}
+use Rattle.cap_codec.proofs.Common.{◌⊎◌, ◌≡◌, ℕ, zero, suc, ◌+◌, ◌<◌, inl, inr, refl, arith, List, [], ◌++◌, Option, IfSome, Result, Ok, Err, add-one, append-nil, AnswersUnlessMemory, Fault, Refused, OutOfMemory, BlobFault, Contents, blob_at, lasting, IsBlobOf, ReadsOn, EndsReads, read_fault}
 use Rattle.std.specs.Io.KnownBytes.{Consumes, IsAtEnd, Keeps}
 use Rattle.std.proofs.KnownBytes.{Consumes-nil, Consumes-trans, Consumes-kept, Consumes-whole}
 use Rattle.cap_codec.specs.declared.stream.ReadFault.{ReadFault}
@@ -36,19 +36,10 @@ module _ (A : Type 0) {R : Type 0} (remaining : R → Option (List ℕ)) (gave f
 
   pub reads_kept : (n : ℕ) (old before new : R) (front : List ℕ) → On n old before front → gave before new → Keeps (remaining before) (remaining new) → On (n + 1) old new front
   reads_kept n old before new front on went keeps =
-      let same = append-nil front in
-      let cut : lasting (blob_at {A = A} (front ++ [])) ≡ Ok tt = ap (λ (bytes : List ℕ). lasting (blob_at {A = A} bytes)) same ∙ on.1 in
-      subst (λ (bytes : List ℕ). On (n + 1) old new bytes) same
-      (reads_on n old before new front [] on (went, omega arith, Consumes-kept (remaining before) (remaining before) (remaining new) [] (Consumes-nil (remaining before)) keeps) cut)
+      rw append-nil at (reads_on n old before new front [] on (went, omega arith, Consumes-kept (remaining before) (remaining before) (remaining new) [] (Consumes-nil (remaining before)) keeps) (rw append-nil on.1))
 
-  -- the whole blob has a fault, or memory is out
-  pub ends_whole : (fault : Fault BlobFault) (n : ℕ) (old before new : R) (front : List ℕ) → n < 1099511627776 → On n old before front → Gave before new [] → IsAtEnd (remaining new)
-      → AnswersUnlessMemory {X = Contents A} (Err fault) (blob_at front) → EndsReads A remaining gave failed (Err (read_fault fault)) old new
-  ends_whole (Refused f) n old before new front lt on last end read = (n, lt, before, front, [], on, last, inr (refl, end, read))
-  ends_whole OutOfMemory n old before new front lt on last end read = (n, lt, before, front, [], on, last, tt)
-
-  -- the last piece shows a fault, or memory is out
-  pub ends_fed : (fault : Fault BlobFault) (n : ℕ) (old before new : R) (front piece : List ℕ) → n < 1099511627776 → On n old before front → Gave before new piece
-      → AnswersUnlessMemory {X = Unit {0}} (Err fault) (lasting (blob_at {A = A} (front ++ piece))) → EndsReads A remaining gave failed (Err (read_fault fault)) old new
-  ends_fed (Refused f) n old before new front piece lt on last read = (n, lt, before, front, piece, on, last, inl read)
-  ends_fed OutOfMemory n old before new front piece lt on last read = (n, lt, before, front, piece, on, last, tt)
+  -- the last piece shows a fault, or the whole blob has it, or memory is out
+  pub ends_at : (fault : Fault BlobFault) (n : ℕ) (old before new : R) (front piece : List ℕ) → n < 1099511627776 → On n old before front → Gave before new piece → AnswersUnlessMemory {X = Unit {0}} (Err fault) (lasting (blob_at {A = A} (front ++ piece)))
+      ⊎ ((piece ≡ []) × IsAtEnd (remaining new) × AnswersUnlessMemory {X = Contents A} (Err fault) (blob_at front)) → EndsReads A remaining gave failed (Err (read_fault fault)) old new
+  ends_at (Refused f) n old before new front piece lt on last given = (n, lt, before, front, piece, on, last, given)
+  ends_at OutOfMemory n old before new front piece lt on last given = (n, lt, before, front, piece, on, last, tt)

@@ -34,7 +34,7 @@ pub fn wrong_kind(kind: u8, at: usize) -> BlobFault
     }
 }
 
-#[tactic(auto, using(crate::proofs::Left::groups_start, crate::proofs::Left::groups_stop))]
+#[tactic(auto, using(crate::proofs::Left::groups_start, crate::proofs::Left::groups_stop, crate::proofs::Left::groups_next, std::proofs::lemmas::Bool::Decides::nat_tests))]
 fn take_groups<C: Entry + Drop, A: AllocHandle>(
     alloc: A,
     total: usize,

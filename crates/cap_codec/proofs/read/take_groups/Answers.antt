@@ -2,12 +2,6 @@ use Rattle.cap_codec.proofs.Common.{arith, append_assoc, nat_tests, entries_at}
 use Rattle.cap_codec.proofs.Left.{GroupsLeft, groups_next}
 use Rattle.cap_codec.proofs.read.take_groups.Goals as goal
 
-pub returns-then-kind : goal.returns-then-kind
-returns-then-kind g c = let next = groups_next (entries_at g.C.Entry.one_at) g.C.Entry.kind c.loop-rest.list c.args.total c.loop-rest.rest.now _ c.in-len1-up.len_at_least c.loop-rest.invariant in grind (arith, nat_tests, next)
-
-pub returns-in_err-group : goal.returns-in_err-group
-returns-in_err-group g c = let next = groups_next (entries_at g.C.Entry.one_at) g.C.Entry.kind c.loop-rest.list c.args.total c.loop-rest.rest.now _ c.in-len1-up.len_at_least c.loop-rest.invariant in grind (arith, nat_tests, next)
-
 pub loop-rest-preserved : goal.loop-rest-preserved
 unfolding GroupsLeft
 loop-rest-preserved g c =

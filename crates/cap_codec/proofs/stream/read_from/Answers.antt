@@ -1,5 +1,5 @@
-use Rattle.cap_codec.proofs.Common.{Ok, Err, refl, inr, rules, arith, take, length-take, err_from_is_err_and, blob_at, read_fault, EndsReads, []}
-use Rattle.cap_codec.proofs.StreamLemmas.{blob_is, reads_on, reads_kept, ends_whole, ends_fed}
+use Rattle.cap_codec.proofs.Common.{Ok, Err, refl, inl, inr, rules, arith, take, length-take, err_from_is_err_and, blob_at, read_fault, EndsReads, []}
+use Rattle.cap_codec.proofs.StreamLemmas.{blob_is, reads_on, reads_kept, ends_at}
 use Rattle.cap_codec.proofs.stream.read_from.Goals as goal
 
 pub loop-init : goal.loop-init
@@ -15,15 +15,15 @@ returns-then-count-eq0 g c =
 pub returns-in_err-finish : goal.returns-in_err-finish
 returns-in_err-finish g c =
     let p = err_from_is_err_and c.from_residual.result c.from_residual.ensures.1 in
-    let ends = ends_whole g.row.A.Denot g.R.Source.remaining g.R.Source.gave g.R.Source.failed c.in_err-finish.field-0.0 c.loop.counter c.args.reader.now c.loop.reader c.read_some.new.self c.loop.decoder
-    c.loop-test.true c.loop.invariant (c.in-Ok.ensures.reported, omega arith, rw c.if-count-eq0.true at c.in-Ok.ensures.bytes.0) (c.in-Ok.ensures.bytes.1 c.if-count-eq0.true (search rules)) c.in_err-finish.ensures.answers in
+    let ends = ends_at g.row.A.Denot g.R.Source.remaining g.R.Source.gave g.R.Source.failed c.in_err-finish.field-0.0 c.loop.counter c.args.reader.now c.loop.reader c.read_some.new.self c.loop.decoder []
+    c.loop-test.true c.loop.invariant (c.in-Ok.ensures.reported, omega arith, rw c.if-count-eq0.true at c.in-Ok.ensures.bytes.0) (inr (refl, c.in-Ok.ensures.bytes.1 c.if-count-eq0.true (search rules), c.in_err-finish.ensures.answers)) in
     rw (p.1, p.2) (record { blob = blob_is g.row.A.Denot g.R.Source.remaining g.R.Source.gave g.R.Source.failed (Err (read_fault c.in_err-finish.field-0.0)) c.args.reader.now c.read_some.new.self ends; reported = ends })
 
 pub returns-in_err-feed : goal.returns-in_err-feed
 returns-in_err-feed g c =
     let p = err_from_is_err_and c.from_residual-in_err-feed.result c.from_residual-in_err-feed.ensures.1 in
-    let ends = ends_fed g.row.A.Denot g.R.Source.remaining g.R.Source.gave g.R.Source.failed c.in_err-feed.field-0.0 c.loop.counter c.args.reader.now c.loop.reader c.read_some.new.self c.loop.decoder (take c.in-Ok.count c.read_some.new.piece)
-    c.loop-test.true c.loop.invariant (c.in-Ok.ensures.reported, omega (arith, length-take c.in-Ok.count c.read_some.new.piece), c.in-Ok.ensures.bytes.0) c.in_err-feed.ensures.answers in
+    let ends = ends_at g.row.A.Denot g.R.Source.remaining g.R.Source.gave g.R.Source.failed c.in_err-feed.field-0.0 c.loop.counter c.args.reader.now c.loop.reader c.read_some.new.self c.loop.decoder (take c.in-Ok.count c.read_some.new.piece)
+    c.loop-test.true c.loop.invariant (c.in-Ok.ensures.reported, omega (arith, length-take c.in-Ok.count c.read_some.new.piece), c.in-Ok.ensures.bytes.0) (inl c.in_err-feed.ensures.answers) in
     rw (p.1, p.2) (record { blob = blob_is g.row.A.Denot g.R.Source.remaining g.R.Source.gave g.R.Source.failed (Err (read_fault c.in_err-feed.field-0.0)) c.args.reader.now c.read_some.new.self ends; reported = ends })
 
 pub loop-preserved : goal.loop-preserved
