@@ -7,10 +7,6 @@ use Rattle.cap_codec_laws.proofs.FaultFields.{varint_judged, varint_front}
 
 -- ---- the count
 
-one_column : (more : List ℕ) × IsWhole count_at more
-unfolding count_at varint_at
-one_column = (1 ∷ [], (1, ((omega arith, tt), λ t others. refl)))
-
 count_judged : (completes : List ℕ → Type 0) → (more : List ℕ) × completes more → (total : ℕ) (bytes : List ℕ) → AreLow bytes → Judged completes count_at total bytes
 unfolding count_at
 count_judged completes whole total bytes low = judged_behind [] bytes low (varint_judged (whole.0, ([], rw append-nil whole.1)) total bytes low)
@@ -77,7 +73,7 @@ name_judged completes whole total bytes low =
 -- ---- the header
 
 pub header_part : Part header_at
-unfolding header_at
-header_part = bind _ _ (part one_column count_judged) (λ n (front, (low, reads)).
+unfolding header_at count_at varint_at
+header_part = bind count_at _ (part (1 ∷ [], (1, ((omega arith, tt), λ t others. refl))) count_judged) (λ n (front, (low, reads)).
     let some = (count_spelled 0 (front ++ []) (n, []) (rw (append-nil front) low) (reads 0 [])).0 in
     bind _ _ (part (all_key n some) (flags_judged n)) (λ flags read. bind _ _ (part one_name name_judged) (λ name read'. done _)))
