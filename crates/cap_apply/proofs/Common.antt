@@ -6,10 +6,7 @@ pub use Rattle.std.proofs.lemmas.Simd.{map-map}
 pub use Rattle.std.specs.Cmp.{eq_by_cmp_equiv, tied_itself}
 pub use Rattle.std.specs.List.{AllByRecursion, enumerate_from, list_all, list_any}
 pub use Rattle.cap_value.specs.Bytes.{bytes_cmp, bytes_cmp-Equal, bytes_eq}
-pub use Rattle.cap_value.specs.Memory.{AnswersUnlessMemory, LeavesUnlessMemory}
 pub use Rattle.cap_value.specs.Value.{IsValue, is_null, value_cmp_total, value_eq_decides}
-pub use Rattle.cap_value.specs.declared.memory.Fault.{Fault}
-pub use Rattle.cap_value.specs.declared.memory.Fault.TheVariants.{OutOfMemory, Refused}
 pub use Rattle.cap_value.specs.declared.refusal.Refusal.{Refusal}
 pub use Rattle.cap_value.specs.declared.value.Value.{Value}
 pub use Rattle.cap_value.specs.declared.value.Value.TheVariants.{Null}
@@ -52,7 +49,7 @@ pub use Rattle.cap_apply.specs.Difference.{AllApplied, AreApart, Difference, Giv
 pub use Rattle.cap_apply.specs.Fitting.{FitsItsColumns}
 pub use Rattle.cap_apply.specs.Operations.{AreRun, IsMadeOrOmitted, deletes, directly, inserts, operations_of_change, operations_of_patch, other_fields, updates}
 pub use Rattle.cap_apply.specs.Policy.{answer_to, is_made, made_anyway}
-pub use Rattle.cap_apply.specs.Report.{ReportState, with_omitted}
+pub use Rattle.cap_apply.specs.Report.{ReportState}
 pub use Rattle.cap_apply.specs.Requested.{Requested, old_record, requested_by_change, requested_by_patch, requested_in, requested_of}
 pub use Rattle.cap_apply.specs.Row.{assigned_from, conflict_of, has_old_values, key_record_of, key_values, missed, new_row, row_after, set_fields}
 pub use Rattle.cap_apply.specs.Target.{columns_fit, target}

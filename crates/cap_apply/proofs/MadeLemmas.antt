@@ -9,10 +9,6 @@ use Rattle.cap_apply.proofs.KeyLemmas.{patch-keyed}
 use Rattle.cap_apply.proofs.OrderLemmas.{leaves-own}
 
 module _ {A : Type 0} where
-  own_there : (tables : Tables A) (name : List ℕ) (table : TableState A) (key : Fields A) (after : Option (Fields A)) → table_of tables name ≡ Some table
-      → IfSome after (λ row. (length row ≡ length table.schema) × (key_of table.schema row ≡ Some key)) → IfSome after (IsOwnRow tables name key)
-  own_there tables name table key after there own = grind arith
-
   module _ (policy : Policy) (number : ℕ) (name : List ℕ) (flags : List Bool) (asks : Requested A) (state : AppliedState A) (there : is_some (target state.database name flags) ≡ true) where
     abbrev key : Fields A
     key = key_values flags (key_record_of asks.patch)
@@ -36,5 +32,5 @@ module _ {A : Type 0} where
       let h = has_target tables name flags there in
       let key = key_values flags (key_record_of patch) in
       let before = get fields_cmp h.table.keyed key in
-      rw h.there (own_there tables name h.table key (row_after (length h.table.schema) patch before) h.there
-      (leaves-own flags patch tables name h each has (patch-keyed flags patch fits) key before refl refl))
+      let own = leaves-own flags patch tables name h each has (patch-keyed flags patch fits) key before refl refl in
+      rw h.there (grind (arith, h.there, own))

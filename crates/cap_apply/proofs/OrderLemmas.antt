@@ -1,6 +1,7 @@
 -- Names, keys and ids still rise, and rows are under their own keys, after any blob that fits its tables is applied.
 use Rattle.std.proofs.Common.{arith, ◌≡◌, ℕ, Bool, true, Option, Some, List, map, length, All, IfOk, IfSome}
-use Rattle.cap_apply.proofs.Common.{AllByRecursion, All-map, All-weaker, Fields, fields_cmp, key_of, has_key, get, with_key, without, IsRising, TableState, Key, own-row, AreRising, EachRises, Tables, table_of, each-found, each-put, sorted-put, AreFitting, IsFitting, TableEntries, change_fits, patch_fits, Patch, Contents, Changes, Patches, AppliedState, apply, change_applied, nothing_applied, with_row, Requested, requested_by_change, requested_by_patch, requested_in, requested_of, FitsItsColumns, key_record_of, key_values, row_after, Policy}
+use Rattle.cap_table.proofs.KeptLemmas.{with_key-rises, without-rises}
+use Rattle.cap_apply.proofs.Common.{AllByRecursion, All-map, All-weaker, Fields, fields_cmp, key_of, has_key, get, IsRising, TableState, Key, own-row, AreRising, EachRises, Tables, table_of, each-found, each-put, sorted-put, AreFitting, IsFitting, TableEntries, change_fits, patch_fits, Patch, Contents, Changes, Patches, AppliedState, apply, change_applied, nothing_applied, with_row, Requested, requested_by_change, requested_by_patch, requested_in, requested_of, FitsItsColumns, key_record_of, key_values, row_after, Policy}
 use Rattle.cap_apply.proofs.ChangeLemmas.{HasTarget, change_leaves}
 use Rattle.cap_apply.proofs.GroupLemmas.{AllAsked, groups_keep}
 use Rattle.cap_apply.proofs.KeyLemmas.{Keyed, change-keyed, patch-keyed}
@@ -37,23 +38,21 @@ module _ {A : Type 0} where
 
   -- ---- what is left
 
-  module _ (puts : (table : TableState A) (key row : Fields A) → IsRising table → length row ≡ length table.schema → key_of table.schema row ≡ Some key → IsRising (with_key table key row))
-      (takes : (table : TableState A) (key : Fields A) → IsRising table → IsRising (without table (Key key))) (policy : Policy) where
-    row-rises : (table : TableState A) (key : Fields A) (row : Option (Fields A)) → IsRising table → IfSome row (λ r. (length r ≡ length table.schema) × (key_of table.schema r ≡ Some key))
-        → IsRising (with_row table key row)
-    row-rises table key row rise own = grind (arith, puts, takes)
+  row-rises : (table : TableState A) (key : Fields A) (row : Option (Fields A)) → IsRising table → IfSome row (λ r. (length r ≡ length table.schema) × (key_of table.schema r ≡ Some key))
+      → IsRising (with_row table key row)
+  row-rises table key row rise own = grind (arith, with_key-rises {A = A}, without-rises table (Key key))
 
-    change-rises : (number : ℕ) (name : List ℕ) (flags : List Bool) (requested : Requested A) (state : AppliedState A) → HasItsKey flags requested → AreRising state.database
-        → IfOk (change_applied policy number name flags requested state) (λ left. AreRising left.database)
-    change-rises number name flags requested state keyed rise =
-        change_leaves (λ tables changes. AreRising tables) policy number name flags requested state rise (λ h key before is found.
-        let after = row_after (length h.table.schema) requested.patch before in
-        let own = leaves-own flags requested.patch state.database name h rise.each keyed.0 keyed.1 key before is found in
-        record {
-          names = sorted-put state.database name (with_row h.table key after) rise.names;
-          each = each-put IsRising state.database name (with_row h.table key after) rise.each (row-rises h.table key after (found-rises state.database name h.table rise.each h.there) own);
-        })
+  change-rises : (policy : Policy) (number : ℕ) (name : List ℕ) (flags : List Bool) (requested : Requested A) (state : AppliedState A) → HasItsKey flags requested → AreRising state.database
+      → IfOk (change_applied policy number name flags requested state) (λ left. AreRising left.database)
+  change-rises policy number name flags requested state keyed rise =
+      change_leaves (λ tables changes. AreRising tables) policy number name flags requested state rise (λ h key before is found.
+      let after = row_after (length h.table.schema) requested.patch before in
+      let own = leaves-own flags requested.patch state.database name h rise.each keyed.0 keyed.1 key before is found in
+      record {
+        names = sorted-put state.database name (with_row h.table key after) rise.names;
+        each = each-put IsRising state.database name (with_row h.table key after) rise.each (row-rises h.table key after (found-rises state.database name h.table rise.each h.there) own);
+      })
 
-    pub apply-rises : (tables : Tables A) (blob : Contents A) → AreRising tables → FitsItsColumns blob → IfOk (apply tables blob policy) (λ left. AreRising left.database)
-    apply-rises tables blob rise fits =
-        groups_keep policy HasItsKey (λ state. AreRising state.database) (λ _ _ still. still) change-rises (requested_of blob) 0 0 (nothing_applied tables) (blob-keyed blob fits) rise
+  pub apply_rises : (tables : Tables A) (blob : Contents A) (policy : Policy) → AreRising tables → FitsItsColumns blob → IfOk (apply tables blob policy) (λ left. AreRising left.database)
+  apply_rises tables blob policy rise fits =
+      groups_keep policy HasItsKey (λ state. AreRising state.database) (λ _ _ still. still) (change-rises policy) (requested_of blob) 0 0 (nothing_applied tables) (blob-keyed blob fits) rise

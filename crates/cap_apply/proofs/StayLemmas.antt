@@ -91,5 +91,5 @@ module _ {A : Type 0} where
       (λ left each name key change at. (each name key).carries change (ap (find (is_of_row name key)) (sym (each name key).are) ∙ at))
 
   -- each table keeps its columns
-  pub blob-columns : (tables : Tables A) (blob : Contents A) (policy : Policy) → IfOk (apply tables blob policy) (λ left. (name : List ℕ) → schema_of left.database name ≡ schema_of tables name)
-  blob-columns tables blob policy = each-row (λ left. (name : List ℕ) → schema_of left.database name ≡ schema_of tables name) tables blob policy (λ left each name. (each name []).columns)
+  pub blob_columns : (tables : Tables A) (blob : Contents A) (policy : Policy) → IfOk (apply tables blob policy) (λ left. (name : List ℕ) → schema_of left.database name ≡ schema_of tables name)
+  blob_columns tables blob policy = each-row (λ left. (name : List ℕ) → schema_of left.database name ≡ schema_of tables name) tables blob policy (λ left each name. (each name []).columns)

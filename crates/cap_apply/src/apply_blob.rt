@@ -38,6 +38,7 @@ pub fn apply<A: AllocHandle>(
     }
 }
 
+#[tactic(auto, using(crate::proofs::GroupLemmas::groups_more))]
 fn apply_groups<C: BlobChange<A>, A: AllocHandle>(
     applied: Applied<A>,
     policy: Policy,

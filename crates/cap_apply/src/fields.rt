@@ -119,6 +119,7 @@ pub(crate) fn updated<A: AllocHandle>(
 }
 
 // Appends the values of the row, with the fields set.
+#[tactic(auto, using(crate::proofs::FieldLemmas::bytes_chosen))]
 fn set_fields<A: AllocHandle>(
     builder: &mut RowBuilder<A>,
     flags: &[bool],
@@ -143,6 +144,7 @@ fn set_fields<A: AllocHandle>(
 
 // Appends the next value of the row after an update, where there is one: that of the field, by its bytes,
 // where it is defined.
+#[tactic(auto, using(crate::proofs::FieldLemmas::field_encodes, crate::proofs::FieldLemmas::next_kept))]
 fn push_field<A: AllocHandle>(
     builder: &mut RowBuilder<A>,
     field: &[u8],

@@ -20,6 +20,7 @@ pub fn blob_fits_its_columns<A: AllocHandle>(blob: &Contents<A>)
 }
 
 /// Applying any blob under any policy keeps the columns of each table.
+#[tactic(auto, using(crate::proofs::StayLemmas::blob_columns))]
 pub fn applied_blobs_keep_columns<A: AllocHandle>()
     ensures { (tables : Tables A) (blob : Contents A) (policy : Policy) → IfOk (apply tables blob policy)
         (λ left. (name : List ℕ) → schema_of left.database name ≡ schema_of tables name) }
@@ -27,9 +28,8 @@ pub fn applied_blobs_keep_columns<A: AllocHandle>()
 
 /// In a database whose names, keys and ids rise and whose rows are under their own keys, this still holds
 /// after a blob whose changes fit the columns of their groups is applied.
+#[tactic(auto, using(crate::proofs::OrderLemmas::apply_rises))]
 pub fn applied_blobs_keep_order<A: AllocHandle>()
     ensures { (tables : Tables A) (blob : Contents A) (policy : Policy) → AreRising tables
         → FitsItsColumns blob → IfOk (apply tables blob policy) (λ left. AreRising left.database) }
-{
-    cap_table::laws::keyed_rows_keep_tables::<A>();
-}
+{}

@@ -106,10 +106,7 @@ impl<A: AllocHandle> Report<A> {
             else with_omitted decision.number
             (noted_in decision.policy decision.number conflict self.old))) }
     {
-        let made = match decision.is_made(conflict) {
-            Ok(made) => made,
-            Err(why) => return Err(Fault::Refused(why)),
-        };
+        let made = decision.is_made(conflict).map_err(Fault::Refused)?;
         if let Some(kind) = conflict {
             self.note(Conflict {
                 change: decision.number,

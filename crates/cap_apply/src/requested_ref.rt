@@ -1,11 +1,11 @@
 //! What a change of a changeset or of a patchset requests, in place.
-ghost use Rattle.std.specs.Prelude.{◌≡◌, [], IfOk, IsTrue, if◌then◌else◌};
+ghost use Rattle.std.specs.Prelude.{◌≡◌, IfOk, IsTrue};
 ghost use Rattle.std.specs.Option.{option_copied};
 ghost use Rattle.cap_row.specs.Schema.{has_key};
 ghost use Rattle.cap_changes.specs.ChangeRef.{change_of};
 ghost use Rattle.cap_changes.specs.Fits.{patch_fits};
 ghost use Rattle.cap_apply.specs.Requested.{key_record, requested_by};
-ghost use Rattle.cap_apply.specs.Row.{conflict_of, key_record_of, key_values, missed, row_after};
+ghost use Rattle.cap_apply.specs.Row.{conflict_of, key_record_of, key_values, row_after};
 
 use crate::ConflictKind;
 use crate::fields::{has_old_values, key_of_fields, new_row, updated};
@@ -40,14 +40,17 @@ impl<'a, A: AllocHandle> RequestedRef<'a, A> {
         ensures { result ≡ conflict_of columns.now (requested_by columns.now self.now).old
             (requested_by columns.now self.now).patch (option_copied row.entry) }
     {
-        let flags = columns.flags();
-        match &self.change {
-            ChangeRef::Insert { .. } => match row {
-                None => None,
-                Some(_) => Some(ConflictKind::Conflict),
-            },
-            ChangeRef::Update { old, .. } => missed(flags, self.has_old, old, row),
-            ChangeRef::Delete { old, .. } => missed(flags, self.has_old, old, row),
+        match (&self.change, row) {
+            (ChangeRef::Insert { .. }, None) => None,
+            (ChangeRef::Insert { .. }, Some(_)) => Some(ConflictKind::Conflict),
+            (_, None) => Some(ConflictKind::NotFound),
+            (ChangeRef::Update { old, .. } | ChangeRef::Delete { old, .. }, Some(row)) => {
+                if self.has_old && !has_old_values(columns.flags(), old, row.fields()) {
+                    Some(ConflictKind::Data)
+                } else {
+                    None
+                }
+            }
         }
     }
 
@@ -70,28 +73,6 @@ impl<'a, A: AllocHandle> RequestedRef<'a, A> {
             ChangeRef::Update { old, new, .. } => updated(alloc, flags, old, new, before),
             ChangeRef::Delete { .. } => Ok(None),
         }
-    }
-}
-
-// The conflict of an update or a delete, if any.
-fn missed<A: AllocHandle>(
-    flags: &[bool],
-    has_old: bool,
-    old: &RecordRef<'_, A>,
-    row: Option<&Row<A>>,
-) -> Option<ConflictKind>
-    ensures { result ≡ missed flags.now (if has_old then old.now else []) (option_copied row.entry) }
-{
-    let Some(row) = row else {
-        return Some(ConflictKind::NotFound);
-    };
-    if !has_old {
-        return None;
-    }
-    if has_old_values(flags, old, row.fields()) {
-        None
-    } else {
-        Some(ConflictKind::Data)
     }
 }
 
