@@ -1,6 +1,6 @@
 -- One change: its table, its conflict, and what it leaves.
-use Rattle.std.proofs.Common.{◌≡◌, ℕ, Bool, true, Option, Some, None, Result, Ok, Err, List, length, refl, sym, ap, ◌∙◌, arith, IfOk, is_some}
-use Rattle.cap_apply.proofs.Common.{Fields, fields_cmp, get, TableState, Tables, table_of, Change, RecordFields, AppliedState, change_applied, change_at, change_in, with_row, with_row_in, Requested, conflict_of, key_record_of, key_values, row_after, columns_fit, target, ConflictKind, Policy}
+use Rattle.std.proofs.Common.{◌≡◌, ℕ, Bool, true, Option, Some, None, Result, Ok, List, length, refl, ap, arith, IfOk, is_some}
+use Rattle.cap_apply.proofs.Common.{Fields, fields_cmp, get, TableState, Tables, table_of, Change, AppliedState, change_applied, change_at, change_in, with_row, with_row_in, Requested, conflict_of, key_record_of, key_values, row_after, columns_fit, target, ConflictKind, Policy}
 
 module _ {A : Type 0} where
   -- the table that a group is for

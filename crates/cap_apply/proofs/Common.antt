@@ -48,10 +48,10 @@ pub use Rattle.cap_apply.specs.Captured.{AllAfter, AllBefore, AllDiffer, AreOthe
 pub use Rattle.cap_apply.specs.Difference.{AllApplied, AreApart, Difference, GivesRowsNow, HoldAfter, HoldBefore, IsDifference, IsUnder, OtherTables, RowsAfter, RowsBefore, requested_by_changes, requested_by_inverses, turned}
 pub use Rattle.cap_apply.specs.Fitting.{FitsItsColumns}
 pub use Rattle.cap_apply.specs.Operations.{AreRun, IsMadeOrOmitted, deletes, directly, inserts, operations_of_change, operations_of_patch, other_fields, updates}
-pub use Rattle.cap_apply.specs.Policy.{answer_to, is_made, made_anyway}
+pub use Rattle.cap_apply.specs.Policy.{is_made}
 pub use Rattle.cap_apply.specs.Report.{ReportState}
-pub use Rattle.cap_apply.specs.Requested.{Requested, old_record, requested_by_change, requested_by_patch, requested_in, requested_of}
-pub use Rattle.cap_apply.specs.Row.{assigned_from, conflict_of, has_old_values, key_record_of, key_values, missed, new_row, row_after, set_fields}
+pub use Rattle.cap_apply.specs.Requested.{Requested, requested_by_change, requested_by_patch, requested_in, requested_of}
+pub use Rattle.cap_apply.specs.Row.{assigned_from, conflict_of, has_old_values, key_record_of, key_values, new_row, row_after, set_fields}
 pub use Rattle.cap_apply.specs.Target.{columns_fit, target}
 pub use Rattle.cap_apply.specs.declared.conflict.ConflictKind.{ConflictKind}
 pub use Rattle.cap_apply.specs.declared.policy.Policy.{Policy}

@@ -1,10 +1,10 @@
 -- One change as the code applies it: what it leaves is the requested change.
-use Rattle.std.proofs.Common.{arith, ◌≡◌, ℕ, Bool, true, Option, Some, List, [], length, IfSome, is_some, refl}
+use Rattle.std.proofs.Common.{arith, ◌≡◌, ℕ, Bool, true, Option, List, [], length, IfSome, is_some, refl}
 use Rattle.std.specs.Option.{unwrap_or}
 use Rattle.cap_database.specs.Keyed.{IsOwnRow}
-use Rattle.cap_apply.proofs.Common.{Patch, Fields, fields_cmp, key_of, has_key, get, TableState, row_at, schema_of, EachRises, Tables, table_of, patch_fits, AppliedState, change_applied, concluded, counted, left_out, noted, is_made, Requested, conflict_of, key_record_of, key_values, row_after, target, Policy}
+use Rattle.cap_apply.proofs.Common.{Patch, Fields, fields_cmp, has_key, get, row_at, schema_of, EachRises, Tables, patch_fits, AppliedState, change_applied, concluded, counted, left_out, noted, is_made, Requested, conflict_of, key_record_of, key_values, row_after, target, Policy}
 use Rattle.cap_apply.specs.Merged.{row_replaced}
-use Rattle.cap_apply.proofs.ChangeLemmas.{HasTarget, has_target}
+use Rattle.cap_apply.proofs.ChangeLemmas.{has_target}
 use Rattle.cap_apply.proofs.KeyLemmas.{patch-keyed}
 use Rattle.cap_apply.proofs.OrderLemmas.{leaves-own}
 

@@ -28,11 +28,8 @@ module _ {A : Type 0} where
 
   -- groups that ask of each table what gives its rows now
   module _ (policy : Policy) (f : List Bool → RowChange A → Requested A) (asks : (flags : List Bool) (d : Difference A) → IsDifference flags d → AsksFor flags (f flags d.change) d.key d.before d.after) where
-    abbrev asked : TableRows A → List (Requested A)
-    asked t = map (λ (d : Difference A). f t.table.schema d.change) t.differences
-
     abbrev group_of : TableRows A → TableEntries (Requested A)
-    group_of t = record { table = t.name; schema = t.table.schema; changes = asked t }
+    group_of t = record { table = t.name; schema = t.table.schema; changes = map (λ (d : Difference A). f t.table.schema d.change) t.differences }
 
     groups_give : (ts : List (TableRows A)) (place number : ℕ) (state : AppliedState A) → AllBefore ts state.database
         → (left : AppliedState A) × (groups_applied policy place number (map group_of ts) state ≡ Ok left) × AllAfter ts left.database
@@ -45,10 +42,10 @@ module _ {A : Type 0} where
         let first = rows_given policy f asks number t.name t.table t.differences state before.0 in
         let next = first.0 in
         let one : group_applied policy place number (group_of t) state ≡ Ok next = rw (before.0.there, fit_self t.table.schema, first.1) in
-        let rest = groups_give ts (place + 1) (number + length (asked t)) next (all_before_moves t.name ts state.database next.database first.3 before.1 before.2) in
+        let rest = groups_give ts (place + 1) (number + length (group_of t).changes) next (all_before_moves t.name ts state.database next.database first.3 before.1 before.2) in
         let more : state.report.applied + length t.differences + total ts ≡ state.report.applied + (length t.differences + total ts) = omega arith in (
           rest.0,
-          ap (λ r. and_then r (λ s. groups_applied policy (place + 1) (number + length (asked t)) (map group_of ts) s)) one ∙ rest.1,
+          ap (λ r. and_then r (λ s. groups_applied policy (place + 1) (number + length (group_of t).changes) (map group_of ts) s)) one ∙ rest.1,
           (after_moves t next.database rest.0.database (rest.3 t.name before.1) first.2, rest.2),
           λ other apart. rest.3 other apart.1 ∙ first.3 other apart.0,
           rest.4 ∙ ap (λ (r : ReportState). record r { applied = r.applied + total ts }) first.4 ∙ ap (λ n. record state.report { applied = n }) more,

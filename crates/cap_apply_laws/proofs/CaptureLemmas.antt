@@ -62,11 +62,8 @@ module _ {A : Type 0} where
 
   -- what holds where a row comes, where one goes and where two differ holds of each change that a capture has
   module _ (flags : List Bool) (indirect : Bool) (Holds : Option (Fields A) → Option (Fields A) → RowChange A → Type 0) where
-    abbrev pub update_of : Fields A → Fields A → RowChange A
-    update_of image now = Update indirect (by_column old_field flags image now) (by_column new_field flags image now)
-
     pub by_rows : ((now : Fields A) → Holds None (Some now) (Insert indirect (full_record now))) → ((image : Fields A) → Holds (Some image) None (Delete indirect (full_record image)))
-        → ((image now : Fields A) → fields_eq image now ≡ false → Holds (Some image) (Some now) (update_of image now))
+        → ((image now : Fields A) → fields_eq image now ≡ false → Holds (Some image) (Some now) (Update indirect (by_column old_field flags image now) (by_column new_field flags image now)))
         → (before after : Option (Fields A)) (change : RowChange A) → change_of flags indirect before after ≡ Some change → Holds before after change
     by_rows comes goes differ before after change is = grind (arith, comes, goes, differ)
 

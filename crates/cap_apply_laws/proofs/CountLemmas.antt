@@ -1,11 +1,12 @@
 -- Each change of a blob is applied, omitted or in a skipped group, and no change and no group comes twice in a report.
 use Rattle.std.proofs.Common.{◌≡◌, ℕ, ◌+◌, ◌<◌, ◌≤◌, inl, inr, Bool, true, false, Some, None, Result, Ok, Err, List, [], ◌∷◌, ◌++◌, length, map, take, drop, get_or, refl, sym, ap, subst, ◌∙◌, arith, length-append, IfOk, is_some, sum, take-take}
 use Rattle.std.proofs.lemmas.List.Sums.{sum_by-take-drop, sum_by-take-le, sum_by_more, sum_by_push}
+use Rattle.cap_tree.proofs.EntryLemmas.{all_append}
 use Rattle.cap_apply.proofs.Common.{AllByRecursion, drop_more, length-map, IfOk-weaker, map-map, Refusal, fields_cmp, get, Tables, TableEntries, taken, Contents, Changes, Patches, AppliedState, apply, change_applied, changes_applied, concluded, counted, group_applied, groups_applied, left_out, noted, nothing_applied, skipped, skipped_unless, with_row_in, Requested, requested_of, is_made, conflict_of, key_record_of, key_values, row_after, target}
 use Rattle.cap_apply.specs.declared.policy.Policy.{Policy}
 use Rattle.cap_apply.proofs.ChangeLemmas.{applied_at, has_target}
 use Rattle.cap_apply.proofs.GroupLemmas.{both_keep, changes_keep, changes_skipped, target_stays}
-use Rattle.cap_apply_laws.specs.Counted.{AreReportedOnce, IsOutside, RiseWithin, change_count, changes_in_groups, first_of, group_sizes}
+use Rattle.cap_apply_laws.specs.Counted.{IsOutside, RiseWithin, change_count, changes_in_groups, first_of, group_sizes}
 
 -- ---- numbers that rise
 
@@ -25,10 +26,6 @@ rise-each : (P : ℕ → Type 0) (low high : ℕ) (numbers : List ℕ) → RiseW
 rise-each P low high [] rise says = tt
 rise-each P low high (number ∷ numbers) rise says =
     let above = bounds-rise (number + 1) high numbers rise.1 in (says number (omega (arith, above)), rise-each P (number + 1) high numbers rise.1 says)
-
-each-more : {X : Type 0} (P : X → Type 0) (xs : List X) (x : X) → AllByRecursion P xs → P x → AllByRecursion P (xs ++ x ∷ [])
-each-more P [] x all says = (says, tt)
-each-more P (y ∷ xs) x all says = (all.0, each-more P xs x all.1 says)
 
 module _ {A : Type 0} where
   abbrev size : TableEntries (Requested A) → ℕ
@@ -59,17 +56,17 @@ module _ {A : Type 0} (blob : Contents A) where
   apart-more place number low omitted [] l rise apart = tt
   apart-more place number low omitted (at ∷ places) l rise apart =
       let behind = first-later (at + 1) place (bounds-rise (at + 1) place places rise.1) in
-      (each-more (IsOutside blob at) omitted number apart.0 (inr (omega (arith, behind, l))), apart-more place number (at + 1) omitted places l rise.1 apart.1)
+      (all_append (IsOutside blob at) omitted (number ∷ []) apart.0 (inr (omega (arith, behind, l)), tt), apart-more place number (at + 1) omitted places l rise.1 apart.1)
 
   -- ---- a report, up to this group and this change
 
-  record Told (place number applied : ℕ) (omitted skipped : List ℕ) : Type 0 where
-    counted : applied + length omitted + changes_in_groups blob skipped ≡ number
-    changes : RiseWithin 0 number omitted
-    groups : RiseWithin 0 place skipped
-    apart : AllByRecursion (λ at. AllByRecursion (IsOutside blob at) omitted) skipped
+  pub record Told (place number applied : ℕ) (omitted skipped : List ℕ) : Type 0 where
+    pub counted : applied + length omitted + changes_in_groups blob skipped ≡ number
+    pub changes : RiseWithin 0 number omitted
+    pub groups : RiseWithin 0 place skipped
+    pub apart : AllByRecursion (λ at. AllByRecursion (IsOutside blob at) omitted) skipped
 
-  abbrev IsTold : ℕ → ℕ → AppliedState A → Type 0
+  abbrev pub IsTold : ℕ → ℕ → AppliedState A → Type 0
   IsTold place number state = Told place number state.report.applied state.report.omitted state.report.skipped
 
   told-skipped : (place number count : ℕ) (state : AppliedState A) → IsTold place number state → number ≡ first_of blob place → get_or (group_sizes blob) place 0 ≡ count → IsTold (place + 1) (number + count) (skipped place state)
@@ -77,8 +74,8 @@ module _ {A : Type 0} (blob : Contents A) where
     counted = omega (arith, told.counted, sum_by_push (λ at. get_or (group_sizes blob) at 0) state.report.skipped place, is);
     changes = rise-wider 0 number (number + count) state.report.omitted told.changes (omega arith);
     groups = rise-more 0 place state.report.skipped told.groups;
-    apart = each-more (λ at. AllByRecursion (IsOutside blob at) state.report.omitted) state.report.skipped place told.apart
-        (rise-each (IsOutside blob place) 0 number state.report.omitted told.changes (λ change l. inl (omega (arith, l, from))));
+    apart = all_append (λ at. AllByRecursion (IsOutside blob at) state.report.omitted) state.report.skipped (place ∷ []) told.apart
+        (rise-each (IsOutside blob place) 0 number state.report.omitted told.changes (λ change l. inl (omega (arith, l, from))), tt);
   }
 
   module _ (policy : Policy) (name : List ℕ) (flags : List Bool) (place : ℕ) where
@@ -124,31 +121,20 @@ module _ {A : Type 0} (blob : Contents A) where
           subst (λ r. IfOk r (IsTold (place + 1) (number + size group))) (sym (changes_skipped policy group.table group.schema number group.changes (skipped place state) there))
           (told-skipped place number (size group) state told from is)
 
-  abbrev IsToldWhole : AppliedState A → Type 0
+  abbrev pub IsToldWhole : AppliedState A → Type 0
   IsToldWhole state = IsTold (length (group_sizes blob)) (change_count blob) state
 
   groups-told : (policy : Policy) (groups : List (TableEntries (Requested A))) (place number : ℕ) (state : AppliedState A) → drop place (group_sizes blob) ≡ map size groups → place + length groups ≡ length (group_sizes blob)
       → number ≡ first_of blob place → IsTold place number state → IfOk (groups_applied policy place number groups state) IsToldWhole
   groups-told policy [] place number state are left from told =
-      let places : place ≡ length (group_sizes blob) = omega (arith, left) in
-      let numbers : number ≡ change_count blob = omega (arith, from, sum_by-take-drop (λ m. m) (group_sizes blob) place, ap sum are) in
-      subst (λ n. IsTold (length (group_sizes blob)) n state) numbers (subst (λ p. IsTold p number state) places told)
+      grind (arith, told, sum_by-take-drop (λ m. m) (group_sizes blob) place, ap sum are)
   groups-told policy (group ∷ groups) place number state are left from told =
       let here = size-at place (size group) (map size groups) are in
       both_keep (IsTold (place + 1) (number + size group)) IsToldWhole (group_applied policy place number group state) (λ next. groups_applied policy (place + 1) (number + length group.changes) groups next)
       (group-told policy place number group state from here.0 told)
       (λ next _. groups-told policy groups (place + 1) (number + size group) next here.1 (omega (arith, left)) (omega (arith, from, here.2)))
 
-  blob-told : (tables : Tables A) (policy : Policy) → IfOk (apply tables blob policy) IsToldWhole
-  blob-told tables policy =
+  pub blob_told : (tables : Tables A) (policy : Policy) → IfOk (apply tables blob policy) IsToldWhole
+  blob_told tables policy =
       let all : 0 + length (requested_of blob) ≡ length (group_sizes blob) = omega (arith, ap length (sizes-are blob), length-map (requested_of blob) size) in
       groups-told policy (requested_of blob) 0 0 (nothing_applied tables) (sizes-are blob) all refl (record { counted = refl; changes = omega arith; groups = omega arith; apart = tt })
-
-module _ {A : Type 0} (tables : Tables A) (blob : Contents A) (policy : Policy) where
-  pub each-counted : IfOk (apply tables blob policy) (λ left. left.report.applied + length left.report.omitted + changes_in_groups blob left.report.skipped ≡ change_count blob)
-  each-counted = IfOk-weaker (apply tables blob policy) (IsToldWhole blob) (λ left. left.report.applied + length left.report.omitted + changes_in_groups blob left.report.skipped ≡ change_count blob)
-      (λ left told. told.counted) (blob-told blob tables policy)
-
-  pub told-once : IfOk (apply tables blob policy) (λ left. AreReportedOnce blob left.report)
-  told-once = IfOk-weaker (apply tables blob policy) (IsToldWhole blob) (λ left. AreReportedOnce blob left.report)
-      (λ left told. record { omitted = told.changes; skipped = told.groups; apart = told.apart }) (blob-told blob tables policy)

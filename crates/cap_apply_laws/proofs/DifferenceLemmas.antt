@@ -1,7 +1,7 @@
 -- All changes of a capture, one after another.
 use Rattle.std.proofs.Common.{◌≡◌, ℕ, suc, ◌+◌, Bool, cond, Option, Some, None, Ok, List, [], ◌∷◌, length, map, refl, sym, ap, ◌∙◌, arith}
 use Rattle.cap_database_laws.proofs.UndoneLemmas.{put-found}
-use Rattle.cap_apply.proofs.Common.{length-map, map-map, bytes_cmp, bytes_cmp-Equal, Fields, fields_cmp, fields_cmp_total, fields_cmp-Equal, fields_eq, fields_eq_decides, IsOrdered, get, put_entry, ordered_put, ordered_take, put_entry-Updates, take_entry-Updates, TableState, Tables, table_of, RecordFields, patch_of, Patch, RowChange, other_order, AppliedState, and_then, changes_applied, counted, with_row, with_row_in, Requested, old_record, requested_by_change, requested_by_patch, AllApplied, AreApart, Difference, GivesRowsNow, HoldAfter, HoldBefore, IsDifference, OtherTables, RowsAfter, RowsBefore, requested_by_changes, requested_by_inverses, turned, conflict_of}
+use Rattle.cap_apply.proofs.Common.{length-map, map-map, bytes_cmp, bytes_cmp-Equal, Fields, fields_cmp, fields_cmp_total, fields_cmp-Equal, fields_eq, fields_eq_decides, IsOrdered, get, put_entry, ordered_put, ordered_take, put_entry-Updates, take_entry-Updates, TableState, Tables, table_of, patch_of, RowChange, other_order, AppliedState, and_then, changes_applied, counted, with_row, with_row_in, Requested, requested_by_change, requested_by_patch, AllApplied, AreApart, Difference, GivesRowsNow, HoldAfter, HoldBefore, IsDifference, OtherTables, RowsAfter, RowsBefore, requested_by_changes, requested_by_inverses, turned}
 use Rattle.cap_apply.specs.declared.policy.Policy.{Policy}
 use Rattle.cap_apply.proofs.ChangeLemmas.{same_columns, same_rest}
 use Rattle.cap_apply.proofs.EntryLemmas.{get_put_other}
@@ -92,13 +92,10 @@ module _ {A : Type 0} where
   change_asks flags d h = asks_by_change flags h.change.0 d.key d.before d.after d.change h.before h.after h.change.1
 
   -- a patchset has no old values that could differ
-  no_conflict : (flags : List Bool) (old : RecordFields A) (patch : Patch A) (before : Option (Fields A)) → conflict_of flags old patch before ≡ None → conflict_of flags [] patch before ≡ None
-  no_conflict flags old patch before e = grind (arith, no_old {A = A} flags [])
-
   pub patch_asks : (flags : List Bool) (d : Difference A) → IsDifference flags d → AsksFor flags (requested_by_patch flags (patch_of flags d.change)) d.key d.before d.after
   patch_asks flags d h =
       let asked = change_asks flags d h in
-      record { names = asked.names; met = no_conflict flags (old_record d.change) (patch_of flags d.change) d.before asked.met; leaves = asked.leaves }
+      record { names = asked.names; met = grind (arith, asked.met, no_old {A = A} flags []); leaves = asked.leaves }
 
   module _ (policy : Policy) (f : List Bool → RowChange A → Requested A) (asks : (flags : List Bool) (d : Difference A) → IsDifference flags d → AsksFor flags (f flags d.change) d.key d.before d.after) where
     pub rows_given : (number : ℕ) (name : List ℕ) (table : TableState A) (ds : List (Difference A)) (state : AppliedState A) → RowsBefore name table ds state.database
@@ -107,17 +104,13 @@ module _ {A : Type 0} where
         apply_all policy name table.schema (λ d. f table.schema d.change) (asks table.schema) ds number table state before.there refl before.ordered before.rows
 
   module _ (flags : List Bool) where
-    apart_turned : (key : Fields A) (ds : List (Difference A)) → AreApart key ds → AreApart key (map (turned flags) ds)
-    apart_turned key [] apart = tt
-    apart_turned key (d ∷ ds) apart = (apart.0, apart_turned key ds apart.1)
-
-    apart_again : (key : Fields A) (ds : List (Difference A)) → AreApart key (map (turned flags) ds) → AreApart key ds
-    apart_again key [] apart = tt
-    apart_again key (d ∷ ds) apart = (apart.0, apart_again key ds apart.1)
+    apart_turned : (key : Fields A) (ds : List (Difference A)) → (AreApart key ds → AreApart key (map (turned flags) ds)) × (AreApart key (map (turned flags) ds) → AreApart key ds)
+    apart_turned key [] = (λ apart. apart, λ apart. apart)
+    apart_turned key (d ∷ ds) = let rest = apart_turned key ds in (λ apart. (apart.0, rest.0 apart.1), λ apart. (apart.0, rest.1 apart.1))
 
     hold_turned : (table found : TableState A) (ds : List (Difference A)) → HoldBefore flags table ds → HoldAfter found ds → HoldBefore flags found (map (turned flags) ds)
     hold_turned table found [] hold rows = tt
-    hold_turned table found (d ∷ ds) hold rows = (turned_difference flags d hold.0, rows.0, apart_turned d.key ds hold.2, hold_turned table found ds hold.3 rows.1)
+    hold_turned table found (d ∷ ds) hold rows = (turned_difference flags d hold.0, rows.0, (apart_turned d.key ds).0 hold.2, hold_turned table found ds hold.3 rows.1)
 
   pub inverse_gives : (policy : Policy) (number : ℕ) (name : List ℕ) (table : TableState A) (ds : List (Difference A)) (state : AppliedState A) → RowsBefore name table ds state.database
       → (left : AppliedState A) × (again : AppliedState A) × (changes_applied policy number name table.schema (requested_by_changes table.schema ds) state ≡ Ok left)
@@ -139,7 +132,7 @@ module _ {A : Type 0} where
           found = last.found;
           there = last.there;
           rows = last.rows;
-          other_rows = λ key apart. last.other_rows key apart ∙ rows.other_rows key (apart_again flags key ds apart);
+          other_rows = λ key apart. last.other_rows key apart ∙ rows.other_rows key ((apart_turned flags key ds).1 apart);
           loose = last.loose ∙ rows.loose;
           columns = last.columns ∙ rows.columns;
           next_id = last.next_id ∙ rows.next_id;

@@ -21,10 +21,10 @@ group-spelled fits kind one says group bytes spelled =
     record { keyed = spelled.named.keyed; each = each-spelled (λ x. fits group.schema x ≡ true) (one group.schema) (says group.schema) group.changes spelled.rest spelled.each }
 
 module _ {A : Type 0} where
-  pub spelled-fits : (blob : Contents A) (bytes : List ℕ) → Spells blob bytes → FitsItsColumns blob
-  spelled-fits (Changes groups) bytes spelled =
+  pub spelled_fits : (blob : Contents A) (bytes : List ℕ) → Spells blob bytes → FitsItsColumns blob
+  spelled_fits (Changes groups) bytes spelled =
       each-spelled (IsFitting change_fits) SpellsChanges (group-spelled change_fits changeset_kind SpellsChange (λ flags change bytes one. one.0)) groups bytes spelled
-  spelled-fits (Patches groups) bytes spelled =
+  spelled_fits (Patches groups) bytes spelled =
       each-spelled (IsFitting patch_fits) SpellsPatches (group-spelled patch_fits patchset_kind SpellsPatch (λ flags patch bytes one. one.0)) groups bytes spelled.0
 
   -- ---- one difference

@@ -10,11 +10,9 @@ use Rattle.cap_database_laws.proofs.UndoneLemmas.{put-again, put-found}
 use Rattle.cap_changes.specs.declared.record_kind.RecordKind.TheVariants as record_kinds
 use Rattle.cap_changes.specs.declared.patch.Patch.TheVariants as patched
 use Rattle.cap_changes.proofs.PatchLemmas.{update_fits}
-use Rattle.cap_apply.proofs.Common.{missed, length-map, IfOk-at_ok, IfOk-weaker, bytes_cmp, Refusal, Fields, fields_cmp, fields_cmp_total, fields_eq_decides, key_fields, key_of, has_key, get, put_entry, take_entry, with_key, without, IsRising, TableState, Key, found-own, fields_same, changes_to, run, AreRising, Tables, Direct, Change, RecordFields, change_fits, patch_fits, patch_of, update_record, new_requirements, requirements, satisfy, RowChange, Patch, Contents, AppliedState, apply, change_applied, change_in, concluded, counted, left_out, noted, nothing_applied, with_row_in, FitsItsColumns, AreRun, IsMadeOrOmitted, deletes, directly, inserts, operations_of_change, operations_of_patch, other_fields, answer_to, is_made, made_anyway, Requested, requested_by_change, requested_by_patch, requested_of, conflict_of, key_record_of, key_values, new_row, row_after, set_fields, columns_fit, target}
+use Rattle.cap_apply.proofs.Common.{length-map, IfOk-at_ok, IfOk-weaker, bytes_cmp, Refusal, Fields, fields_cmp, fields_cmp_total, fields_eq_decides, key_fields, key_of, has_key, get, put_entry, take_entry, with_key, without, IsRising, TableState, Key, found-own, fields_same, changes_to, run, AreRising, Tables, Direct, Change, RecordFields, change_fits, patch_fits, patch_of, update_record, new_requirements, requirements, satisfy, RowChange, Patch, Contents, AppliedState, apply, change_applied, change_in, concluded, counted, left_out, noted, nothing_applied, with_row_in, FitsItsColumns, AreRun, IsMadeOrOmitted, deletes, directly, inserts, operations_of_change, operations_of_patch, other_fields, is_made, Requested, requested_by_change, requested_by_patch, requested_of, conflict_of, key_record_of, key_values, new_row, row_after, set_fields, columns_fit, target}
 use Rattle.cap_apply.specs.declared.conflict.ConflictKind.{ConflictKind}
 use Rattle.cap_apply.specs.declared.policy.Policy.{Policy}
-use Rattle.cap_apply.specs.declared.policy.Answer.{Answer}
-use Rattle.cap_apply.specs.declared.policy.Answer.TheVariants.{Omit}
 use Rattle.cap_apply.proofs.ChangeLemmas.{HasTarget, applied_at, the_target}
 use Rattle.cap_apply.proofs.GroupLemmas.{groups_keep}
 use Rattle.cap_apply.proofs.KeyLemmas.{Keyed, change-keyed, patch-keyed}
@@ -23,17 +21,7 @@ use Rattle.cap_apply.proofs.OrderLemmas.{HasItsKey, blob-keyed, found-rises}
 use Rattle.cap_apply.proofs.RowLemmas.{few_fields, key_of-new_row, key_of-set_fields, length-new_row, record_key, update_key}
 use Rattle.cap_apply_laws.proofs.CaptureLemmas.{key_is}
 
--- a change with a conflict is left out where the policy answers it with Omit
-omits : (number : ℕ) (kind : ConflictKind) (answer : Answer) → made_anyway number kind answer ≡ Ok false → answer ≡ Omit
-omits number kind answer e = grind arith
-
 module _ {A : Type 0} where
-  -- there is nothing to replace where no row was found
-  missed_made : (policy : Policy) (number : ℕ) (flags : List Bool) (old : RecordFields A) (before : Option (Fields A)) →
-      is_made policy number (missed flags old before) ≡ Ok true → (row : Fields A) × (before ≡ Some row)
-  missed_made policy number flags old None e = absurd (grind arith)
-  missed_made policy number flags old (Some row) e = (row, refl)
-
   -- a row that is put where another was taken out
   put-taken : (es : List (Fields A × Fields A)) (key row : Fields A) → is_sorted fields_cmp es ≡ true → put_entry fields_cmp (take_entry fields_cmp es key) key row ≡ put_entry fields_cmp es key row
   put-taken es key row s =
@@ -60,10 +48,8 @@ module _ {A : Type 0} where
 
   -- the patch of an UPDATE has the fields of the new record beside the key
   others-updated : (flags : List Bool) (old new : RecordFields A) → satisfy (new_requirements flags old) new ≡ true → other_fields flags (update_record flags old new) ≡ new
-  others-updated [] old [] met = refl
-  others-updated (flag ∷ flags) [] [] met = refl
   others-updated (flag ∷ flags) (before ∷ old) (after ∷ new) met = let rest = others-updated flags old new in grind (arith, rest)
-  others-updated flags old new met = cc
+  others-updated flags old new met = grind arith
 
   -- ---- operations, one after another
 
@@ -111,7 +97,7 @@ module _ {A : Type 0} where
           let row = new_row (length h.table.schema) new in
           subst (λ b. AreRun (inserts name key row b) state (left key before (Some row))) (sym found)
           (inserts-run key row before (length-new_row flags h.table.schema new h.fit keyed fits) (key_of-new_row flags h.table.schema new h.fit keyed fits) found)
-      made-run old (patched.Update indirect new) None found fits e = let no = (missed_made policy number flags old None e).1 in cc
+      made-run old (patched.Update indirect new) None found fits e = absurd (grind arith)
       made-run old (patched.Update indirect new) (Some row) found fits e =
           let key = key_values flags new in
           let fields = other_fields flags new in
@@ -120,7 +106,7 @@ module _ {A : Type 0} where
           let few : length fields ≤ length h.table.schema = omega (arith, as_many, length-zip flags new, few_fields flags h.table.schema new h.fit keyed fits) in
           update_is state name h.table h.there key fields row (set_fields new row) few found
           (set-others flags h.table.schema new row h.fit fits own.0 (key_is h.table.schema row key own.1)) (key_of-set_fields flags h.table.schema new h.fit keyed fits row own.0)
-      made-run old (patched.Delete indirect old_key) None found fits e = let no = (missed_made policy number flags old None e).1 in cc
+      made-run old (patched.Delete indirect old_key) None found fits e = absurd (grind arith)
       made-run old (patched.Delete indirect old_key) (Some row) found fits e =
           delete_is state name h.table h.there (key_values flags old_key) row found
 
@@ -132,7 +118,7 @@ module _ {A : Type 0} where
       concluded-as (Some kind) ops key before after (Ok true) is ran = inl (record { applied = refl; omitted = refl; ran = ran refl })
       concluded-as (Some kind) ops key before after (Ok false) is ran = inr (record {
         kind = kind;
-        conflict = ap (λ answer. state.report.conflicts ++ record { change = number; kind = kind; answer = answer } ∷ []) (omits number kind (answer_to policy kind) is);
+        conflict = grind arith;
         omitted = refl;
         applied = refl;
         database = refl;

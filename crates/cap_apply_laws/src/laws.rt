@@ -44,6 +44,7 @@ pub fn patches_give_the_rows_now<A: AllocHandle>()
 
 /// A captured changeset of several tables, applied as a blob, gives the rows now: its report counts every
 /// change as applied, and has no conflict and nothing omitted or skipped.
+#[tactic(auto, using(crate::proofs::BlobLemmas::changeset_gives))]
 pub fn a_changeset_gives_the_rows_now<A: AllocHandle>()
     ensures { (policy : Policy) (ts : List (TableRows A)) (database : Tables A) → AllBefore ts database →
         GivesAllRowsNow policy ts (Changes (map changes_of ts)) database }
@@ -65,12 +66,14 @@ pub fn captures_fit_their_columns<A: AllocHandle>()
 {}
 
 /// The changes that bytes spell fit the columns of their groups.
+#[tactic(auto, using(crate::proofs::FittingLemmas::spelled_fits))]
 pub fn spelled_blobs_fit_their_columns<A: AllocHandle>()
     ensures { (blob : Contents A) (bytes : List ℕ) → Spells blob bytes → FitsItsColumns blob }
 {}
 
 /// A captured changeset, applied where each key has its first image, and then its inverse give the first rows
 /// again, under any policy.
+#[tactic(auto, using(crate::proofs::DifferenceLemmas::inverse_gives))]
 pub fn inverse_gives_the_first_rows_again<A: AllocHandle>()
     ensures { (policy : Policy) (number : ℕ) (name : List ℕ) (table : TableState A) (ds : List (Difference A))
         (state : AppliedState A) → RowsBefore name table ds state.database →
@@ -86,6 +89,7 @@ pub fn inverse_gives_the_first_rows_again<A: AllocHandle>()
 /// Whatever the policy, the changes that a report counts as applied, its omitted changes and those in its
 /// skipped groups are together the changes of the blob. No omitted change and no skipped group comes twice,
 /// and no omitted change is in a skipped group.
+#[tactic(auto, using(crate::proofs::CountLemmas::blob_told))]
 pub fn each_change_is_counted_once<A: AllocHandle>()
     ensures counts { (tables : Tables A) (blob : Contents A) (policy : Policy) →
         IfOk (apply tables blob policy) (λ left. left.report.applied + length left.report.omitted
