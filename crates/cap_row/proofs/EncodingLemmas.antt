@@ -1,38 +1,28 @@
 -- The bytes of values, and the values of bytes.
-use Rattle.std.proofs.Common.{◌≡◌, ◌==◌, true, false, ℕ, zero, suc, ◌+◌, ◌≤◌, ◌<◌, List, [], ◌∷◌, ◌++◌, length, drop, take, take_at, ◌-◌, slice_get, Option, Some, None, eqb-true, Result, Ok, Err, IsOk, refl, sym, ap, subst, ◌∙◌, append-nil, length-append, length-drop, arith}
+use Rattle.std.proofs.Common.{◌≡◌, ◌==◌, true, false, ℕ, zero, suc, add-one, ◌+◌, ◌≤◌, ◌<◌, List, [], ◌∷◌, ◌++◌, length, drop, take, take_at, ◌-◌, slice_get, eqb-true, Result, Ok, Err, IsOk, refl, sym, ap, subst, ◌∙◌, append-nil, length-append, arith}
 use Rattle.std.specs.Prelude.{OnOk, OnErr}
-use Rattle.std.specs.Option.{option_map}
-use Rattle.std.specs.Map.Iter.{TakesFirst}
 use Rattle.cap_value.specs.declared.value.Value.{Value}
 use Rattle.cap_value.specs.Value.{IsValue}
 use Rattle.cap_field.specs.Field.{value_bytes, values_bytes}
 use Rattle.cap_field.specs.FieldReading.{value_at}
 use Rattle.cap_field.proofs.FieldAgain.{value_again}
-use Rattle.cap_row.specs.Encoding.{fields_from, fields_of, AreValues, BeginsWith, Encodes}
+use Rattle.cap_row.specs.Encoding.{fields_from, fields_of, AreValues, Encodes}
 use Rattle.cap_row.specs.Key.{fields_eq, fields_eq_decides}
 use Rattle.std.proofs.lemmas.Bool.Decides.{Decides-eqb, same_from_decides}
 use Rattle.std.proofs.lemmas.Slice.Eq.{slice_eq-Decides}
 use Rattle.std.specs.Cmp.Lexicographic.{pointwise}
-use Rattle.std.proofs.Common.{Bool, nat_eq, get_or, add-zero}
+use Rattle.std.proofs.Common.{Bool, nat_eq}
 use Rattle.std.proofs.lemmas.Grind.{flat_map-append}
-use Rattle.std.proofs.lemmas.List.{drop-drop, get_or-drop}
-use Rattle.std.proofs.lemmas.Option.{slice_get_past, slice_get_read}
+use Rattle.std.proofs.lemmas.List.{drop-drop}
 
 -- ---- lists
 
--- no element at or behind the end
-pub get_past : {X : Type 0} (xs : List X) (i j : ℕ) → drop i xs ≡ [] → i ≤ j → slice_get xs j ≡ None
-get_past xs i j e le = slice_get_past xs j (omega (arith, ap length e, length-drop i xs))
+-- an element behind the first
+pub slice_get_behind : {X : Type 0} (x : X) (xs : List X) (n m : ℕ) → n ≡ m + 1 → slice_get (x ∷ xs) n ≡ slice_get xs m
+slice_get_behind x xs n m e = rw (e, add-one) refl
 
 pub passed : {X : Type 0} (xs : List X) (i : ℕ) (x : X) (rest ys : List X) → rest ≡ drop i xs → rest ≡ x ∷ ys → ys ≡ drop (i + 1) xs
 passed xs i x rest ys is first = ap (drop 1) (sym first ∙ is) ∙ drop-drop 1 i xs
-
-pub read_at : {X Y : Type 0} (f : Y → X) (r : Option Y) (xs : List X) (i j : ℕ) (rest ys : List X) → rest ≡ drop i xs → i ≡ j → TakesFirst f rest r ys → option_map f r ≡ slice_get xs j
-read_at f None xs i j rest ys is same first = sym (get_past xs i j (sym is ∙ first.0) (omega arith))
-read_at f (Some y) xs i j rest ys is same first =
-    let e : drop i xs ≡ f y ∷ ys = sym is ∙ first in
-    let at : get_or xs (i + 0) (f y) ≡ f y = sym (get_or-drop i xs 0 (f y)) ∙ rw e refl in
-    sym (slice_get_read xs (length xs) j (f y) refl (omega (arith, ap length e, length-drop i xs)) (rw (← same, ← add-zero i) (sym at)))
 
 pub before_rest : (bytes front rest : List ℕ) → bytes ≡ front ++ rest → take (length bytes - length rest) bytes ≡ front
 before_rest bytes front rest parts = subst (λ (all : List ℕ). take (length all - length rest) all ≡ front) (sym parts) (take_at front rest (length (front ++ rest) - length rest) (omega (arith, length-append front rest)))
@@ -79,30 +69,17 @@ module _ {A : Type 0} where
       encoded new (fields_of old ++ values) (each-append (fields_of old) values encodes.each fits)
       (is ∙ ap (λ (r : List ℕ). r ++ values_bytes values) encodes.spelled ∙ sym (flat_map-append value_bytes (fields_of old) values))
 
-  -- what a call leaves that appends values, or answers an error
-  pub record Grown {E : Type 0} (result : Result (Unit {0}) E) (new : List ℕ) (seen values : List (Value A)) : Type 0 where
-    pub encodes : Encodes {A = A} new (fields_of new)
-    pub pushed : OnOk result (fields_of new ≡ seen ++ values)
+  pub appended_fields : (old : List ℕ) (values : List (Value A)) → Encodes {A = A} old (fields_of old) → AreValues values → fields_of (old ++ values_bytes values) ≡ fields_of old ++ values
+  appended_fields old values encodes fits = (appended old (old ++ values_bytes values) values encodes fits refl).0
 
-  -- the same of a row
-  pub grows_by_row : {E : Type 0} (result : Result (Unit {0}) E) (old new bytes : List ℕ) (fields seen : List (Value A)) → Encodes {A = A} old (fields_of old) → fields_of old ≡ seen → bytes ≡ values_bytes fields → AreValues fields
-      → OnOk result (new ≡ old ++ bytes) → OnErr result (new ≡ old) → Grown result new seen fields
-  grows_by_row (Ok x) old new bytes fields seen encodes view spelled fits is kept =
-      let p = appended old new fields encodes fits (is ∙ ap (λ (r : List ℕ). old ++ r) spelled) in
-      record { encodes = p.1; pushed = p.0 ∙ ap (λ (l : List (Value A)). l ++ fields) view }
-  grows_by_row (Err e) old new bytes fields seen encodes view spelled fits is kept = record { encodes = subst (λ (b : List ℕ). Encodes {A = A} b (fields_of b)) (sym kept) encodes; pushed = tt }
+  pub appended_value : (old : List ℕ) (value : Value A) → Encodes {A = A} old (fields_of old) → IsValue value → fields_of (old ++ value_bytes value) ≡ fields_of old ++ (value ∷ [])
+  appended_value old value encodes fits = (appended old (old ++ value_bytes value) (value ∷ []) encodes (fits, tt) (ap (λ (r : List ℕ). old ++ r) (sym (append-nil (value_bytes value))))).0
 
-  -- the same of one value
-  pub grows_by_one : {E : Type 0} (result : Result (Unit {0}) E) (old new field : List ℕ) (value : Value A) (seen : List (Value A)) → Encodes {A = A} old (fields_of old) → fields_of old ≡ seen → IsValue value
-      → field ≡ value_bytes value → OnOk result (new ≡ old ++ field) → OnErr result (new ≡ old) → Grown result new seen (value ∷ [])
-  grows_by_one result old new field value seen encodes view fits spelled is kept =
-      grows_by_row result old new field (value ∷ []) seen encodes view (spelled ∙ sym (append-nil (value_bytes value))) (fits, tt) is kept
-
-  -- the same of the first value of a row
-  pub grows_by_first : {E : Type 0} (result : Result (Unit {0}) E) (old new field : List ℕ) (fields others seen : List (Value A)) → Encodes {A = A} old (fields_of old) → fields_of old ≡ seen → BeginsWith fields field others
-      → OnOk result (new ≡ old ++ field) → OnErr result (new ≡ old) → Grown result new seen (take 1 fields)
-  grows_by_first result old new field fields others seen encodes view (value, parts, (spelled, fits)) is kept =
-      subst (λ (l : List (Value A)). Grown result new seen l) (sym (ap (take 1) parts)) (grows_by_one result old new field value seen encodes view fits spelled is kept)
+  -- the bytes that a call leaves which appends values, or answers an error
+  pub still_encodes : {E : Type 0} (result : Result (Unit {0}) E) (old new bytes : List ℕ) (values : List (Value A)) → Encodes {A = A} old (fields_of old) → AreValues values → bytes ≡ values_bytes values
+      → OnOk result (new ≡ old ++ bytes) → OnErr result (new ≡ old) → Encodes {A = A} new (fields_of new)
+  still_encodes (Ok x) old new bytes values encodes fits spelled is kept = (appended old new values encodes fits (is ∙ ap (λ (r : List ℕ). old ++ r) spelled)).1
+  still_encodes (Err e) old new bytes values encodes fits spelled is kept = subst (λ (b : List ℕ). Encodes {A = A} b (fields_of b)) (sym kept) encodes
 
   -- rows have the same bytes exactly where they are the same
   pub same_by_bytes : (a b : List ℕ) (x y : List (Value A)) (r : Bool) → Encodes {A = A} a (fields_of a) → Encodes {A = A} b (fields_of b) → fields_of a ≡ x → fields_of b ≡ y → r ≡ pointwise nat_eq a b → r ≡ fields_eq x y

@@ -165,7 +165,7 @@ impl<A: AllocHandle> Key<A> {
     pub fn same(&self, other: &Self) -> bool
         ensures { IsTrue result ↔ (self.now ≡ other.now) }
     {
-        self == other
+        self.order(other).is_eq()
     }
 
     /// The same key, which shares its values.

@@ -4,11 +4,13 @@ ghost use Rattle.std.specs.Prelude.{◌≡◌, ◌++◌, ◌∷◌, [], ◌≤�
 ghost use Rattle.std.specs.Option.{option_copied, unwrap_or};
 ghost use Rattle.cap_value.specs.declared.limits.TheConstants.{VALUE_BYTES_MAX};
 ghost use Rattle.cap_value.specs.declared.value.Value.TheVariants as values;
-ghost use Rattle.cap_field.specs.Field.{sized_bytes};
+ghost use Rattle.cap_value.specs.Value.{IsValue};
+ghost use Rattle.cap_field.specs.Field.{sized_bytes, value_bytes};
+ghost use Rattle.cap_field.specs.FieldReading.{value_of};
 ghost use Rattle.cap_field.specs.Varint.{varint_bytes};
 
 use crate::{Row, RowFields};
-use cap_field::{BLOB, NULL, TEXT, int_field, push_varint};
+use cap_field::{BLOB, NULL, TEXT, ValueRef, int_field, push_varint};
 use cap_value::{AllocHandle, OutOfMemory, Value};
 use smallvec::SmallVec;
 use std::marker::Model;
@@ -73,7 +75,7 @@ impl<A: AllocHandle> RowBuilder<A> {
         ensures pushed { OnOk result (self.new ≡ self.old ++ values.Null ∷ []) }
         ensures kept { OnErr result (self.new ≡ self.old) }
     {
-        push_bytes(&mut self.bytes, &[NULL])
+        self.push_ref(ValueRef::Null)
     }
 
     /// Appends an integer. On an error the values are as before.
@@ -81,7 +83,7 @@ impl<A: AllocHandle> RowBuilder<A> {
         ensures pushed { OnOk result (self.new ≡ self.old ++ values.Int number ∷ []) }
         ensures kept { OnErr result (self.new ≡ self.old) }
     {
-        push_bytes(&mut self.bytes, &int_field(number))
+        self.push_ref(ValueRef::Int(number))
     }
 
     /// Appends a text. On an error the values are as before.
@@ -90,7 +92,7 @@ impl<A: AllocHandle> RowBuilder<A> {
         ensures pushed { OnOk result (self.new ≡ self.old ++ values.Text text.now ∷ []) }
         ensures kept { OnErr result (self.new ≡ self.old) }
     {
-        push_sized(&mut self.bytes, TEXT, text.as_bytes())
+        self.push_ref(ValueRef::Text(text))
     }
 
     /// Appends a blob. On an error the values are as before.
@@ -99,7 +101,7 @@ impl<A: AllocHandle> RowBuilder<A> {
         ensures pushed { OnOk result (self.new ≡ self.old ++ values.Blob bytes.now ∷ []) }
         ensures kept { OnErr result (self.new ≡ self.old) }
     {
-        push_sized(&mut self.bytes, BLOB, bytes)
+        self.push_ref(ValueRef::Blob(bytes))
     }
 
     /// Appends a value. On an error the values are as before.
@@ -107,12 +109,17 @@ impl<A: AllocHandle> RowBuilder<A> {
         ensures pushed { OnOk result (self.new ≡ self.old ++ value.now ∷ []) }
         ensures kept { OnErr result (self.new ≡ self.old) }
     {
-        match value {
-            Value::Null => self.push_null(),
-            Value::Int(number) => self.push_int(*number),
-            Value::Text(text) => self.push_text(text.as_str()),
-            Value::Blob(blob) => self.push_blob(blob.as_slice()),
-        }
+        self.push_ref(ValueRef::of(value))
+    }
+
+    #[tactic(auto, using(crate::proofs::EncodingLemmas::appended_value))]
+    #[inline(always)]
+    fn push_ref(&mut self, value: ValueRef<'_>) -> Result<(), OutOfMemory>
+        requires { IsValue {A = A} (value_of value) }
+        ensures pushed { OnOk result (self.new ≡ self.old ++ value_of value.entry ∷ []) }
+        ensures kept { OnErr result (self.new ≡ self.old) }
+    {
+        push_value(&mut self.bytes, value)
     }
 
     /// Appends values. On an error some of them may be appended.
@@ -126,6 +133,7 @@ impl<A: AllocHandle> RowBuilder<A> {
     }
 
     /// Appends the next value of a row, where there is one. On an error the values are as before.
+    #[tactic(auto, using(crate::proofs::EncodingLemmas::appended_value))]
     pub fn push_next(&mut self, fields: &mut RowFields<'_, A>) -> Result<(), OutOfMemory>
         ensures pushed { OnOk result (self.new ≡ self.old ++ take 1 fields.old) }
         ensures kept { OnErr result (self.new ≡ self.old) }
@@ -160,6 +168,7 @@ impl<A: AllocHandle> RowBuilder<A> {
     }
 
     /// Appends what is left of a row. On an error the values are as before.
+    #[tactic(auto, using(crate::proofs::EncodingLemmas::appended_fields))]
     pub fn push_rest(&mut self, fields: RowFields<'_, A>) -> Result<(), OutOfMemory>
         ensures pushed { OnOk result (self.new ≡ self.old ++ fields.entry) }
         ensures kept { OnErr result (self.new ≡ self.old) }
@@ -212,6 +221,20 @@ fn sized_room(length: usize) -> usize {
         6
     };
     length.wrapping_add(front)
+}
+
+#[inline(always)]
+fn push_value<A: AllocHandle>(out: &mut RowBytes<A>, value: ValueRef<'_>) -> Result<(), OutOfMemory>
+    ensures bytes { OnOk result
+        (out.new.items ≡ out.old.items ++ value_bytes {A = A} (value_of value.entry)) }
+    ensures kept { OnErr result (out.new.items ≡ out.old.items) }
+{
+    match value {
+        ValueRef::Null => push_bytes(out, &[NULL]),
+        ValueRef::Int(number) => push_bytes(out, &int_field(number)),
+        ValueRef::Text(text) => push_sized(out, TEXT, text.as_bytes()),
+        ValueRef::Blob(bytes) => push_sized(out, BLOB, bytes),
+    }
 }
 
 #[inline(always)]

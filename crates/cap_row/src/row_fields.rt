@@ -99,6 +99,7 @@ impl<'a, A: AllocHandle> RowFields<'a, A> {
     }
 
     /// How many values are left.
+    #[tactic(auto, using(crate::proofs::EncodingLemmas::few_values))]
     pub fn width(&self) -> usize
         ensures { result ≡ length self.now }
     {
@@ -113,6 +114,7 @@ impl<'a, A: AllocHandle> RowFields<'a, A> {
     }
 
     /// The value so many places on, or none behind the end.
+    #[tactic(auto, using(crate::proofs::EncodingLemmas::slice_get_behind))]
     #[inline(always)]
     pub fn get(self, place: usize) -> Option<ValueRef<'a>>
         ensures value { option_map value_of result ≡ slice_get self.entry place }

@@ -1,8 +1,5 @@
-use Rattle.cap_row.proofs.EncodingLemmas.{grows_by_row}
+use Rattle.cap_row.proofs.EncodingLemmas.{still_encodes}
 use Rattle.cap_row.proofs.row_builder.RowBuilder.push_rest.Goals as goal
 
 pub invariant_of-self : goal.invariant_of-self
-invariant_of-self g c = (grows_by_row c.push_bytes.result c.self.inside.bytes.items c.push_bytes.new.out.items _ c.args.fields c.args.self.now c.self.invariant c.self.view_is c.as_bytes.ensures.bytes c.as_bytes.ensures.fits c.push_bytes.ensures.bytes c.push_bytes.ensures.kept).encodes
-
-pub returns-clause-pushed : goal.returns-clause-pushed
-returns-clause-pushed g c = (grows_by_row c.push_bytes.result c.self.inside.bytes.items c.push_bytes.new.out.items _ c.args.fields c.args.self.now c.self.invariant c.self.view_is c.as_bytes.ensures.bytes c.as_bytes.ensures.fits c.push_bytes.ensures.bytes c.push_bytes.ensures.kept).pushed
+invariant_of-self g c = still_encodes c.push_bytes.result c.self.inside.bytes.items _ _ c.args.fields c.self.invariant c.as_bytes.ensures.fits c.as_bytes.ensures.bytes c.push_bytes.ensures.bytes c.push_bytes.ensures.kept
