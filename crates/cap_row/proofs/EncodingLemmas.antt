@@ -27,9 +27,6 @@ passed xs i x rest ys is first = ap (drop 1) (sym first ∙ is) ∙ drop-drop 1 
 pub before_rest : (bytes front rest : List ℕ) → bytes ≡ front ++ rest → take (length bytes - length rest) bytes ≡ front
 before_rest bytes front rest parts = subst (λ (all : List ℕ). take (length all - length rest) all ≡ front) (sym parts) (take_at front rest (length (front ++ rest) - length rest) (omega (arith, length-append front rest)))
 
-pub no_more_behind : (bytes front rest : List ℕ) → bytes ≡ front ++ rest → length rest ≤ length bytes
-no_more_behind bytes front rest parts = omega (arith, ap length parts, length-append front rest)
-
 module _ {A : Type 0} where
   pub some_bytes : (value : Value A) → 0 < length (value_bytes value)
   some_bytes value = grind arith
@@ -102,38 +99,24 @@ module _ {A : Type 0} where
 
   -- bytes that are not empty begin with the first value, and those behind it are of the others
   pub record First (bytes : List ℕ) (value : Value A) (rest : List ℕ) : Type 0 where
-    pub read : value_at 0 bytes ≡ Ok (value, rest)
     pub values : fields_of bytes ≡ value ∷ fields_of rest
     pub encodes : Encodes {A = A} rest (fields_of rest)
     pub fits : IsValue value
     pub parts : bytes ≡ value_bytes value ++ rest
 
-  first_of : (bytes : List ℕ) (values : List (Value A)) → fields_of bytes ≡ values → AreValues values → bytes ≡ values_bytes values → (length bytes == 0) ≡ false → (value : Value A) × (rest : List ℕ) × First bytes value rest
-  first_of bytes [] is each spelled some = absurd (cc (rw spelled at some))
-  first_of bytes (value ∷ values) is each spelled some =
-      let others = encoded (values_bytes values) values each.1 refl in (
-        value,
-        values_bytes values,
-        record {
-          read = ap (value_at 0) spelled ∙ value_again 0 value (values_bytes values) each.0;
-          values = is ∙ ap (λ (l : List (Value A)). value ∷ l) (sym others.0);
-          encodes = others.1;
-          fits = each.0;
-          parts = spelled;
-        },
-      )
-
-  pub first : (bytes : List ℕ) → Encodes {A = A} bytes (fields_of bytes) → (length bytes == 0) ≡ false → (value : Value A) × (rest : List ℕ) × First bytes value rest
-  first bytes encodes some = first_of bytes (fields_of bytes) refl encodes.each encodes.spelled some
-
-  pub has_first : (bytes : List ℕ) → Encodes {A = A} bytes (fields_of bytes) → (length bytes == 0) ≡ false → IsOk (value_at {A = A} 0 bytes)
-  has_first bytes encodes some = let (value, rest, is) = first bytes encodes some in rw is.read refl
-
-  pub first_is : (bytes : List ℕ) (value : Value A) (rest : List ℕ) → Encodes {A = A} bytes (fields_of bytes) → (length bytes == 0) ≡ false → value_at 0 bytes ≡ Ok (value, rest) → First bytes value rest
-  first_is bytes value rest encodes some read =
-      let (v, r, is) = first bytes encodes some in
-      let same : (v, r) ≡ (value, rest) = cc (is.read, read) in
-      subst (λ (p : Value A × List ℕ). First bytes p.0 p.1) same is
+  pub first : (bytes : List ℕ) (values : List (Value A)) → fields_of bytes ≡ values → AreValues values → bytes ≡ values_bytes values → (length bytes == 0) ≡ false
+      → IsOk (value_at {A = A} 0 bytes) × ((value : Value A) (rest : List ℕ) → value_at 0 bytes ≡ Ok (value, rest) → First bytes value rest)
+  first bytes [] is each spelled some = absurd (cc (rw spelled at some))
+  first bytes (value ∷ values) is each spelled some =
+      let read : value_at 0 bytes ≡ Ok (value, values_bytes values) = ap (value_at 0) spelled ∙ value_again 0 value (values_bytes values) each.0 in
+      let others = encoded (values_bytes values) values each.1 refl in
+      let here : First bytes value (values_bytes values) = record {
+        values = is ∙ ap (λ (l : List (Value A)). value ∷ l) (sym others.0);
+        encodes = others.1;
+        fits = each.0;
+        parts = spelled;
+      } in
+      (rw read refl, λ v r read'. let same : (value, values_bytes values) ≡ (v, r) = cc (read, read') in subst (λ (p : Value A × List ℕ). First bytes p.0 p.1) same here)
 
   pub ended : (bytes : List ℕ) → (length bytes == 0) ≡ true → fields_of {A = A} bytes ≡ []
   ended [] e = no_values

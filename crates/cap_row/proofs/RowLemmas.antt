@@ -1,5 +1,5 @@
 -- Columns that an update names, one more at a time, and what they do to a row.
-use Rattle.std.proofs.Common.{◌≡◌, ◌∙◌, ℕ, zero, suc, ◌+◌, ◌<◌, ◌≤◌, ◌⊎◌, inl, inr, Bool, true, false, not, ◌&&◌, ◌||◌, List, [], ◌∷◌, ◌++◌, length, get_or, set, take, drop, map, nat_eq, replicate, ap, sym, refl, arith}
+use Rattle.std.proofs.Common.{◌≡◌, ◌∙◌, ℕ, zero, suc, ◌+◌, ◌<◌, ◌≤◌, Bool, true, false, not, ◌&&◌, ◌||◌, List, [], ◌∷◌, ◌++◌, length, get_or, set, take, drop, map, nat_eq, replicate, ap, sym, refl, arith}
 use Rattle.std.proofs.Math.Bool.{and-true}
 use Rattle.std.specs.List.{list_any, enumerate_from}
 use Rattle.std.proofs.lemmas.Bool.Decides.{nat_tests}
@@ -9,9 +9,8 @@ use Rattle.std.proofs.lemmas.List.FromFn.{length-enumerate_from}
 use Rattle.cap_value.specs.declared.value.Value.{Value}
 use Rattle.cap_row.specs.Row.{are_columns, columns_of, new_value, row_with}
 use Rattle.cap_row.specs.Fields.{Fields}
-use Rattle.cap_row.proofs.EncodingLemmas.{passed}
 use Rattle.std.specs.Option.{unwrap_or}
-use Rattle.std.proofs.Common.{Option, append_assoc, length-drop}
+use Rattle.std.proofs.Common.{Option, append_assoc}
 
 -- no column is named at first
 not_named : (n c : ℕ) → get_or (replicate n false) c false ≡ false
@@ -36,21 +35,11 @@ module _ {A : Type 0} where
   abbrev pub row_from : List (ℕ × Value A) → ℕ → Fields A → Fields A
   row_from changes column row = map (λ (field : ℕ × Value A). new_value changes field.0 field.1) (enumerate_from column row)
 
-  -- what was put of a row, and the columns that are left
-  pub record PutSoFar (changes : List (ℕ × Value A)) (row : Fields A) (before : Fields A) (i : ℕ) (rest out : Fields A) : Type 0 where
-    pub put_so_far : out ++ row_from changes i rest ≡ before ++ row_with changes row
-    pub left : rest ≡ drop i row
-
-  pub put_more : (changes : List (ℕ × Value A)) (row before rest rest' out new : Fields A) (i : ℕ) (found : Option (Value A)) → i < length row → ((old : Value A) → new_value changes i old ≡ unwrap_or found old)
-      → PutSoFar changes row before i rest out → rest' ≡ drop 1 rest → new ≡ out ++ map (unwrap_or found) (take 1 rest) → PutSoFar changes row before (i + 1) rest' new
-  put_more changes row before [] rest' out new i found lt is so one put_is =
-      let none : length (drop i row) ≡ 0 = ap length (sym so.left) in
-      absurd (omega (arith, none, lt, length-drop i row))
-  put_more changes row before (value ∷ others) rest' out new i found lt is so one put_is =
-      record {
-        put_so_far = grind (arith, append_assoc, is value, so.put_so_far);
-        left = one ∙ passed row i value (value ∷ others) others so.left refl;
-      }
+  -- one more column is put
+  pub put_more : (out rest : Fields A) (changes : List (ℕ × Value A)) (i : ℕ) (found : Option (Value A)) → ((old : Value A) → new_value changes i old ≡ unwrap_or found old)
+      → (out ++ map (unwrap_or found) (take 1 rest)) ++ row_from changes (i + 1) (drop 1 rest) ≡ out ++ row_from changes i rest
+  put_more out [] changes i found is = grind (arith, append_assoc)
+  put_more out (value ∷ others) changes i found is = grind (arith, append_assoc, is value)
 
 module _ {A : Type 0} (w : ℕ) (changes : List (ℕ × Value A)) where
   -- the columns from a place on are in the table, none is named twice, and none was named before
@@ -60,13 +49,5 @@ module _ {A : Type 0} (w : ℕ) (changes : List (ℕ × Value A)) where
   pub all_left : LeftColumns (replicate 2000 false) 0 ≡ are_columns w (columns_of changes)
   all_left = rw (none_named 2000 (columns_of changes), and-true) refl
 
-  module _ (named : List Bool) (i : ℕ) (change : ℕ × Value A) (lt : i < length changes) (is : change ≡ get_or changes i change) where
-    here : drop i changes ≡ change ∷ drop (i + 1) changes
-    here = drop_more changes i change lt ∙ ap (λ c. c ∷ drop (i + 1) changes) (sym is)
-
-    pub refused : (w ≤ change.0) ⊎ (get_or named change.0 false ≡ true) → LeftColumns named i ≡ false
-    refused (inl outside) = rw here (grind (arith, nat_tests))
-    refused (inr twice) = rw here (grind (arith, nat_tests))
-
-    pub accepted : w ≤ length named → change.0 < w → get_or named change.0 false ≡ false → LeftColumns named i ≡ LeftColumns (set named change.0 true) (i + 1)
-    accepted long inside once = rw (here, one_named named change.0 (columns_of (drop (i + 1) changes)) (omega arith)) (grind (arith, nat_tests))
+  pub accepted : (named : List Bool) (i : ℕ) (change : ℕ × Value A) → i < length changes → change ≡ get_or changes i change → w ≤ length named → change.0 < w → get_or named change.0 false ≡ false → LeftColumns named i ≡ LeftColumns (set named change.0 true) (i + 1)
+  accepted named i change lt is long inside once = rw (drop_more changes i change lt ∙ ap (λ c. c ∷ drop (i + 1) changes) (sym is), one_named named change.0 (columns_of (drop (i + 1) changes)) (omega arith)) (grind (arith, nat_tests))

@@ -65,6 +65,7 @@ impl<'a, A: AllocHandle> RowFields<'a, A> {
     }
 
     // The next value, and its bytes.
+    #[tactic(auto, using(crate::proofs::EncodingLemmas::ended))]
     #[inline(always)]
     fn next_both(&mut self) -> Option<(ValueRef<'a>, &'a [u8])>
         ensures { MatchOption result ((self.old ≡ []) × (self.new ≡ []))

@@ -43,6 +43,7 @@ fn names<A: AllocHandle>(fields: &[(usize, Value<A>)], column: usize) -> bool
     column == first.0 || names(rest, column)
 }
 
+#[tactic(auto, using(crate::proofs::RowLemmas::all_left))]
 fn are_many_columns<A: AllocHandle>(width: usize, fields: &[(usize, Value<A>)]) -> bool
     requires { width ≤ COLUMNS_MAX }
     ensures { result ≡ are_columns width (columns_of fields.now) }
@@ -70,6 +71,7 @@ fn new_value<A: AllocHandle>(changes: &[(usize, Value<A>)], column: usize) -> Op
 }
 
 /// Appends the values of a row with just these fields set.
+#[tactic(auto, using(crate::proofs::RowLemmas::put_more))]
 pub(crate) fn push_with<A: AllocHandle>(
     builder: &mut RowBuilder<A>,
     width: usize,
