@@ -85,6 +85,10 @@ IsNumber bytes x = (x.0 < 2 ^ 35) × (bytes ≡ varint_bytes x.0 ++ x.1)
 goes_on : (read high byte : ℕ) → ((read == 4) || (read == 0) && (byte == 128)) ≡ false → read ≤ 4 → (0 < read → 0 < high) → 128 ≤ byte → (read + 1 ≤ 4) × (0 < high * 128 + (byte - 128))
 goes_on read high byte go within some le = grind (arith, nat_tests)
 
+-- at most four groups of seven bits before one
+pub below_groups : (read : ℕ) → read ≤ 4 → 128 ^ read ≤ 128 ^ 4
+below_groups read within = pow-le-pow_right (omega arith) within
+
 spelled_from : (total at read high : ℕ) (bytes : List ℕ) (x : ℕ × List ℕ) → read ≤ 4 → high < 128 ^ read → (0 < read → 0 < high) → AreLow bytes → varint_from total at read high bytes ≡ Ok x → IsNumber (groups high bytes) x
 spelled_from total at read high [] x within fits some low e = absurd cc
 spelled_from total at read high (byte ∷ rest) x within fits some low e =

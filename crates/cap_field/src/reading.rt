@@ -16,16 +16,21 @@ pub fn place_of(total: usize, bytes: &[u8]) -> usize
     total.saturating_sub(bytes.len())
 }
 
+// A fault of this kind at this offset.
+#[inline(always)]
+fn fault(kind: FaultKind, at: usize) -> BlobFault
+    ensures { result ≡ record { at = at; kind = kind } }
+{
+    BlobFault { at, kind }
+}
+
 /// The first byte, and the bytes behind it.
 pub fn take_byte(total: usize, bytes: &[u8]) -> Result<(u8, &[u8]), BlobFault>
     ensures reads { Reads (λ x. (x.0, x.1.now)) result (byte_at total bytes.now) }
     ensures behind { IfOk result (λ x. length x.1.now ≤ length bytes.now) }
 {
     match bytes {
-        [] => Err(BlobFault {
-            at: total,
-            kind: FaultKind::Truncated,
-        }),
+        [] => Err(fault(FaultKind::Truncated, total)),
         [byte, rest @ ..] => Ok((*byte, rest)),
     }
 }
@@ -36,10 +41,7 @@ pub fn take_bytes(total: usize, count: usize, bytes: &[u8]) -> Result<(&[u8], &[
     ensures behind { IfOk result (λ x. length x.1.now ≤ length bytes.now) }
 {
     if bytes.len() < count {
-        return Err(BlobFault {
-            at: total,
-            kind: FaultKind::Truncated,
-        });
+        return Err(fault(FaultKind::Truncated, total));
     }
     Ok(bytes.split_at(count))
 }
@@ -58,7 +60,7 @@ pub fn take_varint(total: usize, bytes: &[u8]) -> Result<(usize, &[u8]), BlobFau
 }
 
 // The groups of seven bits of a varint. Most varints have one, so this is no part of the callers.
-#[tactic(auto, unfolding(crate::specs::Reading::varint_at))]
+#[tactic(auto, using(crate::proofs::Spelled::below_groups), unfolding(crate::specs::Reading::varint_at))]
 #[inline(never)]
 fn take_groups(total: usize, bytes: &[u8]) -> Result<(usize, &[u8]), BlobFault>
     ensures reads { Reads (λ x. (x.0, x.1.now)) result (varint_at total bytes.now) }
@@ -71,17 +73,11 @@ fn take_groups(total: usize, bytes: &[u8]) -> Result<(usize, &[u8]), BlobFault>
             return Ok((high * 128 + byte, &bytes[read + 1..]));
         }
         if read == 4 || (read == 0 && byte == 128) {
-            return Err(BlobFault {
-                at: place_of(total, bytes),
-                kind: FaultKind::BadVarint,
-            });
+            return Err(fault(FaultKind::BadVarint, place_of(total, bytes)));
         }
         high = high * 128 + (byte - 128);
     }
-    Err(BlobFault {
-        at: total,
-        kind: FaultKind::Truncated,
-    })
+    Err(fault(FaultKind::Truncated, total))
 }
 
 /// The bytes as a text, `None` where they are not UTF-8.
@@ -105,10 +101,7 @@ pub fn take_sized(total: usize, at: usize, bytes: &[u8]) -> Result<(&[u8], &[u8]
 {
     let (count, rest) = take_varint(total, bytes)?;
     if count > VALUE_BYTES_MAX {
-        return Err(BlobFault {
-            at,
-            kind: FaultKind::BadField,
-        });
+        return Err(fault(FaultKind::BadField, at));
     }
     take_bytes(total, count, rest)
 }
@@ -121,10 +114,7 @@ pub fn take_number(total: usize, bytes: &[u8]) -> Result<(i64, &[u8]), BlobFault
 {
     match bytes.split_first_chunk::<8>() {
         Some((number, rest)) => Ok((i64::from_be_bytes(*number), rest)),
-        None => Err(BlobFault {
-            at: total,
-            kind: FaultKind::Truncated,
-        }),
+        None => Err(fault(FaultKind::Truncated, total)),
     }
 }
 
@@ -139,9 +129,6 @@ pub fn take_text(total: usize, at: usize, bytes: &[u8]) -> Result<(&str, &[u8]),
     let (text, rest) = take_sized(total, at, bytes)?;
     match text_in(text) {
         Some(text) => Ok((text, rest)),
-        None => Err(BlobFault {
-            at,
-            kind: FaultKind::BadText,
-        }),
+        None => Err(fault(FaultKind::BadText, at)),
     }
 }

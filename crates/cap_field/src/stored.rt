@@ -1,8 +1,7 @@
 //! Reading values in place, from bytes that are known to be those of a record.
 
-ghost use Rattle.std.specs.Prelude.{◌≡◌, ◌<◌, ◌≤◌, Ok, IsOk, length};
-ghost use Rattle.cap_field.specs.Reading.{varint_at};
-ghost use Rattle.cap_field.specs.FieldReading.{number_at, sized_at, text_at, content_at, value_at};
+ghost use Rattle.std.specs.Prelude.{◌≡◌, Ok, IsOk};
+ghost use Rattle.cap_field.specs.FieldReading.{sized_at, text_at, content_at, value_at};
 ghost use Rattle.cap_field.specs.FieldReading.{value_of};
 
 use crate::ValueRef;
@@ -10,25 +9,16 @@ use crate::field::{BLOB, INTEGER, TEXT};
 use crate::reading::take_varint;
 use cap_value::AllocHandle;
 
-#[inline(always)]
-fn stored_varint(bytes: &[u8]) -> (usize, &[u8])
-    requires { IsOk (varint_at 0 bytes.now) }
-    ensures { varint_at 0 bytes.now ≡ Ok (result.0, result.1.now) }
-{
-    match take_varint(0, bytes) {
-        Ok(number) => number,
-        Err(_) => unreachable!(),
-    }
-}
-
 #[tactic(auto, unfolding(crate::specs::FieldReading::sized_at))]
 #[inline(always)]
 fn stored_sized(bytes: &[u8]) -> (&[u8], &[u8])
     requires { IsOk (sized_at 0 0 bytes.now) }
     ensures { sized_at 0 0 bytes.now ≡ Ok (result.0.now, result.1.now) }
 {
-    let (count, rest) = stored_varint(bytes);
-    rest.split_at(count)
+    match take_varint(0, bytes) {
+        Ok((count, rest)) => rest.split_at(count),
+        Err(_) => unreachable!(),
+    }
 }
 
 #[tactic(auto, using(crate::proofs::Spelled::utf8), unfolding(crate::specs::FieldReading::text_at))]
@@ -41,17 +31,6 @@ fn stored_text(bytes: &[u8]) -> (&str, &[u8])
     (unsafe { std::str::from_utf8_unchecked(text) }, rest)
 }
 
-#[inline(always)]
-fn stored_number(bytes: &[u8]) -> (i64, &[u8])
-    requires { IsOk (number_at 0 bytes.now) }
-    ensures { number_at 0 bytes.now ≡ Ok (result.0, result.1.now) }
-{
-    match bytes.split_first_chunk::<8>() {
-        Some((number, rest)) => (i64::from_be_bytes(*number), rest),
-        None => unreachable!(),
-    }
-}
-
 #[tactic(auto, unfolding(crate::specs::FieldReading::content_at))]
 #[inline(always)]
 fn stored_content<'a, A: AllocHandle>(kind: u8, bytes: &'a [u8]) -> (ValueRef<'a>, &'a [u8])
@@ -59,10 +38,10 @@ fn stored_content<'a, A: AllocHandle>(kind: u8, bytes: &'a [u8]) -> (ValueRef<'a
     ensures { content_at {A = A} 0 0 kind bytes.now ≡ Ok (value_of result.0, result.1.now) }
 {
     match kind {
-        INTEGER => {
-            let (number, rest) = stored_number(bytes);
-            (ValueRef::Int(number), rest)
-        }
+        INTEGER => match bytes.split_first_chunk::<8>() {
+            Some((number, rest)) => (ValueRef::Int(i64::from_be_bytes(*number)), rest),
+            None => unreachable!(),
+        },
         TEXT => {
             let (text, rest) = stored_text(bytes);
             (ValueRef::Text(text), rest)

@@ -39,19 +39,16 @@ impl<'a> ValueRef<'a> {
         requires { IsValue {A = A} (value_of self) }
         ensures { IfOk result (λ value. value ≡ value_of self.entry) }
     {
-        match self {
+        let made = match self {
             ValueRef::Null => Ok(Value::Null),
             ValueRef::Int(number) => Ok(Value::Int(number)),
-            ValueRef::Text(text) => match Value::text(alloc, text) {
-                Ok(value) => Ok(value),
-                Err(Fault::OutOfMemory) => Err(OutOfMemory),
-                Err(Fault::Refused(_)) => unreachable!(),
-            },
-            ValueRef::Blob(bytes) => match Value::blob(alloc, bytes) {
-                Ok(value) => Ok(value),
-                Err(Fault::OutOfMemory) => Err(OutOfMemory),
-                Err(Fault::Refused(_)) => unreachable!(),
-            },
+            ValueRef::Text(text) => Value::text(alloc, text),
+            ValueRef::Blob(bytes) => Value::blob(alloc, bytes),
+        };
+        match made {
+            Ok(value) => Ok(value),
+            Err(Fault::OutOfMemory) => Err(OutOfMemory),
+            Err(Fault::Refused(_)) => unreachable!(),
         }
     }
 
