@@ -1,5 +1,5 @@
 //! Values in place.
-ghost use Rattle.std.specs.Prelude.{◌≡◌, ◌↔◌, IfOk, IsTrue};
+ghost use Rattle.std.specs.Prelude.{◌≡◌, ◌≤◌, ◌↔◌, IfOk, IsOk, IsTrue};
 ghost use Rattle.cap_value.specs.Value.{IsValue, is_null, storage_class, value_cmp, value_eq};
 ghost use Rattle.cap_field.specs.FieldReading.{value_of};
 
@@ -37,7 +37,8 @@ impl<'a> ValueRef<'a> {
     /// The value, which takes memory where it is a text or a blob.
     pub fn own<A: AllocHandle>(self, alloc: A) -> Result<Value<A>, OutOfMemory>
         requires { IsValue {A = A} (value_of self) }
-        ensures { IfOk result (λ value. value ≡ value_of self.entry) }
+        ensures value { IfOk result (λ value. value ≡ value_of self.entry) }
+        ensures no_memory { storage_class {A = A} (value_of self.entry) ≤ 1 → IsOk result }
     {
         let made = match self {
             ValueRef::Null => Ok(Value::Null),

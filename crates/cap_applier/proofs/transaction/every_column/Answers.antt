@@ -17,6 +17,6 @@ put_on {A} columns new column x y rest after row pushed same first so =
 
 pub loop-column-preserved : goal.loop-column-preserved
 loop-column-preserved g c = record {
-  put = put_on c.loop-column.columns.items c.push.new.self.items c.loop-column.column c.in_ok-own.field-0 _ c.loop-column.rest c.next_value.new.self c.args.row.now c.in_ok-push.ensures.items c.in_ok-own.ensures c.in-Some.ensures.value c.loop-column.invariant.put;
+  put = put_on c.loop-column.columns.items c.push.new.self.items c.loop-column.column c.in_ok-own.field-0 _ c.loop-column.rest c.next_value.new.self c.args.row.now c.in_ok-push.ensures.items c.in_ok-own.ensures.value c.in-Some.ensures.value c.loop-column.invariant.put;
   left = passed c.args.row.now c.loop-column.column _ c.loop-column.rest c.next_value.new.self c.loop-column.invariant.left c.in-Some.ensures.value;
 }
