@@ -1,5 +1,5 @@
 -- What two changes of one row are together fits their table, and is of that row.
-use Rattle.std.proofs.Common.{◌≡◌, List, [], ◌∷◌, Bool, true, false, ◌&&◌, Some, None, cond, refl, subst, ◌∙◌, arith}
+use Rattle.std.proofs.Common.{◌≡◌, List, [], ◌∷◌, Bool, true, false, ◌&&◌, Some, None, cond, refl, ◌∙◌, arith}
 use Rattle.std.specs.Prelude.{IfSome, IsTrue, is_some}
 use Rattle.std.specs.Bool.{beq}
 use Rattle.std.proofs.lemmas.Bool.{and_parts, and_from}
@@ -20,16 +20,9 @@ use Rattle.cap_changes.specs.declared.record_kind.RecordKind.TheVariants.{Full, 
 use Rattle.cap_changes.specs.declared.field_requirement.FieldRequirement.TheVariants as required
 use Rattle.cap_changes.proofs.FitLemmas.{full_keyed}
 use Rattle.cap_changes.proofs.ValueLemmas.{each_of, values_of}
-use Rattle.cap_row.specs.Fields.{Fields}
 use Rattle.cap_group.specs.ChangeKey.{change_key, key_values, patch_key}
 use Rattle.cap_group.specs.Record.{record_over, differ, field_of, old_field, new_field, update_between}
-use Rattle.cap_group.specs.Combined.{KeepsKey, combined, patches_combined}
-
--- what two changes are together fits their table, is of their row, and has values where both have
-pub record Stands {A X : Type 0} (fits : List Bool → X → Bool) (key : List Bool → X → Fields A) (Values : X → Type 0) (flags : List Bool) (present added change : X) : Type 0 where
-  pub fit : fits flags change ≡ true
-  pub keyed : key flags added ≡ key flags present → key flags change ≡ key flags present
-  pub values : Values present → Values added → Values change
+use Rattle.cap_group.specs.Combined.{Stands, combined, patches_combined}
 
 if_some : {X : Type 0} (P : X → Type 0) (b : Bool) (x : X) → P x → IfSome (cond b (Some x) None) P
 if_some P true x p = p
@@ -44,22 +37,16 @@ module _ {A : Type 0} where
 
   -- ---- a record over another
 
-  over_fits : (kind : RecordKind) → ((value : Value A) → satisfies (requirement_of kind false) (Some value) ≡ true) → (flags : List Bool) (below above : RecordFields A) → Fit kind flags below → Fit Keyed flags above → Fit kind flags (record_over below above)
-  over_fits kind takes (key ∷ flags) (b ∷ below) (a ∷ above) fit fit' = grind (arith, takes, over_fits kind takes flags below above)
-  over_fits kind takes flags below above fit fit' = grind arith
-
-  over_key : (kind : RecordKind) (flags : List Bool) (below above : RecordFields A) → Fit kind flags below → Fit Keyed flags above → key_values flags (record_over below above) ≡ key_values flags above
-  over_key kind (key ∷ flags) (b ∷ below) (a ∷ above) fit fit' = grind (arith, over_key kind flags below above)
-  over_key kind flags below above fit fit' = grind arith
+  over : (kind : RecordKind) → ((value : Value A) → satisfies (requirement_of kind false) (Some value) ≡ true) → (flags : List Bool) (below above : RecordFields A) → Fit kind flags below → Fit Keyed flags above →
+      Fit kind flags (record_over below above) × (key_values flags (record_over below above) ≡ key_values flags above)
+  over kind takes (key ∷ flags) (b ∷ below) (a ∷ above) fit fit' = let rest = over kind takes flags below above in (grind (arith, takes, rest), grind (arith, rest))
+  over kind takes flags below above fit fit' = (grind arith, grind arith)
 
   -- the new record of an UPDATE over a row
-  new_fits : (flags : List Bool) (below old above : RecordFields A) → Fit Full flags below → Fit Keyed flags old → FitNew flags old above → Fit Full flags (record_over below above)
-  new_fits (key ∷ flags) (b ∷ below) (o ∷ old) (a ∷ above) fit old_fit new = grind (arith, new_fits flags below old above)
-  new_fits flags below old above fit old_fit new = grind arith
-
-  new_key : (flags : List Bool) (below old above : RecordFields A) → Fit Full flags below → Fit Keyed flags old → FitNew flags old above → key_values flags (record_over below above) ≡ key_values flags below
-  new_key (key ∷ flags) (b ∷ below) (o ∷ old) (a ∷ above) fit old_fit new = grind (arith, new_key flags below old above)
-  new_key flags below old above fit old_fit new = grind arith
+  new_over : (flags : List Bool) (below old above : RecordFields A) → Fit Full flags below → Fit Keyed flags old → FitNew flags old above →
+      Fit Full flags (record_over below above) × (key_values flags (record_over below above) ≡ key_values flags below)
+  new_over (key ∷ flags) (b ∷ below) (o ∷ old) (a ∷ above) fit old_fit new = let rest = new_over flags below old above in (grind (arith, rest), grind (arith, rest))
+  new_over flags below old above fit old_fit new = (grind arith, grind arith)
 
   over_each : (below above : RecordFields A) → AreFields below → AreFields above → AreFields (record_over below above)
   over_each (b ∷ below) (a ∷ above) p q = grind (arith, over_each below above)
@@ -84,17 +71,10 @@ module _ {A : Type 0} where
   updates_alike (key ∷ flags) (o ∷ old) (n ∷ new) (o' ∷ old') (n' ∷ new') fit fits fit' fits' = grind (arith, updates_alike flags old new old' new')
   updates_alike flags old new old' new' fit fits fit' fits' = grind arith
 
-  between_fits : (flags : List Bool) (before after : RecordFields A) → are_alike flags before after ≡ true → Fit Keyed flags (by_column old_field flags before after)
-  between_fits (key ∷ flags) (b ∷ before) (a ∷ after) alike = grind (arith, between_fits flags before after)
-  between_fits flags before after alike = grind arith
-
-  between_new : (flags : List Bool) (before after : RecordFields A) → are_alike flags before after ≡ true → FitNew flags (by_column old_field flags before after) (by_column new_field flags before after)
-  between_new (key ∷ flags) (b ∷ before) (a ∷ after) alike = grind (arith, between_new flags before after)
-  between_new flags before after alike = grind arith
-
-  between_key : (flags : List Bool) (before after : RecordFields A) → are_alike flags before after ≡ true → key_values flags (by_column old_field flags before after) ≡ key_values flags before
-  between_key (key ∷ flags) (b ∷ before) (a ∷ after) alike = grind (arith, between_key flags before after)
-  between_key flags before after alike = grind arith
+  between : (flags : List Bool) (before after : RecordFields A) → are_alike flags before after ≡ true → let old = by_column old_field flags before after in
+      Fit Keyed flags old × FitNew flags old (by_column new_field flags before after) × (key_values flags old ≡ key_values flags before)
+  between (key ∷ flags) (b ∷ before) (a ∷ after) alike = let rest = between flags before after in (grind (arith, rest), grind (arith, rest), grind (arith, rest))
+  between flags before after alike = (grind arith, grind arith, grind arith)
 
   side_each : (old : Bool) (flags : List Bool) (before after : RecordFields A) → AreFields before → AreFields after → AreFields (by_column (field_of old) flags before after)
   side_each old (key ∷ flags) (b ∷ before) (a ∷ after) p q = grind (arith, side_each old flags before after)
@@ -106,10 +86,11 @@ module _ {A : Type 0} where
   update_stands : (flags : List Bool) (indirect : Bool) (before after : RecordFields A) (present added : RowChange A) → are_alike flags before after ≡ true → key_values flags before ≡ change_key flags present →
       (HasValues present → HasValues added → AreValues before × AreValues after) → IfSome (update_between flags indirect before after) (StandsChange flags present added)
   update_stands flags indirect before after present added alike of values =
+      let is = between flags before after alike in
       let side = λ (old : Bool) (p : AreValues before) (q : AreValues after). values_of _ (side_each old flags before after (each_of before p) (each_of after q)) in
       if_some (StandsChange flags present added) (differ flags before after) _ (record {
-        fit = and_from _ _ (between_fits flags before after alike) (between_new flags before after alike);
-        keyed = λ same. between_key flags before after alike ∙ of;
+        fit = and_from _ _ is.0 is.1;
+        keyed = λ same. is.2 ∙ of;
         values = λ p q. let v = values p q in (side true v.0 v.1, side false v.0 v.1);
       })
 
@@ -118,36 +99,32 @@ module _ {A : Type 0} where
   pub combined_stand : (flags : List Bool) (present added : RowChange A) → change_fits flags present ≡ true → change_fits flags added ≡ true → IfSome (combined flags present added) (StandsChange flags present added)
   combined_stand flags (changed.Insert indirect new) (changed.Update indirect' old' new') fit fit' =
       let both = and_parts _ _ fit' in
-      record { fit = new_fits flags new old' new' fit both.0 both.1; keyed = λ same. new_key flags new old' new' fit both.0 both.1; values = λ p q. over_values new new' p q.1 }
+      let is = new_over flags new old' new' fit both.0 both.1 in
+      record { fit = is.0; keyed = λ same. is.1; values = λ p q. over_values new new' p q.1 }
   combined_stand flags (changed.Insert indirect new) (changed.Delete indirect' old') fit fit' = tt
   combined_stand flags (changed.Update indirect old new) (changed.Update indirect' old' new') fit fit' =
       let both = and_parts _ _ fit in
       let both' = and_parts _ _ fit' in
-      update_stands flags (indirect && indirect') (record_over old' old) (record_over new new') _ _ (updates_alike flags old new old' new' both.0 both.1 both'.0 both'.1) (over_key Keyed flags old' old both'.0 both.0)
+      update_stands flags (indirect && indirect') (record_over old' old) (record_over new new') _ _ (updates_alike flags old new old' new' both.0 both.1 both'.0 both'.1) (over Keyed (λ value. refl) flags old' old both'.0 both.0).1
       (λ p q. (over_values old' old q.0 p.0, over_values new new' p.1 q.1))
   combined_stand flags (changed.Update indirect old new) (changed.Delete indirect' old') fit fit' =
-      let keyed = (and_parts _ _ fit).0 in
-      record { fit = over_fits Full (λ value. refl) flags old' old fit' keyed; keyed = λ same. over_key Full flags old' old fit' keyed; values = λ p q. over_values old' old q p.0 }
+      let is = over Full (λ value. refl) flags old' old fit' (and_parts _ _ fit).0 in
+      record { fit = is.0; keyed = λ same. is.1; values = λ p q. over_values old' old q p.0 }
   combined_stand flags (changed.Delete indirect old) (changed.Insert indirect' new') fit fit' =
       update_stands flags (indirect && indirect') old new' _ _ (rows_alike flags old new' fit fit') refl (λ p q. (p, q))
   combined_stand flags present added fit fit' = record { fit = fit; keyed = λ same. refl; values = λ p q. p }
 
   pub patches_stand : (flags : List Bool) (present added : Patch A) → patch_fits flags present ≡ true → patch_fits flags added ≡ true → IfSome (patches_combined present added) (Stands patch_fits patch_key PatchHasValues flags present added)
   patches_stand flags (patched.Insert indirect new) (patched.Update indirect' new') fit fit' =
-      record { fit = over_fits Full (λ value. refl) flags new new' fit fit'; keyed = λ same. over_key Full flags new new' fit fit' ∙ same; values = over_values new new' }
+      let is = over Full (λ value. refl) flags new new' fit fit' in
+      record { fit = is.0; keyed = λ same. is.1 ∙ same; values = over_values new new' }
   patches_stand flags (patched.Insert indirect new) (patched.Delete indirect' key') fit fit' = tt
   patches_stand flags (patched.Update indirect new) (patched.Update indirect' new') fit fit' =
-      record { fit = over_fits Keyed (λ value. refl) flags new new' fit fit'; keyed = λ same. over_key Keyed flags new new' fit fit' ∙ same; values = over_values new new' }
+      let is = over Keyed (λ value. refl) flags new new' fit fit' in
+      record { fit = is.0; keyed = λ same. is.1 ∙ same; values = over_values new new' }
   patches_stand flags (patched.Update indirect new) (patched.Delete indirect' key') fit fit' = record { fit = fit'; keyed = λ same. same; values = λ p q. q }
   patches_stand flags (patched.Delete indirect key) (patched.Insert indirect' new') fit fit' = record { fit = full_keyed flags new' fit'; keyed = λ same. same; values = λ p q. q }
   patches_stand flags present added fit fit' = record { fit = fit; keyed = λ same. refl; values = λ p q. p }
-
-  pub changes_keep : KeepsKey change_fits change_key (combined {A = A})
-  changes_keep flags present added change fit fit' same made = let is = subst (λ one. IfSome one (StandsChange flags present added)) made (combined_stand flags present added fit fit') in (is.fit, is.keyed same)
-
-  pub patches_keep : KeepsKey patch_fits patch_key (λ flags. patches_combined {A = A})
-  patches_keep flags present added patch fit fit' same made =
-      let is = subst (λ one. IfSome one (Stands patch_fits patch_key PatchHasValues flags present added)) made (patches_stand flags present added fit fit') in (is.fit, is.keyed same)
 
   pub combined-fits : (flags : List Bool) (present added : RowChange A) → change_fits flags present ≡ true → change_fits flags added ≡ true → IfSome (combined flags present added) (λ one. IsTrue (change_fits flags one))
   combined-fits flags present added fit fit' = IfSome_then (combined flags present added) (combined_stand flags present added fit fit') (λ one is. is.fit)

@@ -1,15 +1,16 @@
 -- The tables of a changegroup, found by their names, and the groups that are added to them.
-use Rattle.std.proofs.Common.{◌≡◌, ℕ, zero, suc, ◌+◌, ◌<◌, List, [], ◌∷◌, ◌++◌, length, take, get_or, set, cond, Bool, true, false, Option, Some, None, Ok, Err, Result, refl, ap, sym, ◌∙◌, arith}
+use Rattle.std.proofs.Common.{◌≡◌, ℕ, ◌+◌, ◌<◌, ltb, List, [], ◌∷◌, ◌++◌, length, take, get_or, set, cond, Bool, true, false, Option, Some, None, Ok, Err, Result, refl, ap, sym, ◌∙◌, arith}
 use Rattle.std.specs.Prelude.{map, not, position, ◌==◌}
+use Rattle.std.specs.List.{position_or_len}
+use Rattle.std.specs.Option.{option_map}
 use Rattle.std.proofs.lemmas.Bool.Decides.{nat_tests}
 use Rattle.std.specs.Cmp.{booleans_Decides}
 use Rattle.std.proofs.Math.Seq.{map-set_same}
 use Rattle.std.proofs.lemmas.Slice.Eq.{bytes_eq-Decides, slice_eq-Decides}
-use Rattle.std.proofs.lemmas.Bool.{ltb-false}
 use Rattle.std.proofs.lemmas.List.{map-append, map-set, take_more}
 use Rattle.std.proofs.lemmas.List.Elements.{filter-append}
 use Rattle.std.proofs.lemmas.List.Quantifiers.{position-Some}
-use Rattle.std.proofs.lemmas.List.Sums.{fails_before_first, fold-append}
+use Rattle.std.proofs.lemmas.List.Sums.{fold-append}
 use Rattle.cap_value.specs.Bytes.{bytes_eq}
 use Rattle.cap_value.specs.declared.memory.Fault.{Fault}
 use Rattle.cap_value.specs.Memory.{LeavesUnlessMemory}
@@ -26,9 +27,6 @@ flags_same a b e = (slice_eq-Decides booleans_Decides a b (flags_eq a b) refl).0
 
 flags_self : (a : List Bool) → flags_eq a a ≡ true
 flags_self a = (slice_eq-Decides booleans_Decides a a (flags_eq a a) refl).1 refl
-
-only_none : {X : Type 0} (b : Bool) (x : X) → cond b (Some x) None ≡ None → b ≡ false
-only_none b x e = grind arith
 
 module _ {A X : Type 0} (key : List Bool → X → Fields A) (combine : List Bool → X → X → Option X) where
   pub kept_names : (keyed : KeyedChanges A X) (changes : List X) → with_changes key combine keyed changes ≡ record keyed { changes = (with_changes key combine keyed changes).changes }
@@ -51,24 +49,15 @@ module _ {A X : Type 0} (key : List Bool → X → Fields A) (combine : List Boo
     named_is : (group : TableEntries X) → bytes_eq (keyed group).table name ≡ named group
     named_is group = ap (λ n. bytes_eq n name) (kept_table (no_changes group.table group.schema) group.changes)
 
-    -- the first table of the name is at the place
-    at_place : (tables : List (TableEntries X)) (i : ℕ) (d : TableEntries X) → i < length tables → named (get_or tables i d) ≡ true → ((k : ℕ) → k < i → named (get_or tables k d) ≡ false) →
-        (table_at (map keyed tables) name ≡ Some (keyed (get_or tables i d))) × ((t : KeyedChanges A X) → t.table ≡ name → with_table (map keyed tables) t ≡ set (map keyed tables) i t)
-    at_place [] i d within here before = absurd (omega arith)
-    at_place (u ∷ us) zero d within here before = (rw (named_is u, here) refl, λ t same. rw (ap (bytes_eq (keyed u).table) same ∙ named_is u ∙ here) refl)
-    at_place (u ∷ us) (suc i) d within here before =
-        let other : named u ≡ false = before 0 (omega arith) in
-        let rest = at_place us i d (omega arith) here (λ k below. before (suc k) (omega arith)) in
-        (rw (named_is u, other) rest.0, λ t same. rw (ap (bytes_eq (keyed u).table) same ∙ named_is u ∙ other) (ap (λ l. keyed u ∷ l) (rest.1 t same)))
+    -- the first table of the name, and the tables with another one in its place
+    found : (tables : List (TableEntries X)) (d : TableEntries X) → table_at (map keyed tables) name ≡ option_map (λ i. keyed (get_or tables i d)) (position named tables)
+    found [] d = refl
+    found (u ∷ us) d = grind (arith, nat_tests, named_is u, found us d)
 
-    -- there is none
-    nowhere : (tables : List (TableEntries X)) (d : TableEntries X) → ((k : ℕ) → k < length tables → named (get_or tables k d) ≡ false) →
-        (table_at (map keyed tables) name ≡ None) × ((t : KeyedChanges A X) → t.table ≡ name → with_table (map keyed tables) t ≡ map keyed tables ++ t ∷ [])
-    nowhere [] d before = (refl, λ t same. refl)
-    nowhere (u ∷ us) d before =
-        let other : named u ≡ false = before 0 (omega arith) in
-        let rest = nowhere us d (λ k below. before (suc k) (omega arith)) in
-        (rw (named_is u, other) rest.0, λ t same. rw (ap (bytes_eq (keyed u).table) same ∙ named_is u ∙ other) (ap (λ l. keyed u ∷ l) (rest.1 t same)))
+    put : (tables : List (TableEntries X)) (t : KeyedChanges A X) → t.table ≡ name →
+        with_table (map keyed tables) t ≡ cond (ltb (position_or_len named tables) (length tables)) (set (map keyed tables) (position_or_len named tables) t) (map keyed tables ++ t ∷ [])
+    put [] t same = refl
+    put (u ∷ us) t same = grind (arith, nat_tests, named_is u, put us t same)
 
   -- a group is appended to the table at the place, or refused
   pub group_put : (place : ℕ) (tables : List (TableEntries X)) (i : ℕ) (d made group : TableEntries X) → position (named group.table) tables ≡ Some i → flags_eq (get_or tables i d).schema group.schema ≡ true →
@@ -76,24 +65,21 @@ module _ {A X : Type 0} (key : List Bool → X → Fields A) (combine : List Boo
       with_group key combine place (map keyed tables) group ≡ Ok (map keyed (set tables i made))
   group_put place tables i d made group at same is =
       let first = get_or tables i d in
-      let found = position-Some (named group.table) tables i d at in
-      let here = at_place group.table tables i d found.0 found.1 found.2 in
-      let table : (with_changes key combine (keyed first) group.changes).table ≡ group.table =
-      kept_table (keyed first) group.changes ∙ kept_table (no_changes first.table first.schema) first.changes ∙ (bytes_eq-Decides first.table group.table).0 found.1 in
-      rw (here.0, kept_schema, same, here.1 (with_changes key combine (keyed first) group.changes) table, map-set) (ap (λ t. Ok (set (map keyed tables) i t)) (sym (ap keyed is ∙ fold-append (with_change key combine) (no_changes first.table first.schema) first.changes group.changes)))
+      let all = with_changes key combine (keyed first) group.changes in
+      let table : all.table ≡ group.table =
+      kept_table (keyed first) group.changes ∙ kept_table (no_changes first.table first.schema) first.changes ∙ (bytes_eq-Decides first.table group.table).0 (position-Some (named group.table) tables i d at).1 in
+      let in_place : with_table (map keyed tables) all ≡ set (map keyed tables) i all = grind (arith, put group.table tables all table) in
+      rw (found group.table tables d, at, kept_schema, same, in_place, map-set) (ap (λ t. Ok (set (map keyed tables) i t)) (sym (ap keyed is ∙ fold-append (with_change key combine) (no_changes first.table first.schema) first.changes group.changes)))
 
   pub group_refused_at : (place : ℕ) (tables : List (TableEntries X)) (i : ℕ) (d group : TableEntries X) → position (named group.table) tables ≡ Some i → flags_eq (get_or tables i d).schema group.schema ≡ false →
       with_group key combine place (map keyed tables) group ≡ Err (OtherColumns place)
-  group_refused_at place tables i d group at other =
-      let found = position-Some (named group.table) tables i d at in
-      rw ((at_place group.table tables i d found.0 found.1 found.2).0, kept_schema, other) refl
+  group_refused_at place tables i d group at other = rw (found group.table tables d, at, kept_schema, other) refl
 
   -- the group of a table that is not there yet
   pub group_copied : (place : ℕ) (tables : List (TableEntries X)) (group : TableEntries X) → position (named group.table) tables ≡ None → with_group key combine place (map keyed tables) group ≡ Ok (map keyed (tables ++ group ∷ []))
   group_copied place tables group at =
-      let all = ltb-false _ _ (only_none _ _ at) in
-      let absent = nowhere group.table tables group (λ k within. fails_before_first (named group.table) tables k group (omega (arith, all))) in
-      rw (map-append, absent.0, flags_self, absent.1 (keyed group) (kept_table (no_changes group.table group.schema) group.changes)) refl
+      let last : with_table (map keyed tables) (keyed group) ≡ map keyed tables ++ keyed group ∷ [] = grind (arith, put group.table tables (keyed group) (kept_table (no_changes group.table group.schema) group.changes)) in
+      rw (map-append, found group.table tables group, at, flags_self, last) refl
 
 -- the tables that have changes, with one more
 pub groups_more : {A X : Type 0} (f : TableEntries X → KeyedChanges A X) (tables : List (TableEntries X)) (i : ℕ) (t made : TableEntries X) → i < length tables → t ≡ get_or tables i t → made ≡ entries_of (f t) →

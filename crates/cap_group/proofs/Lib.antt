@@ -1,7 +1,6 @@
 pub mod FitLemmas
 pub mod GroupLemmas
 pub mod RowLemmas
-pub mod RisingLemmas
 pub mod SameLemmas
 pub mod SortLemmas
 pub mod RunLemmas

@@ -1,23 +1,19 @@
 -- What two changes of one row are together fits the table that both fit, and its fields are values.
-use Rattle.std.proofs.Common.{◌≡◌, List, Bool, true}
-use Rattle.std.specs.Prelude.{Result, Ok, Err, IfOk, IfSome, IsTrue}
+use Rattle.std.proofs.Common.{◌≡◌, List, Bool, Option, true}
+use Rattle.std.specs.Prelude.{IfSome, IsTrue}
 use Rattle.std.proofs.lemmas.Option.{IfSome_then}
-use Rattle.cap_changes.specs.Fits.{change_fits, patch_fits}
-use Rattle.cap_changes.specs.HasValues.{HasValues, PatchHasValues}
+use Rattle.cap_row.specs.Fields.{Fields}
+use Rattle.cap_changes.specs.Fits.{change_fits}
+use Rattle.cap_changes.specs.HasValues.{HasValues}
 use Rattle.cap_changes.specs.declared.row_change.RowChange.{RowChange}
-use Rattle.cap_changes.specs.declared.patch.Patch.{Patch}
-use Rattle.cap_group.specs.Combined.{combined, patches_combined}
-use Rattle.cap_group.proofs.FitLemmas.{combined_stand, patches_stand}
+use Rattle.cap_group.specs.ChangeKey.{change_key}
+use Rattle.cap_group.specs.Combined.{AllStand, combined}
+use Rattle.cap_group.proofs.FitLemmas.{combined_stand}
 
-pub any_ok : {X E : Type 0} (r : Result X E) (P : Type 0) → P → IfOk r (λ x. P)
-any_ok (Ok x) P p = p
-any_ok (Err e) P p = tt
+pub stands : {A X : Type 0} (fits : List Bool → X → Bool) (key : List Bool → X → Fields A) (Values : X → Type 0) (combine : List Bool → X → X → Option X) → AllStand fits key Values combine →
+    (flags : List Bool) (present added : X) → IsTrue (fits flags present) → IsTrue (fits flags added) → Values present → Values added → IfSome (combine flags present added) (λ change. IsTrue (fits flags change) × Values change)
+stands fits key Values combine stand flags present added fit fit' p q = IfSome_then (combine flags present added) (stand flags present added fit fit') (λ one is. (is.fit, is.values p q))
 
-module _ {A : Type 0} where
-  pub combined_stands : (flags : List Bool) (present added : RowChange A) → change_fits flags present ≡ true → change_fits flags added ≡ true → HasValues present → HasValues added →
-      IfSome (combined flags present added) (λ change. IsTrue (change_fits flags change) × HasValues change)
-  combined_stands flags present added fit fit' p q = IfSome_then (combined flags present added) (combined_stand flags present added fit fit') (λ one is. (is.fit, is.values p q))
-
-  pub patches_combined_stands : (flags : List Bool) (present added : Patch A) → patch_fits flags present ≡ true → patch_fits flags added ≡ true → PatchHasValues present → PatchHasValues added →
-      IfSome (patches_combined present added) (λ change. IsTrue (patch_fits flags change) × PatchHasValues change)
-  patches_combined_stands flags present added fit fit' p q = IfSome_then (patches_combined present added) (patches_stand flags present added fit fit') (λ one is. (is.fit, is.values p q))
+pub combined_stands : {A : Type 0} (flags : List Bool) (present added : RowChange A) → change_fits flags present ≡ true → change_fits flags added ≡ true → HasValues present → HasValues added →
+    IfSome (combined flags present added) (λ change. IsTrue (change_fits flags change) × HasValues change)
+combined_stands = stands change_fits change_key HasValues combined combined_stand

@@ -1,6 +1,6 @@
 -- What becomes of two changes of one row, the present one and one that is added (The Session Extension,
 -- "sqlite3changegroup_add"). What they make together is indirect only where both are.
-use Rattle.std.specs.Prelude.{◌≡◌, Bool, List, Option, Some, None, IsTrue, ◌&&◌}
+use Rattle.std.specs.Prelude.{◌≡◌, Bool, List, Option, Some, None, IfSome, IsTrue, ◌&&◌}
 use Rattle.cap_row.specs.Fields.{Fields}
 use Rattle.cap_changes.specs.declared.row_change.RowChange.{RowChange}
 use Rattle.cap_changes.specs.declared.row_change.RowChange.TheVariants as changed
@@ -49,10 +49,16 @@ module _ {A : Type 0} where
   patches_combined (patched.Delete indirect key) (patched.Delete indirect' key') =
       Some (patched.Delete indirect key)
 
--- What two changes of one row become fits the table that both fit, and is of that row.
-abbrev pub KeepsKey : {A X : Type 0} → (List Bool → X → Bool) → (List Bool → X → Fields A) →
+-- What two changes of one row become fits the table that both fit, is of that row, and has values where both
+-- have.
+pub record Stands {A X : Type 0} (fits : List Bool → X → Bool) (key : List Bool → X → Fields A)
+    (Values : X → Type 0) (flags : List Bool) (present added change : X) : Type 0 where
+  pub fit : IsTrue (fits flags change)
+  pub keyed : key flags added ≡ key flags present → key flags change ≡ key flags present
+  pub values : Values present → Values added → Values change
+
+abbrev pub AllStand : {A X : Type 0} → (List Bool → X → Bool) → (List Bool → X → Fields A) → (X → Type 0) →
     (List Bool → X → X → Option X) → Type 0
-KeepsKey {X = X} fits key combine = (flags : List Bool) (present added change : X) →
-    IsTrue (fits flags present) → IsTrue (fits flags added) → key flags added ≡ key flags present →
-    combine flags present added ≡ Some change →
-    IsTrue (fits flags change) × (key flags change ≡ key flags present)
+AllStand {X = X} fits key Values combine = (flags : List Bool) (present added : X) →
+    IsTrue (fits flags present) → IsTrue (fits flags added) →
+    IfSome (combine flags present added) (Stands fits key Values flags present added)

@@ -2,17 +2,11 @@
 use Rattle.std.specs.Prelude.{◌≡◌, ℕ, Bool, List, ◌++◌, Option, is_some}
 use Rattle.std.specs.List.{flat_map}
 use Rattle.std.specs.Option.{option_to_list}
-use Rattle.cap_changes.specs.ChangeBytes.{change_bytes, patch_bytes}
+use Rattle.cap_changes.specs.ChangeBytes.{change_bytes}
 use Rattle.cap_changes.specs.declared.row_change.RowChange.{RowChange}
-use Rattle.cap_changes.specs.declared.patch.Patch.{Patch}
 
 module _ {A : Type 0} where
   -- the bytes of the change, if there is one, are appended
   abbrev pub IsPut : Bool → List ℕ → List ℕ → Option (RowChange A) → Type 0
   IsPut some old new change =
       (new ≡ old ++ flat_map change_bytes (option_to_list change)) × (some ≡ is_some change)
-
-  -- the same of a patchset
-  abbrev pub IsPatchPut : Bool → List ℕ → List ℕ → Option (Patch A) → Type 0
-  IsPatchPut some old new patch =
-      (new ≡ old ++ flat_map patch_bytes (option_to_list patch)) × (some ≡ is_some patch)

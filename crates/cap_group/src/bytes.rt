@@ -46,24 +46,11 @@ fn add_all_bytes<A: AllocHandle>(
         (all_bytes_added 0 group.old (map (λ bytes. bytes.now) blobs.now)) group.new }
 {
     for blob in 0..blobs.len() {
-        add_numbered(group, blob, blobs[blob])?;
+        match group.add_bytes(blobs[blob]) {
+            Ok(()) => {}
+            Err(Fault::Refused(why)) => return Err(Fault::Refused(ConcatRefusal { blob, why })),
+            Err(Fault::OutOfMemory) => return Err(Fault::OutOfMemory),
+        }
     }
     Ok(())
-}
-
-// Adds the blob with this number.
-fn add_numbered<A: AllocHandle>(
-    group: &mut ChangeGroup<A>,
-    blob: usize,
-    bytes: &[u8],
-) -> Result<(), Fault<ConcatRefusal>>
-    ensures spelled { OnOk result ((list : Contents A) × Spells list bytes.now
-        × (added group.old list ≡ Ok group.new)) }
-    ensures content { LeavesUnlessMemory result (numbered_added blob group.old bytes.now) group.new }
-{
-    match group.add_bytes(bytes) {
-        Ok(()) => Ok(()),
-        Err(Fault::Refused(why)) => Err(Fault::Refused(ConcatRefusal { blob, why })),
-        Err(Fault::OutOfMemory) => Err(Fault::OutOfMemory),
-    }
 }

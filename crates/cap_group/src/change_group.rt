@@ -9,15 +9,14 @@ ghost use Rattle.cap_codec.specs.FirstByte.{first_fault};
 ghost use Rattle.cap_codec.specs.Spelling.{Spells};
 ghost use Rattle.cap_codec.specs.Writable.{blob_bytes_with};
 ghost use Rattle.cap_codec.specs.declared.read.Contents.{Contents as Spelled};
-ghost use Rattle.cap_codec.specs.declared.read.Contents.TheVariants.{Changes, Patches};
-ghost use Rattle.cap_group.specs.ChangeGroup.{added, added_unless, all_added, concat_of, contents_of};
+ghost use Rattle.cap_group.specs.ChangeGroup.{added, concat_of, contents_of};
 ghost use Rattle.cap_group.specs.ChangeGroup.{empty_group, has_changes, refused_kind};
 ghost use Rattle.cap_group.specs.Bytes.{bytes_added, contents_at};
 
 use crate::combine::Combine;
 use crate::tables::{add_groups, count_of, groups_of, has_change, merge_each};
 use crate::{BlobRefusal, GroupRefusal};
-use cap_changes::{ChangeList, Patch, PatchList, RowChange, TableGroup};
+use cap_changes::{Patch, RowChange, TableGroup};
 use cap_codec::{Contents, KeyFlags, read_blob, write_changes_with, write_patches_with};
 use cap_value::{AllocHandle, Fault, OutOfMemory};
 use std::marker::Model;
@@ -94,8 +93,8 @@ impl<A: AllocHandle> ChangeGroup<A> {
         }
         self.merge()?;
         match blob {
-            Contents::Changes(list) => self.add_changes(list),
-            Contents::Patches(list) => self.add_patches(list),
+            Contents::Changes(list) => add_groups(self.alloc, &mut self.changes, list.groups()),
+            Contents::Patches(list) => add_groups(self.alloc, &mut self.patches, list.groups()),
         }
     }
 
@@ -113,20 +112,6 @@ impl<A: AllocHandle> ChangeGroup<A> {
         }
         self.merged = count_of(&self.changes).wrapping_add(count_of(&self.patches));
         Ok(())
-    }
-
-    fn add_changes(&mut self, list: &ChangeList<A>) -> Result<(), Fault<GroupRefusal>>
-        ensures content { LeavesUnlessMemory result (added_unless None self.old (Changes list.now)) self.new }
-        ensures kept { OnErr result (self.new ≡ self.old) }
-    {
-        add_groups(self.alloc, &mut self.changes, list.groups())
-    }
-
-    fn add_patches(&mut self, list: &PatchList<A>) -> Result<(), Fault<GroupRefusal>>
-        ensures content { LeavesUnlessMemory result (added_unless None self.old (Patches list.now)) self.new }
-        ensures kept { OnErr result (self.new ≡ self.old) }
-    {
-        add_groups(self.alloc, &mut self.patches, list.groups())
     }
 
     fn refuses_kind_of(&self, blob: &Contents<A>) -> bool
@@ -213,19 +198,8 @@ pub fn concat<A: AllocHandle>(
     ensures { AnswersUnlessMemory result (concat_of blobs.now) }
 {
     let mut group = ChangeGroup::new(alloc);
-    add_all(&mut group, blobs)?;
-    Ok(group.contents()?)
-}
-
-// Adds blobs, one after the other.
-fn add_all<A: AllocHandle>(
-    group: &mut ChangeGroup<A>,
-    blobs: &[Contents<A>],
-) -> Result<(), Fault<GroupRefusal>>
-    ensures { LeavesUnlessMemory result (all_added group.old blobs.now) group.new }
-{
     for blob in blobs {
         group.add(blob)?;
     }
-    Ok(())
+    Ok(group.contents()?)
 }

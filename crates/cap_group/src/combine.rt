@@ -1,11 +1,11 @@
 //! Changes that combine with a later one of the same row.
-ghost use Rattle.std.specs.Prelude.{Bool, List, ℕ, Option, ◌≡◌, ◌++◌, IfOk, IfSome, IsTrue, is_some};
+ghost use Rattle.std.specs.Prelude.{Bool, List, ℕ, Option, ◌≡◌, ◌++◌, IfOk, IsTrue, is_some};
 ghost use Rattle.std.specs.List.{flat_map};
 ghost use Rattle.std.specs.Option.{option_to_list};
 ghost use Rattle.cap_row.specs.Fields.{Fields};
 ghost use Rattle.cap_changes.specs.Stored.{IsEntry};
 ghost use Rattle.cap_group.specs.ChangeKey.{key_values};
-ghost use Rattle.cap_group.specs.Combined.{KeepsKey};
+ghost use Rattle.cap_group.specs.Combined.{AllStand};
 
 use cap_changes::{Entry, EntryRef, RecordRef};
 use cap_value::{AllocHandle, OutOfMemory};
@@ -32,18 +32,13 @@ pub(crate) trait Combine<A: AllocHandle>: Entry {
     ) -> Result<bool, OutOfMemory>
     where
         Self: Sized,
-        requires present_fits { IsTrue (Self.fits_in flags.now present.now) }
-        requires added_fits { IsTrue (Self.fits_in flags.now added.now) }
         ensures bytes { IfOk result (λ some. out.new.items ≡ out.old.items
             ++ flat_map Self.bytes_of (option_to_list (combined flags.now present.now added.now))) }
-        ensures some { IfOk result (λ some. some ≡ is_some (combined flags.now present.now added.now)) }
-        // It fits the table that both fit, and its fields are values.
-        ensures fits { IfOk result (λ some. IfSome (combined flags.now present.now added.now)
-            (λ change. IsTrue (Self.fits_in flags.now change) × Self.has_values change)) };
+        ensures some { IfOk result (λ some. some ≡ is_some (combined flags.now present.now added.now)) };
 
-    // A law: what two changes of one row become is of that row. Does nothing at run time.
-    fn keeps_key()
-        ensures { KeepsKey Self.fits_in key combined };
+    // A law: what two changes of one row become is a change of that row. Does nothing at run time.
+    fn stands()
+        ensures { AllStand Self.fits_in key Self.has_values combined };
 
     // The bytes of a change that fits are of just this one.
     ghost stored_again: { (flags : List Bool) (change : Self) (bytes : List ℕ) →

@@ -1,7 +1,4 @@
 //! Two changes of one row in changesets.
-ghost use Rattle.std.specs.Prelude.{◌≡◌, IfOk};
-ghost use Rattle.cap_group.specs.Combined.{combined};
-ghost use Rattle.cap_group.specs.Put.{IsPut};
 
 use crate::combine::Combine;
 use crate::record::{RecordOver, push_over, push_update_between};
@@ -31,74 +28,58 @@ impl<A: AllocHandle> Combine<A> for RowChange<A> {
         present: &EntryRef<'_, Self>,
         added: &EntryRef<'_, Self>,
     ) -> Result<bool, OutOfMemory> {
-        // For the proof: a clause of `as_bytes` says that the fields are values.
-        let _present = present.as_bytes();
-        let _added = added.as_bytes();
-        push_together(out, flags, present, added)
+        match (present.read(), added.read()) {
+            (
+                ChangeRef::Insert { indirect, new },
+                ChangeRef::Update {
+                    indirect: too,
+                    new: last,
+                    ..
+                },
+            ) => {
+                push_operation(out, Operation::Insert, indirect & too)?;
+                push_over(out, RecordOver::new(new, last))?;
+                Ok(true)
+            }
+            (ChangeRef::Insert { .. }, ChangeRef::Delete { .. }) => Ok(false),
+            (
+                ChangeRef::Update { indirect, old, new },
+                ChangeRef::Update {
+                    indirect: too,
+                    old: then,
+                    new: last,
+                },
+            ) => {
+                let first = RecordOver::new(then, old);
+                let last = RecordOver::new(new, last);
+                push_update_between(out, flags, indirect & too, &first, &last)
+            }
+            (
+                ChangeRef::Update { indirect, old, .. },
+                ChangeRef::Delete {
+                    indirect: too,
+                    old: then,
+                },
+            ) => {
+                push_operation(out, Operation::Delete, indirect & too)?;
+                push_over(out, RecordOver::new(then, old))?;
+                Ok(true)
+            }
+            (ChangeRef::Delete { indirect, old }, ChangeRef::Insert { indirect: too, new }) => {
+                let first = RecordOver::alone(old);
+                let last = RecordOver::alone(new);
+                push_update_between(out, flags, indirect & too, &first, &last)
+            }
+            _ => {
+                out.extend_from_slice(present.as_bytes())?;
+                Ok(true)
+            }
+        }
     }
 
-    #[tactic(auto, using(crate::proofs::FitLemmas::changes_keep))]
-    fn keeps_key() {}
+    #[tactic(auto, using(crate::proofs::FitLemmas::combined_stand))]
+    fn stands() {}
 
     ghost stored_again = { λ flags change bytes fits values spelled.
         change_entry flags change bytes fits values spelled };
-}
-
-// Appends what becomes of a change when another one of its row follows.
-fn push_together<A: AllocHandle>(
-    out: &mut Vec<u8, A>,
-    flags: &[bool],
-    present: &EntryRef<'_, RowChange<A>>,
-    added: &EntryRef<'_, RowChange<A>>,
-) -> Result<bool, OutOfMemory>
-    ensures { IfOk result (λ some. IsPut some out.old.items out.new.items
-        (combined flags.now present.now added.now)) }
-{
-    match (present.read(), added.read()) {
-        (
-            ChangeRef::Insert { indirect, new },
-            ChangeRef::Update {
-                indirect: too,
-                new: last,
-                ..
-            },
-        ) => {
-            push_operation(out, Operation::Insert, indirect & too)?;
-            push_over(out, RecordOver::new(new, last))?;
-            Ok(true)
-        }
-        (ChangeRef::Insert { .. }, ChangeRef::Delete { .. }) => Ok(false),
-        (
-            ChangeRef::Update { indirect, old, new },
-            ChangeRef::Update {
-                indirect: too,
-                old: then,
-                new: last,
-            },
-        ) => {
-            let first = RecordOver::new(then, old);
-            let last = RecordOver::new(new, last);
-            push_update_between(out, flags, indirect & too, &first, &last)
-        }
-        (
-            ChangeRef::Update { indirect, old, .. },
-            ChangeRef::Delete {
-                indirect: too,
-                old: then,
-            },
-        ) => {
-            push_operation(out, Operation::Delete, indirect & too)?;
-            push_over(out, RecordOver::new(then, old))?;
-            Ok(true)
-        }
-        (ChangeRef::Delete { indirect, old }, ChangeRef::Insert { indirect: too, new }) => {
-            let first = RecordOver::alone(old);
-            let last = RecordOver::alone(new);
-            push_update_between(out, flags, indirect & too, &first, &last)
-        }
-        _ => {
-            out.extend_from_slice(present.as_bytes())?;
-            Ok(true)
-        }
-    }
 }

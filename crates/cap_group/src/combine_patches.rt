@@ -1,7 +1,4 @@
 //! Two changes of one row in patchsets.
-ghost use Rattle.std.specs.Prelude.{◌≡◌, IfOk};
-ghost use Rattle.cap_group.specs.Combined.{patches_combined};
-ghost use Rattle.cap_group.specs.Put.{IsPatchPut};
 
 use crate::combine::Combine;
 use crate::record::{RecordOver, push_over};
@@ -33,65 +30,50 @@ impl<A: AllocHandle> Combine<A> for Patch<A> {
         present: &EntryRef<'_, Self>,
         added: &EntryRef<'_, Self>,
     ) -> Result<bool, OutOfMemory> {
-        // For the proof: a clause of `as_bytes` says that the fields are values.
-        let _present = present.as_bytes();
-        let _added = added.as_bytes();
-        push_together(out, present, added)
+        match (present.read(), added.read()) {
+            (
+                PatchRef::Insert { indirect, new },
+                PatchRef::Update {
+                    indirect: too,
+                    new: last,
+                },
+            ) => {
+                push_operation(out, Operation::Insert, indirect & too)?;
+                push_over(out, RecordOver::new(new, last))?;
+                Ok(true)
+            }
+            (PatchRef::Insert { .. }, PatchRef::Delete { .. }) => Ok(false),
+            (
+                PatchRef::Update { indirect, new },
+                PatchRef::Update {
+                    indirect: too,
+                    new: last,
+                },
+            ) => {
+                push_operation(out, Operation::Update, indirect & too)?;
+                push_over(out, RecordOver::new(new, last))?;
+                Ok(true)
+            }
+            (PatchRef::Update { indirect, .. }, PatchRef::Delete { indirect: too, key }) => {
+                push_operation(out, Operation::Delete, indirect & too)?;
+                push_key(out, key)?;
+                Ok(true)
+            }
+            (PatchRef::Delete { indirect, .. }, PatchRef::Insert { indirect: too, new }) => {
+                push_operation(out, Operation::Update, indirect & too)?;
+                push_record(out, new)?;
+                Ok(true)
+            }
+            _ => {
+                out.extend_from_slice(present.as_bytes())?;
+                Ok(true)
+            }
+        }
     }
 
-    #[tactic(auto, using(crate::proofs::FitLemmas::patches_keep))]
-    fn keeps_key() {}
+    #[tactic(auto, using(crate::proofs::FitLemmas::patches_stand))]
+    fn stands() {}
 
     ghost stored_again = { λ flags change bytes fits values spelled.
         patch_entry flags change bytes fits values spelled };
-}
-
-// Appends what becomes of a change when another one of its row follows.
-fn push_together<A: AllocHandle>(
-    out: &mut Vec<u8, A>,
-    present: &EntryRef<'_, Patch<A>>,
-    added: &EntryRef<'_, Patch<A>>,
-) -> Result<bool, OutOfMemory>
-    ensures { IfOk result (λ some. IsPatchPut some out.old.items out.new.items
-        (patches_combined present.now added.now)) }
-{
-    match (present.read(), added.read()) {
-        (
-            PatchRef::Insert { indirect, new },
-            PatchRef::Update {
-                indirect: too,
-                new: last,
-            },
-        ) => {
-            push_operation(out, Operation::Insert, indirect & too)?;
-            push_over(out, RecordOver::new(new, last))?;
-            Ok(true)
-        }
-        (PatchRef::Insert { .. }, PatchRef::Delete { .. }) => Ok(false),
-        (
-            PatchRef::Update { indirect, new },
-            PatchRef::Update {
-                indirect: too,
-                new: last,
-            },
-        ) => {
-            push_operation(out, Operation::Update, indirect & too)?;
-            push_over(out, RecordOver::new(new, last))?;
-            Ok(true)
-        }
-        (PatchRef::Update { indirect, .. }, PatchRef::Delete { indirect: too, key }) => {
-            push_operation(out, Operation::Delete, indirect & too)?;
-            push_key(out, key)?;
-            Ok(true)
-        }
-        (PatchRef::Delete { indirect, .. }, PatchRef::Insert { indirect: too, new }) => {
-            push_operation(out, Operation::Update, indirect & too)?;
-            push_record(out, new)?;
-            Ok(true)
-        }
-        _ => {
-            out.extend_from_slice(present.as_bytes())?;
-            Ok(true)
-        }
-    }
 }

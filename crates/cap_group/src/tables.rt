@@ -170,6 +170,7 @@ pub(crate) fn has_change<C: Combine<A> + Drop, A: AllocHandle>(group: &TableGrou
 }
 
 // The tables that have changes, each as a group of a list with one change for each row.
+#[tactic(auto, using(crate::proofs::GroupLemmas::groups_more))]
 pub(crate) fn groups_of<C: Combine<A> + Drop, A: AllocHandle>(
     alloc: A,
     tables: &[TableGroup<C, A>],

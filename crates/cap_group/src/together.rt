@@ -80,12 +80,15 @@ impl<'a, C: Combine<A> + Drop, A: AllocHandle> Together<'a, C, A> {
           change = change_after C.combined self.old.flags self.old.change added.now;
         }) }
     {
+        let only = added.as_bytes();
         if !self.some {
-            self.only = added.as_bytes();
+            self.only = only;
             self.is_only = true;
             self.some = true;
             return Ok(());
         }
+        // For the proof: what the changes become is a change of their row.
+        C::stands();
         self.spare.clear();
         let present = EntryRef::of(self.flags, either(self.is_only, self.only, &self.bytes));
         self.some = C::push_combined(&mut self.spare, self.flags, &present, added)?;

@@ -22,7 +22,7 @@ use Rattle.cap_group.specs.KeyedChanges.{KeyedChanges, entries_of, no_changes, w
 use Rattle.cap_group.specs.ChangeGroup.{concat_of, groups_of, has_changes, with_groups}
 use Rattle.cap_group_laws.specs.OneEach.{BlobHasOneForEachRow, HasOneForEachRow}
 use Rattle.cap_group.proofs.GroupLemmas.{group_copied}
-use Rattle.cap_group.proofs.RisingLemmas.{behind_nil, rising}
+use Rattle.cap_group.proofs.RunLemmas.{rising}
 
 module _ {A X : Type 0} (key : List Bool → X → Fields A) (combine : List Bool → X → X → Option X) where
   -- the table with the changes of a group alone
@@ -31,7 +31,7 @@ module _ {A X : Type 0} (key : List Bool → X → Fields A) (combine : List Boo
 
   alone_is : (group : TableEntries X) → IsStrictlySortedBy fields_cmp (map (key group.schema) group.changes) → entries_of (alone group) ≡ group
   alone_is group s =
-      ap entries_of (rising key combine group.table group.schema group.changes [] (behind_nil key combine group.schema group.changes) s)
+      ap entries_of (rising key combine group.table group.schema group.changes [] (rw map-map s))
       ∙ rw (map-map, map-id) refl
 
   -- ---- groups of different tables

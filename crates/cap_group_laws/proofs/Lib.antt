@@ -1,3 +1,2 @@
 pub mod JoinLemmas
 pub mod AloneLemmas
-pub mod FlagLemmas

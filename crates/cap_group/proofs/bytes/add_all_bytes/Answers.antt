@@ -7,7 +7,7 @@ loop-blob-init g c = record { content = refl; spelled = λ made lists spelled is
 
 pub loop-blob-preserved : goal.loop-blob-preserved
 loop-blob-preserved g c =
-    let one = c.in_ok-add_numbered.ensures in
+    let one = c.in-Ok.ensures in
     let rest = drop_more c.args.blobs.now c.loop-blob.blob (record { ref_ptr = (0, 0); now = [] }) c.loop-blob-test.true in
     record {
       content = rw one.content at (rw rest at c.loop-blob.invariant.content);

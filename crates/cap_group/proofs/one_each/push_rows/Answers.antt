@@ -19,7 +19,7 @@ loop-number-init g c =
       schema = c.requires.columns;
       flags = rw (c.in_ok-add.ensures, c.new-row.ensures) refl;
       put = λ d. rw (get_or_default c.args.places.now 0 d p.result lt, ← p.is, c.requires.none, c.in_ok-add.ensures, c.new-row.ensures, c.change.ensures)
-          (put_same g.C.Entry.fits_in g.C.Combine.key g.C.Combine.combined c.args.group.now.table c.args.flags.now c.args.places.now c.keeps_key.ensures c.requires.each 0 p.result lt p.is p.result.key [] None refl (record { past = tt; own = tt; left = refl }));
+          (put_same g.C.Combine.key g.C.Combine.combined c.args.group.now.table c.args.flags.now g.C.Entry.fits_in c.args.places.now g.C.Entry.has_values c.stands.ensures c.requires.each 0 p.result lt p.is p.result.key [] None refl (record { past = tt; own = tt; left = refl }));
     }
 
 pub loop-number-preserved : goal.loop-number-preserved
@@ -36,7 +36,7 @@ loop-number-preserved g c =
         schema = c.loop-number.invariant.schema;
         flags = c.loop-number.invariant.flags;
         put = λ d. rw (less, get_or_default c.args.places.now n d p.result c.loop-number-test.true, ← p.is)
-            (put_other g.C.Entry.fits_in g.C.Combine.key g.C.Combine.combined c.args.group.now.table c.args.flags.now c.args.places.now c.keeps_key.ensures c.requires.each n p.result c.loop-number-test.true p.is
+            (put_other g.C.Combine.key g.C.Combine.combined c.args.group.now.table c.args.flags.now g.C.Entry.fits_in c.args.places.now g.C.Entry.has_values c.stands.ensures c.requires.each n p.result c.loop-number-test.true p.is
             q.result c.loop-number.group.changes c.loop-number.row.change q.is (omega (arith, c.loop-number.auto.number)) c.requires.sorted (sym tested ∙ grind (arith, w.if-not-is_eq.true)) before);
       })
       | else-not-is_eq w ↦ rw (c.in_ok-add-2.ensures, w.group-is, w.row-is, c.change-in-loop-number.ensures, c.loop-number.invariant.flags) (record {
@@ -44,7 +44,7 @@ loop-number-preserved g c =
         schema = c.loop-number.invariant.schema;
         flags = refl;
         put = λ d. rw (less, get_or_default c.args.places.now n d p.result c.loop-number-test.true, ← p.is)
-            (put_same g.C.Entry.fits_in g.C.Combine.key g.C.Combine.combined c.args.group.now.table c.args.flags.now c.args.places.now c.keeps_key.ensures c.requires.each n p.result c.loop-number-test.true p.is
+            (put_same g.C.Combine.key g.C.Combine.combined c.args.group.now.table c.args.flags.now g.C.Entry.fits_in c.args.places.now g.C.Entry.has_values c.stands.ensures c.requires.each n p.result c.loop-number-test.true p.is
             q.result.key c.loop-number.group.changes c.loop-number.row.change ((fields_eq_decides q.result.key p.result.key).0 (sym tested ∙ grind (arith, w.if-not-is_eq.false))) before);
       })
     ]
@@ -53,7 +53,7 @@ pub returns : goal.returns
 returns g c =
     let some : 0 < length c.args.places.now = grind (arith, nat_tests, c.is_empty.ensures, c.if-is_empty.false) in
     let end : c.loop-number.number ≡ length c.args.places.now = omega (arith, c.loop-number-test.false) in
-    let put = all_put g.C.Entry.fits_in g.C.Combine.key g.C.Combine.combined c.args.group.now.table c.args.flags.now c.args.places.now _ c.loop-number.group c.loop-number.row.change
+    let put = all_put g.C.Combine.key g.C.Combine.combined c.args.group.now.table c.args.flags.now g.C.Entry.fits_in c.args.places.now _ c.loop-number.group c.loop-number.row.change
     c.loop-number.invariant.table c.loop-number.invariant.schema (rw end at (c.loop-number.invariant.put c.index-places-0.result)) in
     record {
       made = on_ok_weaker c.finish-2.result (λ made. made ∙ put.0) c.finish-2.ensures.group;

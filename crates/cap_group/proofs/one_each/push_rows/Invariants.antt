@@ -9,5 +9,5 @@ invariant-loop-number g l = record {
   schema : l.group.schema ≡ l.flags;
   flags : l.row.flags ≡ l.flags;
   put : (d : Place g.row.A.Denot g.row.C.Denot) →
-      IsPut g.C.Entry.fits_in g.C.Combine.key g.C.Combine.combined l.fn.group.table l.flags l.places (get_or l.places (l.number - 1) d).key l.number l.group.changes l.row.change;
+      IsPut g.C.Combine.key g.C.Combine.combined l.fn.group.table l.flags g.C.Entry.fits_in l.places (get_or l.places (l.number - 1) d).key l.number l.group.changes l.row.change;
 }
