@@ -5,9 +5,9 @@ ghost use Rattle.std.specs.Prelude.{Option, length, take, position, IfSome, IfOk
 ghost use Rattle.cap_value.specs.Bytes.{is_name};
 ghost use Rattle.std.specs.List.{list_any};
 ghost use Rattle.cap_field.specs.Reading.{place, Reads};
-ghost use Rattle.cap_codec.specs.HeaderReading.{is_zero, count_at};
+ghost use Rattle.cap_codec.specs.HeaderReading.{is_zero};
 ghost use Rattle.cap_changes.specs.ChangeReading.{is_set};
-ghost use Rattle.cap_codec.specs.HeaderReading.{flags_at, name_at, header_at, header_of};
+ghost use Rattle.cap_codec.specs.HeaderReading.{name_at, header_at, header_of};
 
 use cap_field::{BlobFault, FaultKind, place_of, take_bytes, take_varint, text_in};
 use cap_row::COLUMNS_MAX;
@@ -29,37 +29,10 @@ pub fn fault(at: usize, kind: FaultKind) -> BlobFault
     BlobFault { at, kind }
 }
 
-#[tactic(auto, unfolding(crate::specs::HeaderReading::count_at))]
-fn take_count(total: usize, bytes: &[u8]) -> Result<(usize, &[u8]), BlobFault>
-    ensures reads { Reads (λ x. (x.0, x.1.now)) result (count_at total bytes.now) }
-    ensures behind { IfOk result (λ x. length x.1.now ≤ length bytes.now) }
-    ensures within { IfOk result (λ x. (1 ≤ x.0) × (x.0 ≤ COLUMNS_MAX)) }
-{
-    let (count, rest) = take_varint(total, bytes)?;
-    if count == 0 || count > COLUMNS_MAX {
-        return Err(fault(place_of(total, bytes), FaultKind::BadHeader));
-    }
-    Ok((count, rest))
-}
-
 fn has_key(flags: &[u8]) -> bool
     ensures { result ≡ list_any is_set flags.now }
 {
     flags.iter().any(|flag| *flag != 0)
-}
-
-#[tactic(auto, unfolding(crate::specs::HeaderReading::flags_at))]
-fn take_flags(total: usize, count: usize, bytes: &[u8]) -> Result<(&[u8], &[u8]), BlobFault>
-    ensures reads { Reads (λ x. (x.0.now, x.1.now)) result (flags_at total count bytes.now) }
-    ensures behind { IfOk result (λ x. length x.1.now ≤ length bytes.now) }
-    ensures count { IfOk result (λ x. length x.0.now ≡ count) }
-    ensures keyed { IfOk result (λ x. IsTrue (list_any is_set x.0.now)) }
-{
-    let (flags, rest) = take_bytes(total, count, bytes)?;
-    if !has_key(flags) {
-        return Err(fault(place_of(total, bytes), FaultKind::BadHeader));
-    }
-    Ok((flags, rest))
 }
 
 // The offset of the first zero byte, where it is among the first 256.
@@ -92,7 +65,7 @@ fn take_name(total: usize, bytes: &[u8]) -> Result<(&str, &[u8]), BlobFault>
 }
 
 /// The header behind its kind byte.
-#[tactic(auto, unfolding(crate::specs::HeaderReading::header_at))]
+#[tactic(auto, unfolding(crate::specs::HeaderReading::header_at, crate::specs::HeaderReading::count_at, crate::specs::HeaderReading::flags_at))]
 pub fn take_header(total: usize, bytes: &[u8]) -> Result<(HeaderRef<'_>, &[u8]), BlobFault>
     ensures reads { Reads (λ x. (header_of x.0, x.1.now)) result (header_at total bytes.now) }
     ensures behind { IfOk result (λ x. length x.1.now ≤ length bytes.now) }
@@ -100,8 +73,14 @@ pub fn take_header(total: usize, bytes: &[u8]) -> Result<(HeaderRef<'_>, &[u8]),
     ensures keyed { IfOk result (λ x. IsTrue (list_any is_set x.0.flags.now)) }
     ensures name { IfOk result (λ x. IsTrue (is_name x.0.table.now)) }
 {
-    let (count, rest) = take_count(total, bytes)?;
-    let (flags, rest) = take_flags(total, count, rest)?;
-    let (table, rest) = take_name(total, rest)?;
+    let (count, rest) = take_varint(total, bytes)?;
+    if count == 0 || count > COLUMNS_MAX {
+        return Err(fault(place_of(total, bytes), FaultKind::BadHeader));
+    }
+    let (flags, behind) = take_bytes(total, count, rest)?;
+    if !has_key(flags) {
+        return Err(fault(place_of(total, rest), FaultKind::BadHeader));
+    }
+    let (table, rest) = take_name(total, behind)?;
     Ok((HeaderRef { flags, table }, rest))
 }
