@@ -1,16 +1,12 @@
 -- Changes and groups, one after another.
 use Rattle.std.proofs.Common.{◌≡◌, ℕ, ◌+◌, ◌<◌, Bool, true, false, Result, Ok, List, [], ◌∷◌, length, map, drop, get_or, refl, ap, subst, ◌∙◌, arith, All, IfOk, is_some}
 use Rattle.std.proofs.lemmas.Cmp.{nat_list_cmp_total}
-use Rattle.cap_apply.proofs.Common.{tied_itself, length-map, All-head, All-tail, bytes_cmp, Refusal, put_entry, TableState, Tables, TableEntries, drop_here, AppliedState, and_then, change_applied, changes_applied, group_applied, groups_applied, skipped, skipped_unless, with_row, Requested, requested_in, row_after, columns_fit, target, Policy}
+use Rattle.cap_apply.proofs.Common.{tied_itself, length-map, All-head, All-tail, bytes_cmp, Refusal, TableEntries, drop_here, AppliedState, and_then, change_applied, changes_applied, group_applied, groups_applied, skipped, skipped_unless, with_row, Requested, requested_in, row_after, columns_fit, target, Policy}
 use Rattle.cap_apply.proofs.ChangeLemmas.{change_leaves, same_columns}
 use Rattle.cap_apply.proofs.EntryLemmas.{get_put}
 
 module _ {A : Type 0} where
   -- ---- the table of a group stays
-
-  put_target : (database : Tables A) (name : List ℕ) (flags : List Bool) (table : TableState A) → columns_fit flags table.schema ≡ true →
-      is_some (target (put_entry bytes_cmp database name table) name flags) ≡ true
-  put_target database name flags table fit = rw (get_put bytes_cmp name table (tied_itself nat_list_cmp_total name) database, fit)
 
   pub target_stays : (policy : Policy) (number : ℕ) (name : List ℕ) (flags : List Bool) (requested : Requested A) (state next : AppliedState A) →
       is_some (target state.database name flags) ≡ true → change_applied policy number name flags requested state ≡ Ok next →
@@ -19,7 +15,8 @@ module _ {A : Type 0} where
       subst (λ r. IfOk r (λ (s : AppliedState A). is_some (target s.database name flags) ≡ true)) ok
       (change_leaves (λ database changes. is_some (target database name flags) ≡ true) policy number name flags requested state e
       (λ h key before is found. let after = row_after (length h.table.schema) requested.patch before in
-      put_target state.database name flags (with_row h.table key after) (ap (columns_fit flags) (same_columns h.table key after) ∙ h.fit)))
+      let fit : columns_fit flags (with_row h.table key after).schema ≡ true = ap (columns_fit flags) (same_columns h.table key after) ∙ h.fit in
+      rw (get_put bytes_cmp name (with_row h.table key after) (tied_itself nat_list_cmp_total name) state.database) (grind (arith, fit))))
 
   -- ---- changes
 

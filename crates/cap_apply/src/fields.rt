@@ -176,10 +176,7 @@ pub(crate) fn has_old_values<A: AllocHandle>(
     let mut rest = row;
     let mut fields = old.copy();
     for key in flags {
-        let Some(old) = fields.next_field() else {
-            return true;
-        };
-        let Some(value) = rest.next_value() else {
+        let (Some(old), Some(value)) = (fields.next_field(), rest.next_value()) else {
             return true;
         };
         if let Some(old) = old

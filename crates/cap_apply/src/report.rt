@@ -87,10 +87,7 @@ impl<A: AllocHandle> Report<A> {
     pub(crate) fn count(&mut self) -> Result<(), OutOfMemory>
         ensures { OnOk result (self.new ≡ record self.old { applied = self.old.applied + 1 }) }
     {
-        let Some(applied) = self.applied.checked_add(1) else {
-            return Err(OutOfMemory);
-        };
-        self.applied = applied;
+        self.applied = self.applied.checked_add(1).ok_or(OutOfMemory)?;
         Ok(())
     }
 

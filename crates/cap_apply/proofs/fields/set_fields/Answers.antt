@@ -1,5 +1,5 @@
-use Rattle.std.proofs.Common.{◌≡◌, ◌++◌, false, drop, get_or, ◌∙◌, if◌then◌else◌, arith}
-use Rattle.cap_apply.proofs.Common.{on_ok_weaker, update_record, flags-past, set_fields}
+use Rattle.std.proofs.Common.{◌≡◌, false, drop, get_or, if◌then◌else◌, arith}
+use Rattle.cap_apply.proofs.Common.{flags-past}
 use Rattle.cap_apply.proofs.FieldLemmas.{bytes_put, no_kept, no_set}
 use Rattle.cap_apply.proofs.fields.set_fields.Goals as goal
 
@@ -17,6 +17,4 @@ pub returns : goal.returns
 returns g c =
     let flags = c.args.flags.now in
     let i = c.loop-flag.flag-index in
-    let left : c.loop-flag.builder ++ c.loop-flag.rest ≡ c.args.builder.now ++ set_fields (update_record flags c.args.key.now c.args.new.now) c.args.row =
-    grind (arith, flags-past flags i, no_set (drop i flags) c.loop-flag.key, no_kept (drop i flags) c.loop-flag.new) in
-    on_ok_weaker c.push_rest.result (λ is. is ∙ left) c.push_rest.ensures.pushed
+    grind (arith, flags-past flags i, no_set (drop i flags) c.loop-flag.key, no_kept (drop i flags) c.loop-flag.new)
