@@ -22,7 +22,7 @@ use Rattle.cap_changes.proofs.FitLemmas.{full_keyed}
 use Rattle.cap_changes.proofs.ValueLemmas.{each_of, values_of}
 use Rattle.cap_group.specs.ChangeKey.{change_key, key_values, patch_key}
 use Rattle.cap_group.specs.Record.{record_over, differ, field_of, old_field, new_field, update_between}
-use Rattle.cap_group.specs.Combined.{Stands, combined, patches_combined}
+use Rattle.cap_group.specs.Combined.{KeepsRow, combined, patches_combined}
 
 if_some : {X : Type 0} (P : X → Type 0) (b : Bool) (x : X) → P x → IfSome (cond b (Some x) None) P
 if_some P true x p = p
@@ -80,15 +80,15 @@ module _ {A : Type 0} where
   side_each old (key ∷ flags) (b ∷ before) (a ∷ after) p q = grind (arith, side_each old flags before after)
   side_each old flags before after p q = tt
 
-  abbrev StandsChange : List Bool → RowChange A → RowChange A → RowChange A → Type 0
-  StandsChange = Stands change_fits change_key HasValues
+  abbrev KeepsChangeRow : List Bool → RowChange A → RowChange A → RowChange A → Type 0
+  KeepsChangeRow = KeepsRow change_fits change_key HasValues
 
-  update_stands : (flags : List Bool) (indirect : Bool) (before after : RecordFields A) (present added : RowChange A) → are_alike flags before after ≡ true → key_values flags before ≡ change_key flags present →
-      (HasValues present → HasValues added → AreValues before × AreValues after) → IfSome (update_between flags indirect before after) (StandsChange flags present added)
-  update_stands flags indirect before after present added alike of values =
+  update_keeps : (flags : List Bool) (indirect : Bool) (before after : RecordFields A) (present added : RowChange A) → are_alike flags before after ≡ true → key_values flags before ≡ change_key flags present →
+      (HasValues present → HasValues added → AreValues before × AreValues after) → IfSome (update_between flags indirect before after) (KeepsChangeRow flags present added)
+  update_keeps flags indirect before after present added alike of values =
       let is = between flags before after alike in
       let side = λ (old : Bool) (p : AreValues before) (q : AreValues after). values_of _ (side_each old flags before after (each_of before p) (each_of after q)) in
-      if_some (StandsChange flags present added) (differ flags before after) _ (record {
+      if_some (KeepsChangeRow flags present added) (differ flags before after) _ (record {
         fit = and_from _ _ is.0 is.1;
         keyed = λ same. is.2 ∙ of;
         values = λ p q. let v = values p q in (side true v.0 v.1, side false v.0 v.1);
@@ -96,35 +96,35 @@ module _ {A : Type 0} where
 
   -- ---- all changes
 
-  pub combined_stand : (flags : List Bool) (present added : RowChange A) → change_fits flags present ≡ true → change_fits flags added ≡ true → IfSome (combined flags present added) (StandsChange flags present added)
-  combined_stand flags (changed.Insert indirect new) (changed.Update indirect' old' new') fit fit' =
+  pub combined_keep : (flags : List Bool) (present added : RowChange A) → change_fits flags present ≡ true → change_fits flags added ≡ true → IfSome (combined flags present added) (KeepsChangeRow flags present added)
+  combined_keep flags (changed.Insert indirect new) (changed.Update indirect' old' new') fit fit' =
       let both = and_parts _ _ fit' in
       let is = new_over flags new old' new' fit both.0 both.1 in
       record { fit = is.0; keyed = λ same. is.1; values = λ p q. over_values new new' p q.1 }
-  combined_stand flags (changed.Insert indirect new) (changed.Delete indirect' old') fit fit' = tt
-  combined_stand flags (changed.Update indirect old new) (changed.Update indirect' old' new') fit fit' =
+  combined_keep flags (changed.Insert indirect new) (changed.Delete indirect' old') fit fit' = tt
+  combined_keep flags (changed.Update indirect old new) (changed.Update indirect' old' new') fit fit' =
       let both = and_parts _ _ fit in
       let both' = and_parts _ _ fit' in
-      update_stands flags (indirect && indirect') (record_over old' old) (record_over new new') _ _ (updates_alike flags old new old' new' both.0 both.1 both'.0 both'.1) (over Keyed (λ value. refl) flags old' old both'.0 both.0).1
+      update_keeps flags (indirect && indirect') (record_over old' old) (record_over new new') _ _ (updates_alike flags old new old' new' both.0 both.1 both'.0 both'.1) (over Keyed (λ value. refl) flags old' old both'.0 both.0).1
       (λ p q. (over_values old' old q.0 p.0, over_values new new' p.1 q.1))
-  combined_stand flags (changed.Update indirect old new) (changed.Delete indirect' old') fit fit' =
+  combined_keep flags (changed.Update indirect old new) (changed.Delete indirect' old') fit fit' =
       let is = over Full (λ value. refl) flags old' old fit' (and_parts _ _ fit).0 in
       record { fit = is.0; keyed = λ same. is.1; values = λ p q. over_values old' old q p.0 }
-  combined_stand flags (changed.Delete indirect old) (changed.Insert indirect' new') fit fit' =
-      update_stands flags (indirect && indirect') old new' _ _ (rows_alike flags old new' fit fit') refl (λ p q. (p, q))
-  combined_stand flags present added fit fit' = record { fit = fit; keyed = λ same. refl; values = λ p q. p }
+  combined_keep flags (changed.Delete indirect old) (changed.Insert indirect' new') fit fit' =
+      update_keeps flags (indirect && indirect') old new' _ _ (rows_alike flags old new' fit fit') refl (λ p q. (p, q))
+  combined_keep flags present added fit fit' = record { fit = fit; keyed = λ same. refl; values = λ p q. p }
 
-  pub patches_stand : (flags : List Bool) (present added : Patch A) → patch_fits flags present ≡ true → patch_fits flags added ≡ true → IfSome (patches_combined present added) (Stands patch_fits patch_key PatchHasValues flags present added)
-  patches_stand flags (patched.Insert indirect new) (patched.Update indirect' new') fit fit' =
+  pub patches_keep : (flags : List Bool) (present added : Patch A) → patch_fits flags present ≡ true → patch_fits flags added ≡ true → IfSome (patches_combined present added) (KeepsRow patch_fits patch_key PatchHasValues flags present added)
+  patches_keep flags (patched.Insert indirect new) (patched.Update indirect' new') fit fit' =
       let is = over Full (λ value. refl) flags new new' fit fit' in
       record { fit = is.0; keyed = λ same. is.1 ∙ same; values = over_values new new' }
-  patches_stand flags (patched.Insert indirect new) (patched.Delete indirect' key') fit fit' = tt
-  patches_stand flags (patched.Update indirect new) (patched.Update indirect' new') fit fit' =
+  patches_keep flags (patched.Insert indirect new) (patched.Delete indirect' key') fit fit' = tt
+  patches_keep flags (patched.Update indirect new) (patched.Update indirect' new') fit fit' =
       let is = over Keyed (λ value. refl) flags new new' fit fit' in
       record { fit = is.0; keyed = λ same. is.1 ∙ same; values = over_values new new' }
-  patches_stand flags (patched.Update indirect new) (patched.Delete indirect' key') fit fit' = record { fit = fit'; keyed = λ same. same; values = λ p q. q }
-  patches_stand flags (patched.Delete indirect key) (patched.Insert indirect' new') fit fit' = record { fit = full_keyed flags new' fit'; keyed = λ same. same; values = λ p q. q }
-  patches_stand flags present added fit fit' = record { fit = fit; keyed = λ same. refl; values = λ p q. p }
+  patches_keep flags (patched.Update indirect new) (patched.Delete indirect' key') fit fit' = record { fit = fit'; keyed = λ same. same; values = λ p q. q }
+  patches_keep flags (patched.Delete indirect key) (patched.Insert indirect' new') fit fit' = record { fit = full_keyed flags new' fit'; keyed = λ same. same; values = λ p q. q }
+  patches_keep flags present added fit fit' = record { fit = fit; keyed = λ same. refl; values = λ p q. p }
 
   pub combined-fits : (flags : List Bool) (present added : RowChange A) → change_fits flags present ≡ true → change_fits flags added ≡ true → IfSome (combined flags present added) (λ one. IsTrue (change_fits flags one))
-  combined-fits flags present added fit fit' = IfSome_then (combined flags present added) (combined_stand flags present added fit fit') (λ one is. is.fit)
+  combined-fits flags present added fit fit' = IfSome_then (combined flags present added) (combined_keep flags present added fit fit') (λ one is. is.fit)

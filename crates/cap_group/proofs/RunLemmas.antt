@@ -17,7 +17,7 @@ use Rattle.cap_tree.specs.Tree.{IsOrdered, get}
 use Rattle.cap_tree.proofs.EntryLemmas.{Each, below_middle, each_turn, get-past, put_entry-past, take_entry-past, reversed, sorted_nil}
 use Rattle.cap_changes.specs.Entries.{TableEntries}
 use Rattle.cap_changes.proofs.LeftLemmas.{drop_here}
-use Rattle.cap_group.specs.Combined.{AllStand}
+use Rattle.cap_group.specs.Combined.{KeepRows}
 use Rattle.cap_group.specs.KeyedChanges.{KeyedChanges, change_after, entries_of, keyed_of, no_changes, set_change, with_change, with_changes}
 use Rattle.cap_group.specs.Place.{IsPlace, Place, place_cmp, place_eq}
 use Rattle.cap_group.proofs.SortLemmas.{all_ordered}
@@ -63,9 +63,9 @@ module _ {A X : Type 0} (key : List Bool → X → Fields A) (combine : List Boo
     abbrev Own : Fields A → X → Type 0
     Own k x = IsTrue (fits flags x) × (key flags x ≡ k)
 
-    own_after : (Values : X → Type 0) → AllStand fits key Values combine → (k : Fields A) (o : Option X) (x : X) → IfSome o (Own k) → Own k x → IfSome (change_after combine flags o x) (Own k)
-    own_after Values stand k None x own one = one
-    own_after Values stand k (Some present) x own one = IfSome_then (combine flags present x) (stand flags present x own.0 one.0) (λ change is. (is.fit, is.keyed (one.1 ∙ sym own.1) ∙ own.1))
+    own_after : (Values : X → Type 0) → KeepRows fits key Values combine → (k : Fields A) (o : Option X) (x : X) → IfSome o (Own k) → Own k x → IfSome (change_after combine flags o x) (Own k)
+    own_after Values keeps k None x own one = one
+    own_after Values keeps k (Some present) x own one = IfSome_then (combine flags present x) (keeps flags present x own.0 one.0) (λ change is. (is.fit, is.keyed (one.1 ∙ sym own.1) ∙ own.1))
 
     -- the last of the changes under the key of its row
     last_row : (xs : List X) (k : Fields A) (o : Option X) → IfSome o (Own k) → under (xs ++ option_to_list o) ≡ under xs ++ at_key k o
@@ -93,7 +93,7 @@ module _ {A X : Type 0} (key : List Bool → X → Fields A) (combine : List Boo
         pub own : IfSome o (Own k)
         pub left : with_changes key combine (keyed (xs ++ option_to_list o)) (changes_from i) ≡ whole
 
-      module _ (Values : X → Type 0) (stand : AllStand fits key Values combine) (each : All (IsPlace key fits flags) all) (i : ℕ) (p : Place A X) (within : i < length all) (is : p ≡ get_or all i p) where
+      module _ (Values : X → Type 0) (keeps : KeepRows fits key Values combine) (each : All (IsPlace key fits flags) all) (i : ℕ) (p : Place A X) (within : i < length all) (is : p ≡ get_or all i p) where
         own_at : Own p.key p.change
         own_at = subst (λ (q : Place A X). Own q.key q.change) (sym is) ((each i p within).fit, sym (each i p within).keyed)
 
@@ -102,7 +102,7 @@ module _ {A X : Type 0} (key : List Bool → X → Fields A) (combine : List Boo
         put_same k xs o same so_far =
             let before = subst (λ (k : Fields A). IsPut k i xs o) same so_far in
             let made = change_after combine flags o p.change in
-            let own = own_after Values stand p.key o p.change before.own own_at in
+            let own = own_after Values keeps p.key o p.change before.own own_at in
             let at_end : with_change key combine (keyed (xs ++ option_to_list o)) p.change ≡ keyed (xs ++ option_to_list made) =
             rw (own_at.1, last_row xs p.key o before.own, get_at (under xs) p.key o before.past, set_at (under xs) p.key o made before.past, last_row xs p.key made own) refl in
             record {

@@ -51,14 +51,14 @@ module _ {A : Type 0} where
 
 -- What two changes of one row become fits the table that both fit, is of that row, and has values where both
 -- have.
-pub record Stands {A X : Type 0} (fits : List Bool → X → Bool) (key : List Bool → X → Fields A)
+pub record KeepsRow {A X : Type 0} (fits : List Bool → X → Bool) (key : List Bool → X → Fields A)
     (Values : X → Type 0) (flags : List Bool) (present added change : X) : Type 0 where
   pub fit : IsTrue (fits flags change)
   pub keyed : key flags added ≡ key flags present → key flags change ≡ key flags present
   pub values : Values present → Values added → Values change
 
-abbrev pub AllStand : {A X : Type 0} → (List Bool → X → Bool) → (List Bool → X → Fields A) → (X → Type 0) →
+abbrev pub KeepRows : {A X : Type 0} → (List Bool → X → Bool) → (List Bool → X → Fields A) → (X → Type 0) →
     (List Bool → X → X → Option X) → Type 0
-AllStand {X = X} fits key Values combine = (flags : List Bool) (present added : X) →
+KeepRows {X = X} fits key Values combine = (flags : List Bool) (present added : X) →
     IsTrue (fits flags present) → IsTrue (fits flags added) →
-    IfSome (combine flags present added) (Stands fits key Values flags present added)
+    IfSome (combine flags present added) (KeepsRow fits key Values flags present added)

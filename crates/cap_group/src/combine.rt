@@ -5,7 +5,7 @@ ghost use Rattle.std.specs.Option.{option_to_list};
 ghost use Rattle.cap_row.specs.Fields.{Fields};
 ghost use Rattle.cap_changes.specs.Stored.{IsEntry};
 ghost use Rattle.cap_group.specs.ChangeKey.{key_values};
-ghost use Rattle.cap_group.specs.Combined.{AllStand};
+ghost use Rattle.cap_group.specs.Combined.{KeepRows};
 
 use cap_changes::{Entry, EntryRef, RecordRef};
 use cap_value::{AllocHandle, OutOfMemory};
@@ -37,8 +37,8 @@ pub(crate) trait Combine<A: AllocHandle>: Entry {
         ensures some { IfOk result (λ some. some ≡ is_some (combined flags.now present.now added.now)) };
 
     // A law: what two changes of one row become is a change of that row. Does nothing at run time.
-    fn stands()
-        ensures { AllStand Self.fits_in key Self.has_values combined };
+    fn keeps_row()
+        ensures { KeepRows Self.fits_in key Self.has_values combined };
 
     // The bytes of a change that fits are of just this one.
     ghost stored_again: { (flags : List Bool) (change : Self) (bytes : List ℕ) →

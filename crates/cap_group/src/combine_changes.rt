@@ -77,8 +77,8 @@ impl<A: AllocHandle> Combine<A> for RowChange<A> {
         }
     }
 
-    #[tactic(auto, using(crate::proofs::FitLemmas::combined_stand))]
-    fn stands() {}
+    #[tactic(auto, using(crate::proofs::FitLemmas::combined_keep))]
+    fn keeps_row() {}
 
     ghost stored_again = { λ flags change bytes fits values spelled.
         change_entry flags change bytes fits values spelled };

@@ -71,8 +71,8 @@ impl<A: AllocHandle> Combine<A> for Patch<A> {
         }
     }
 
-    #[tactic(auto, using(crate::proofs::FitLemmas::patches_stand))]
-    fn stands() {}
+    #[tactic(auto, using(crate::proofs::FitLemmas::patches_keep))]
+    fn keeps_row() {}
 
     ghost stored_again = { λ flags change bytes fits values spelled.
         patch_entry flags change bytes fits values spelled };

@@ -48,7 +48,7 @@ fn push_rows<'a, C: Combine<A> + Drop, A: AllocHandle>(
         return Ok(());
     }
     // For the proof: what changes of one row become is of that row.
-    C::stands();
+    C::keeps_row();
     let mut row = Together::new(alloc, flags);
     row.add(places[0].change())?;
     for number in 1..places.len() {

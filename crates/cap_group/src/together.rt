@@ -88,7 +88,7 @@ impl<'a, C: Combine<A> + Drop, A: AllocHandle> Together<'a, C, A> {
             return Ok(());
         }
         // For the proof: what the changes become is a change of their row.
-        C::stands();
+        C::keeps_row();
         self.spare.clear();
         let present = EntryRef::of(self.flags, either(self.is_only, self.only, &self.bytes));
         self.some = C::push_combined(&mut self.spare, self.flags, &present, added)?;

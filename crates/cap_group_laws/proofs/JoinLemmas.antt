@@ -1,5 +1,5 @@
 -- Two changes of one row, each between two of its states, are together the change from the first to the last.
-use Rattle.std.proofs.Common.{◌≡◌, List, [], ◌∷◌, length, map, Bool, not, ◌&&◌, Option, Some, None, cond, refl, ap, sym, subst, ◌∙◌, arith}
+use Rattle.std.proofs.Common.{◌≡◌, List, [], ◌∷◌, length, map, Bool, false, not, ◌&&◌, Option, Some, None, cond, refl, ap, sym, subst, ◌∙◌, arith}
 use Rattle.std.specs.Prelude.{fold}
 use Rattle.std.specs.List.{AllByRecursion, list_any}
 use Rattle.std.proofs.lemmas.Simd.{map-map}
@@ -125,3 +125,7 @@ module _ {A : Type 0} where
   pub follow : (flags : List Bool) (key : Fields A) (m : Bool) (first : Option (Fields A)) (changes : List (RowChange A)) (last : Option (Fields A)) → ForSome first (IsRowUnder flags key) → Follow flags key first changes last →
       (flag : Bool) × (together combined flags changes ≡ change_of flags flag first last) × (AllByRecursion (λ change. is_indirect change ≡ m) changes → flag ≡ m)
   follow flags key m first changes last f h = rw none_yet at (follow_from flags key m first first changes last f f h)
+
+  pub followed : (flags : List Bool) (key : Fields A) (first : Option (Fields A)) (changes : List (RowChange A)) (last : Option (Fields A)) →
+      ForSome first (IsRowUnder flags key) → Follow flags key first changes last → (flag : Bool) × (together combined flags changes ≡ change_of flags flag first last)
+  followed flags key first changes last f h = let so = follow flags key false first changes last f h in (so.0, so.1)

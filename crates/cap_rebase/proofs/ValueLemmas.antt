@@ -16,7 +16,7 @@ use Rattle.cap_changes.proofs.InvertLemmas.{inverse_of-fits}
 use Rattle.cap_changes.proofs.ValueLemmas.{each_of, values_of, inverse_values}
 use Rattle.cap_group.specs.Combined.{combined}
 use Rattle.cap_group.specs.Rows.{is_indirect}
-use Rattle.cap_group.proofs.ValueLemmas.{combined_stands}
+use Rattle.cap_group.proofs.ValueLemmas.{combined_values}
 use Rattle.cap_rebase.specs.Flag.{flagged}
 use Rattle.cap_rebase.specs.Rebase.{field_left, new_left, old_left, over_omitted, over_replaced, rebased}
 
@@ -68,4 +68,4 @@ module _ {A : Type 0} where
   rebased_values flags remote local fit fit' v w =
       either (is_indirect remote) (over_replaced flags remote local) (over_omitted flags remote local) HasValues (replaced_values flags remote local w)
       (reflagged_values flags (is_indirect local) (combined flags (inverse_of flags remote) local)
-      (combined_stands flags (inverse_of flags remote) local (inverse_of-fits flags remote fit) fit' (inverse_values flags remote v) w))
+      (combined_values flags (inverse_of flags remote) local (inverse_of-fits flags remote fit) fit' (inverse_values flags remote v) w))

@@ -19,7 +19,7 @@ loop-number-init g c =
       schema = c.requires.columns;
       flags = rw (c.in_ok-add.ensures, c.new-row.ensures) refl;
       put = λ d. rw (get_or_default c.args.places.now 0 d p.result lt, ← p.is, c.requires.none, c.in_ok-add.ensures, c.new-row.ensures, c.change.ensures)
-          (put_same g.C.Combine.key g.C.Combine.combined c.args.group.now.table c.args.flags.now g.C.Entry.fits_in c.args.places.now g.C.Entry.has_values c.stands.ensures c.requires.each 0 p.result lt p.is p.result.key [] None refl (record { past = tt; own = tt; left = refl }));
+          (put_same g.C.Combine.key g.C.Combine.combined c.args.group.now.table c.args.flags.now g.C.Entry.fits_in c.args.places.now g.C.Entry.has_values c.keeps_row.ensures c.requires.each 0 p.result lt p.is p.result.key [] None refl (record { past = tt; own = tt; left = refl }));
     }
 
 pub loop-number-preserved : goal.loop-number-preserved
@@ -36,7 +36,7 @@ loop-number-preserved g c =
         schema = c.loop-number.invariant.schema;
         flags = c.loop-number.invariant.flags;
         put = λ d. rw (less, get_or_default c.args.places.now n d p.result c.loop-number-test.true, ← p.is)
-            (put_other g.C.Combine.key g.C.Combine.combined c.args.group.now.table c.args.flags.now g.C.Entry.fits_in c.args.places.now g.C.Entry.has_values c.stands.ensures c.requires.each n p.result c.loop-number-test.true p.is
+            (put_other g.C.Combine.key g.C.Combine.combined c.args.group.now.table c.args.flags.now g.C.Entry.fits_in c.args.places.now g.C.Entry.has_values c.keeps_row.ensures c.requires.each n p.result c.loop-number-test.true p.is
             q.result c.loop-number.group.changes c.loop-number.row.change q.is (omega (arith, c.loop-number.auto.number)) c.requires.sorted (sym tested ∙ grind (arith, w.if-not-is_eq.true)) before);
       })
       | else-not-is_eq w ↦ rw (c.in_ok-add-2.ensures, w.group-is, w.row-is, c.change-in-loop-number.ensures, c.loop-number.invariant.flags) (record {
@@ -44,7 +44,7 @@ loop-number-preserved g c =
         schema = c.loop-number.invariant.schema;
         flags = refl;
         put = λ d. rw (less, get_or_default c.args.places.now n d p.result c.loop-number-test.true, ← p.is)
-            (put_same g.C.Combine.key g.C.Combine.combined c.args.group.now.table c.args.flags.now g.C.Entry.fits_in c.args.places.now g.C.Entry.has_values c.stands.ensures c.requires.each n p.result c.loop-number-test.true p.is
+            (put_same g.C.Combine.key g.C.Combine.combined c.args.group.now.table c.args.flags.now g.C.Entry.fits_in c.args.places.now g.C.Entry.has_values c.keeps_row.ensures c.requires.each n p.result c.loop-number-test.true p.is
             q.result.key c.loop-number.group.changes c.loop-number.row.change ((fields_eq_decides q.result.key p.result.key).0 (sym tested ∙ grind (arith, w.if-not-is_eq.false))) before);
       })
     ]
