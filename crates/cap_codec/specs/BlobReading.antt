@@ -44,7 +44,8 @@ module _ {A : Type 0} where
   blob_at [] = Ok (Changes [])
   blob_at (kind ∷ bytes) =
       if kind == changeset_kind
-      then groups_at (entries_at change_at) kind (length (kind ∷ bytes)) (length (kind ∷ bytes)) (kind ∷ bytes)
+      then groups_at (entries_at change_at) kind (length (kind ∷ bytes)) (length (kind ∷ bytes))
+      (kind ∷ bytes)
       >>= (λ groups. Ok (Changes groups))
       else (if kind == patchset_kind
       then groups_at (entries_at patch_at) kind (length (kind ∷ bytes)) (length (kind ∷ bytes)) (kind ∷ bytes)
