@@ -1,5 +1,5 @@
 //! The key of the row that a change is of, in place.
-ghost use Rattle.std.specs.Prelude.{◌≡◌, ◌∷◌, [], MatchOption, None, if◌then◌else◌};
+ghost use Rattle.std.specs.Prelude.{◌≡◌};
 ghost use Rattle.std.specs.Map.Iter.{TakesFirst};
 ghost use Rattle.cap_field.specs.FieldReading.{value_of};
 ghost use Rattle.cap_row.specs.Key.{fields_cmp};
@@ -55,16 +55,14 @@ impl<'a, A: AllocHandle> KeyRef<'a, A> {
     pub(crate) fn next_value(&mut self) -> Option<ValueRef<'a>>
         ensures { TakesFirst (value_of {A = A}) self.old result self.new }
     {
-        match first_value(self.flags, &mut self.fields) {
-            Some((value, others)) => {
-                self.flags = others;
-                Some(value)
-            }
-            None => {
-                self.flags = &[];
-                None
+        while let [key, others @ ..] = self.flags {
+            self.flags = others;
+            let field = self.fields.next_field()?;
+            if let (true, Some(value)) = (*key, field) {
+                return Some(value);
             }
         }
+        None
     }
 
     // The order of keys.
@@ -100,24 +98,4 @@ fn key_columns<A: AllocHandle>(flags: &[bool]) -> &[bool]
         keys = front;
     }
     keys
-}
-
-// The first value of a key field, and the flags behind it.
-#[inline(always)]
-fn first_value<'a, A: AllocHandle>(
-    flags: &'a [bool],
-    fields: &mut RecordRef<'a, A>,
-) -> Option<(ValueRef<'a>, &'a [bool])>
-    ensures { MatchOption result (key_values flags.now fields.old ≡ []) (λ found.
-        key_values flags.now fields.old ≡ value_of found.0 ∷ key_values found.1.now fields.new) }
-{
-    let mut rest = flags;
-    while let [key, others @ ..] = rest {
-        let field = fields.next_field()?;
-        if let (true, Some(value)) = (*key, field) {
-            return Some((value, others));
-        }
-        rest = others;
-    }
-    None
 }
