@@ -22,6 +22,7 @@ use cap_value::AllocHandle;
 
 /// The concatenation of one list is that list without its empty groups, where it has one change for each row
 /// as SQLite makes them.
+#[tactic(auto, using(crate::proofs::AloneLemmas::one_blob))]
 pub fn one_list_alone<A: AllocHandle>()
     ensures { (blob : Contents A) → BlobHasOneForEachRow blob →
         concat_of (blob ∷ []) ≡ Ok (with_some blob) }
