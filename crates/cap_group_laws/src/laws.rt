@@ -29,6 +29,7 @@ pub fn one_list_alone<A: AllocHandle>()
 {}
 
 /// The change at each key of a table is what the changes of that row make together, one after the other.
+#[tactic(auto, using(cap_group::proofs::RowLemmas::row_alone))]
 pub fn each_row_by_itself<A: AllocHandle>()
     ensures changes { (table : List ℕ) (flags : List Bool) (changes : List (RowChange A)) (row : Fields A) →
         get fields_cmp (with_changes change_key combined (no_changes table flags) changes).changes row
