@@ -1,8 +1,8 @@
 -- Each change of a blob is applied, omitted or in a skipped group, and no change and no group comes twice in a report.
-use Rattle.std.proofs.Common.{◌≡◌, ℕ, ◌+◌, ◌<◌, ◌≤◌, inl, inr, Bool, true, false, Some, None, Result, Ok, Err, List, [], ◌∷◌, ◌++◌, length, map, take, drop, get_or, refl, sym, ap, subst, ◌∙◌, arith, length-append, IfOk, is_some, sum, take-take}
+use Rattle.std.proofs.Common.{◌≡◌, ℕ, ◌+◌, ◌<◌, ◌≤◌, inl, inr, Bool, true, Some, None, Result, List, [], ◌∷◌, ◌++◌, length, map, take, drop, get_or, refl, sym, ap, subst, ◌∙◌, arith, length-append, IfOk, is_some, sum, take-take}
 use Rattle.std.proofs.lemmas.List.Sums.{sum_by-take-drop, sum_by-take-le, sum_by_more, sum_by_push}
 use Rattle.cap_tree.proofs.EntryLemmas.{all_append}
-use Rattle.cap_apply.proofs.Common.{AllByRecursion, drop_more, length-map, IfOk-weaker, map-map, Refusal, fields_cmp, get, Tables, TableEntries, taken, Contents, Changes, Patches, AppliedState, apply, change_applied, changes_applied, concluded, counted, group_applied, groups_applied, left_out, noted, nothing_applied, skipped, skipped_unless, with_row_in, Requested, requested_of, is_made, conflict_of, key_record_of, key_values, row_after, target}
+use Rattle.cap_apply.proofs.Common.{AllByRecursion, drop_more, length-map, IfOk-weaker, map-map, Refusal, fields_cmp, get, Tables, TableEntries, taken, Contents, Changes, Patches, AppliedState, apply, change_applied, changes_applied, concluded, counted, group_applied, groups_applied, left_out, noted, nothing_applied, skipped, with_row_in, Requested, requested_of, is_made, conflict_of, key_record_of, key_values, row_after, target}
 use Rattle.cap_apply.specs.declared.policy.Policy.{Policy}
 use Rattle.cap_apply.proofs.ChangeLemmas.{applied_at, has_target}
 use Rattle.cap_apply.proofs.GroupLemmas.{both_keep, changes_keep, changes_skipped, target_stays}
@@ -99,27 +99,20 @@ module _ {A : Type 0} (blob : Contents A) where
         let conflict = conflict_of flags requested.old requested.patch before in
         let kept = noted policy number conflict state in
         let kept_told : IsTold place number kept = elim conflict as (λ k. IsTold place number (noted policy number k state)) [ None ↦ told | Some kind ↦ told ] in
-        still (change_applied policy number name flags requested state) refl (subst (λ r. IfOk r (IsTold place (number + 1))) (sym (applied_at policy number name flags requested state h before conflict refl refl))
-        (concluded-told number (counted (with_row_in name h.table key before (row_after (length h.table.schema) requested.patch before) kept)) kept (is_made policy number conflict) from kept_told refl))
-      where
-        still : (r : Result (AppliedState A) Refusal) → change_applied policy number name flags requested state ≡ r → IfOk r (IsTold place (number + 1)) → IfOk r (IsWithin (number + 1))
-        still (Ok next) is more = (target_stays policy number name flags requested state next there is, omega (arith, from), more)
-        still (Err why) is more = tt
+        let more = subst (λ r. IfOk r (IsTold place (number + 1))) (sym (applied_at policy number name flags requested state h before conflict refl refl))
+        (concluded-told number (counted (with_row_in name h.table key before (row_after (length h.table.schema) requested.patch before) kept)) kept (is_made policy number conflict) from kept_told refl) in
+        grind (arith, there, from, more, target_stays policy number name flags requested state)
 
   group-told : (policy : Policy) (place number : ℕ) (group : TableEntries (Requested A)) (state : AppliedState A) → number ≡ first_of blob place → get_or (group_sizes blob) place 0 ≡ size group → IsTold place number state
       → IfOk (group_applied policy place number group state) (IsTold (place + 1) (number + size group))
-  group-told policy place number group state from is told = by_target (is_some (target state.database group.table group.schema)) refl
-    where
-      by_target : (there : Bool) → is_some (target state.database group.table group.schema) ≡ there
-          → IfOk (changes_applied policy number group.table group.schema group.changes (skipped_unless there place state)) (IsTold (place + 1) (number + size group))
-      by_target true there =
-          IfOk-weaker (changes_applied policy number group.table group.schema group.changes state) (IsWithin policy group.table group.schema place (number + size group)) (IsTold (place + 1) (number + size group))
-          (λ left within. let wider = rise-wider 0 place (place + 1) left.report.skipped within.2.groups (omega arith) in grind (arith, within.2, wider))
-          (changes_keep policy group.table group.schema (λ _. Unit {0}) (IsWithin policy group.table group.schema place) (λ n requested next _. change-told policy group.table group.schema place n requested next)
-          group.changes number (number + size group) state refl (λ _ _ _. tt) (there, omega (arith, from), told))
-      by_target false there =
-          subst (λ r. IfOk r (IsTold (place + 1) (number + size group))) (sym (changes_skipped policy group.table group.schema number group.changes (skipped place state) there))
-          (told-skipped place number (size group) state told from is)
+  group-told policy place number group state from is told =
+      let applied = λ (there : is_some (target state.database group.table group.schema) ≡ true).
+      IfOk-weaker (changes_applied policy number group.table group.schema group.changes state) (IsWithin policy group.table group.schema place (number + size group)) (IsTold (place + 1) (number + size group))
+      (λ left within. let wider = rise-wider 0 place (place + 1) left.report.skipped within.2.groups (omega arith) in grind (arith, within.2, wider))
+      (changes_keep policy group.table group.schema (λ _. Unit {0}) (IsWithin policy group.table group.schema place) (λ n requested next _. change-told policy group.table group.schema place n requested next)
+      group.changes number (number + size group) state refl (λ _ _ _. tt) (there, omega (arith, from), told)) in
+      let skips = told-skipped place number (size group) state told from is in
+      grind (arith, applied, skips, changes_skipped policy group.table group.schema number group.changes (skipped place state))
 
   abbrev pub IsToldWhole : AppliedState A → Type 0
   IsToldWhole state = IsTold (length (group_sizes blob)) (change_count blob) state

@@ -103,6 +103,10 @@ module _ {A : Type 0} where
     rows_given number name table ds state before =
         apply_all policy name table.schema (λ d. f table.schema d.change) (asks table.schema) ds number table state before.there refl before.ordered before.rows
 
+  pub changes_give : (policy : Policy) (number : ℕ) (name : List ℕ) (table : TableState A) (ds : List (Difference A)) (state : AppliedState A) → RowsBefore name table ds state.database
+      → GivesRowsNow policy number name table ds (requested_by_changes table.schema ds) state
+  changes_give policy = rows_given policy requested_by_change change_asks
+
   module _ (flags : List Bool) where
     apart_turned : (key : Fields A) (ds : List (Difference A)) → (AreApart key ds → AreApart key (map (turned flags) ds)) × (AreApart key (map (turned flags) ds) → AreApart key ds)
     apart_turned key [] = (λ apart. apart, λ apart. apart)
@@ -119,7 +123,7 @@ module _ {A : Type 0} where
   inverse_gives policy number name table ds state before =
       let flags = table.schema in
       let asked = λ (d : Difference A). requested_by_change flags d.change in
-      let first = rows_given policy requested_by_change change_asks number name table ds state before in
+      let first = changes_give policy number name table ds state before in
       let left = first.0 in
       let rows = first.2 in
       let back = apply_all policy name flags asked (change_asks flags) (map (turned flags) ds) number rows.found left rows.there rows.columns rows.ordered (hold_turned flags table rows.found ds before.rows rows.rows) in

@@ -97,7 +97,6 @@ module _ {A : Type 0} where
           let row = new_row (length h.table.schema) new in
           subst (λ b. AreRun (inserts name key row b) state (left key before (Some row))) (sym found)
           (inserts-run key row before (length-new_row flags h.table.schema new h.fit keyed fits) (key_of-new_row flags h.table.schema new h.fit keyed fits) found)
-      made-run old (patched.Update indirect new) None found fits e = absurd (grind arith)
       made-run old (patched.Update indirect new) (Some row) found fits e =
           let key = key_values flags new in
           let fields = other_fields flags new in
@@ -106,9 +105,9 @@ module _ {A : Type 0} where
           let few : length fields ≤ length h.table.schema = omega (arith, as_many, length-zip flags new, few_fields flags h.table.schema new h.fit keyed fits) in
           update_is state name h.table h.there key fields row (set_fields new row) few found
           (set-others flags h.table.schema new row h.fit fits own.0 (key_is h.table.schema row key own.1)) (key_of-set_fields flags h.table.schema new h.fit keyed fits row own.0)
-      made-run old (patched.Delete indirect old_key) None found fits e = absurd (grind arith)
       made-run old (patched.Delete indirect old_key) (Some row) found fits e =
           delete_is state name h.table h.there (key_values flags old_key) row found
+      made-run old patch before found fits e = absurd (grind arith)
 
       concluded-as : (conflict : Option ConflictKind) (ops : List (Op A)) (key : Fields A) (before after : Option (Fields A)) (answer : Result Bool Refusal) → is_made policy number conflict ≡ answer
           → (answer ≡ Ok true → AreRun ops state (left key before after))
@@ -138,14 +137,13 @@ module _ {A : Type 0} where
         (concluded-as name flags keyed state rise h policy number conflict (operations_of_patch name flags table requested.patch) key before (row_after (length h.table.schema) requested.patch before)
         (is_made policy number conflict) refl (made-run name flags keyed state rise h policy number requested.old requested.patch before refl fits))
 
-    change-operations : (table : TableState A) (change : RowChange A) → change_fits flags change ≡ true → operations_of_patch name flags table (patch_of flags change) ≡ operations_of_change name flags table change
-    change-operations table change fits = grind (arith, update_key {A = A} flags, update_fits {A = A} flags, others-updated flags, record_key {A = A} flags)
-
     pub changes-are-run : (change : RowChange A) (state : AppliedState A) (table : TableState A) → AreRising state.database → has_key flags ≡ true → change_fits flags change ≡ true
         → target state.database name flags ≡ Some table
         → IfOk (change_applied policy number name flags (requested_by_change flags change) state) (IsMadeOrOmitted number (operations_of_change name flags table change) state)
     changes-are-run change state table rise keyed fits is =
-        subst (λ ops. IfOk (change_applied policy number name flags (requested_by_change flags change) state) (IsMadeOrOmitted number ops state)) (change-operations table change fits)
+        let same : operations_of_patch name flags table (patch_of flags change) ≡ operations_of_change name flags table change =
+        grind (arith, update_key {A = A} flags, update_fits {A = A} flags, others-updated flags, record_key {A = A} flags) in
+        subst (λ ops. IfOk (change_applied policy number name flags (requested_by_change flags change) state) (IsMadeOrOmitted number ops state)) same
         (requests-are-run (requested_by_change flags change) state table rise keyed (change-keyed flags change fits) is)
 
     pub patches-are-run : (patch : Patch A) (state : AppliedState A) (table : TableState A) → AreRising state.database → has_key flags ≡ true → patch_fits flags patch ≡ true

@@ -29,6 +29,7 @@ use cap_value::AllocHandle;
 
 /// A captured changeset, applied where each key has its first image, gives the rows now, under any policy: no
 /// change conflicts.
+#[tactic(auto, using(crate::proofs::DifferenceLemmas::changes_give))]
 pub fn changes_give_the_rows_now<A: AllocHandle>()
     ensures { (policy : Policy) (number : ℕ) (name : List ℕ) (table : TableState A) (ds : List (Difference A))
         (state : AppliedState A) → RowsBefore name table ds state.database →
