@@ -5,8 +5,8 @@ ghost use Rattle.cap_value.specs.Memory.{LeavesUnlessMemory, ShowsUnlessMemory};
 ghost use Rattle.cap_codec.specs.Spelling.{Spells};
 ghost use Rattle.cap_codec.specs.Writable.{blob_bytes_with};
 ghost use Rattle.cap_codec.specs.declared.read.Contents.{Contents};
-ghost use Rattle.cap_group.specs.Bytes.{all_bytes_added, concat_at, numbered_added};
-ghost use Rattle.cap_group.specs.ChangeGroup.{added, all_added, concat_of};
+ghost use Rattle.cap_group.specs.Bytes.{all_bytes_added, concat_at};
+ghost use Rattle.cap_group.specs.ChangeGroup.{all_added, concat_of};
 
 use crate::{ChangeGroup, ConcatRefusal};
 use cap_codec::KeyFlags;
