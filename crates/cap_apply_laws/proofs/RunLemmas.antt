@@ -10,7 +10,7 @@ use Rattle.cap_database_laws.proofs.UndoneLemmas.{put-again, put-found}
 use Rattle.cap_changes.specs.declared.record_kind.RecordKind.TheVariants as record_kinds
 use Rattle.cap_changes.specs.declared.patch.Patch.TheVariants as patched
 use Rattle.cap_changes.proofs.PatchLemmas.{update_fits}
-use Rattle.cap_apply.proofs.Common.{length-map, IfOk-at_ok, IfOk-weaker, bytes_cmp, Refusal, Fields, fields_cmp, fields_cmp_total, fields_eq_decides, key_fields, key_of, has_key, get, put_entry, take_entry, with_key, without, IsRising, TableState, Key, found-own, fields_same, changes_to, run, AreRising, Tables, Direct, Change, RecordFields, change_fits, patch_fits, patch_of, update_record, new_requirements, requirements, satisfy, RowChange, Patch, Contents, AppliedState, apply, change_applied, change_in, concluded, counted, left_out, noted, nothing_applied, with_row_in, FitsItsColumns, AreRun, IsMadeOrOmitted, deletes, directly, inserts, operations_of_change, operations_of_patch, other_fields, is_made, Requested, requested_by_change, requested_by_patch, requested_of, conflict_of, key_record_of, key_values, new_row, row_after, set_fields, columns_fit, target}
+use Rattle.cap_apply.proofs.Common.{length-map, IfOk-at_ok, IfOk-weaker, bytes_cmp, Refusal, Fields, fields_cmp, fields_cmp_total, fields_eq_decides, key_fields, key_of, has_key, get, put_entry, take_entry, with_key, without, IsRising, TableState, Key, found-own, fields_same, changes_to, run, AreRising, Tables, Direct, Change, RecordFields, change_fits, patch_fits, patch_of, update_record, new_requirements, requirements, satisfy, RowChange, Patch, Contents, AppliedState, apply, change_applied, concluded, counted, left_out, noted, nothing_applied, with_row_in, FitsItsColumns, AreRun, IsMadeOrOmitted, deletes, directly, inserts, operations_of_change, operations_of_patch, other_fields, is_made, Requested, requested_by_change, requested_by_patch, requested_of, conflict_of, key_record_of, key_values, new_row, row_after, set_fields, columns_fit, target}
 use Rattle.cap_apply.specs.declared.conflict.ConflictKind.{ConflictKind}
 use Rattle.cap_apply.specs.declared.policy.Policy.{Policy}
 use Rattle.cap_apply.proofs.ChangeLemmas.{HasTarget, applied_at, the_target}
@@ -159,14 +159,10 @@ module _ {A : Type 0} where
 
     change-reached : (number : ℕ) (name : List ℕ) (flags : List Bool) (requested : Requested A) (state : AppliedState A) → HasItsKey flags requested → Reached state → IfOk (change_applied policy number name flags requested state) Reached
     change-reached number name flags requested state keyed reached =
-        elim (target state.database name flags) as (λ t. target state.database name flags ≡ t → IfOk (change_in policy number name flags requested t state) Reached) [
-          | None ↦ λ _. reached
-          | Some table ↦ λ is.
-              let ops = operations_of_patch name flags table requested.patch in
-              subst (λ t. IfOk (change_in policy number name flags requested t state) Reached) is
-              (IfOk-weaker (change_applied policy number name flags requested state) (IsMadeOrOmitted number ops state) Reached (ended ops)
-              (requests-are-run policy number name flags requested state table (IfOk-at_ok (λ left. AreRising left.database) reached.1 (runs tables reached.0 rise)) keyed.0 keyed.1 is))
-        ] refl
+        let runs_on = λ (table : TableState A) (is : target state.database name flags ≡ Some table).
+        IfOk-weaker (change_applied policy number name flags requested state) (IsMadeOrOmitted number (operations_of_patch name flags table requested.patch) state) Reached (ended (operations_of_patch name flags table requested.patch))
+        (requests-are-run policy number name flags requested state table (IfOk-at_ok (λ left. AreRising left.database) reached.1 (runs tables reached.0 rise)) keyed.0 keyed.1 is) in
+        grind (arith, reached, runs_on)
       where
         ended : (ops : List (Op A)) (next : AppliedState A) → IsMadeOrOmitted number ops state next → Reached next
         ended ops next (inl made) =
