@@ -42,9 +42,8 @@ module _ {A : Type 0} where
   -- in a row of the key, setting the key fields as well sets nothing more
   set-others : (flags schema : List Bool) (fields : RecordFields A) (row : Fields A) → columns_fit flags schema ≡ true → satisfy (requirements record_kinds.Keyed flags) fields ≡ true →
       length row ≡ length schema → key_fields schema row ≡ key_values flags fields → set_fields (other_fields flags fields) row ≡ set_fields fields row
-  set-others [] schema [] row fit met wide is = refl
   set-others (flag ∷ flags) (own ∷ schema) (field ∷ fields) (value ∷ row) fit met wide is = let rest = set-others flags schema fields row in grind (arith, rest)
-  set-others flags schema fields row fit met wide is = cc
+  set-others flags schema fields row fit met wide is = grind arith
 
   -- the patch of an UPDATE has the fields of the new record beside the key
   others-updated : (flags : List Bool) (old new : RecordFields A) → satisfy (new_requirements flags old) new ≡ true → other_fields flags (update_record flags old new) ≡ new
