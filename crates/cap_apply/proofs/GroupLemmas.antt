@@ -15,8 +15,10 @@ module _ {A : Type 0} where
       subst (λ r. IfOk r (λ (s : AppliedState A). is_some (target s.database name flags) ≡ true)) ok
       (change_leaves (λ database changes. is_some (target database name flags) ≡ true) policy number name flags requested state e
       (λ h key before is found. let after = row_after (length h.table.schema) requested.patch before in
-      let fit : columns_fit flags (with_row h.table key after).schema ≡ true = ap (columns_fit flags) (same_columns h.table key after) ∙ h.fit in
-      rw (get_put bytes_cmp name (with_row h.table key after) (tied_itself nat_list_cmp_total name) state.database) (grind (arith, fit))))
+      let fit : columns_fit flags (with_row h.table key after).schema ≡ true =
+      ap (columns_fit flags) (same_columns h.table key after) ∙ h.fit in
+      rw (get_put bytes_cmp name (with_row h.table key after) (tied_itself nat_list_cmp_total name) state.database)
+      (grind (arith, fit))))
 
   -- ---- changes
 

@@ -32,5 +32,6 @@ module _ {A : Type 0} where
       let h = has_target tables name flags there in
       let key = key_values flags (key_record_of patch) in
       let before = get fields_cmp h.table.keyed key in
-      let own = leaves-own flags patch tables name h each has (patch-keyed flags patch fits) key before refl refl in
+      let own = leaves-own flags patch tables name h each has (patch-keyed flags patch fits)
+      key before refl refl in
       rw h.there (grind (arith, h.there, own))

@@ -112,7 +112,8 @@ module _ {A : Type 0} (blob : Contents A) where
       (changes_keep policy group.table group.schema (λ _. Unit {0}) (IsWithin policy group.table group.schema place) (λ n requested next _. change-told policy group.table group.schema place n requested next)
       group.changes number (number + size group) state refl (λ _ _ _. tt) (there, omega (arith, from), told)) in
       let skips = told-skipped place number (size group) state told from is in
-      grind (arith, applied, skips, changes_skipped policy group.table group.schema number group.changes (skipped place state))
+      let none = changes_skipped policy group.table group.schema number group.changes (skipped place state) in
+      grind (arith, applied, skips, none)
 
   abbrev pub IsToldWhole : AppliedState A → Type 0
   IsToldWhole state = IsTold (length (group_sizes blob)) (change_count blob) state

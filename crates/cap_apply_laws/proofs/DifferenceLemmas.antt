@@ -103,14 +103,17 @@ module _ {A : Type 0} where
     rows_given number name table ds state before =
         apply_all policy name table.schema (λ d. f table.schema d.change) (asks table.schema) ds number table state before.there refl before.ordered before.rows
 
-  pub changes_give : (policy : Policy) (number : ℕ) (name : List ℕ) (table : TableState A) (ds : List (Difference A)) (state : AppliedState A) → RowsBefore name table ds state.database
+  pub changes_give : (policy : Policy) (number : ℕ) (name : List ℕ) (table : TableState A) (ds : List (Difference A))
+      (state : AppliedState A) → RowsBefore name table ds state.database
       → GivesRowsNow policy number name table ds (requested_by_changes table.schema ds) state
   changes_give policy = rows_given policy requested_by_change change_asks
 
   module _ (flags : List Bool) where
-    apart_turned : (key : Fields A) (ds : List (Difference A)) → (AreApart key ds → AreApart key (map (turned flags) ds)) × (AreApart key (map (turned flags) ds) → AreApart key ds)
+    apart_turned : (key : Fields A) (ds : List (Difference A)) → (AreApart key ds → AreApart key (map (turned flags) ds))
+        × (AreApart key (map (turned flags) ds) → AreApart key ds)
     apart_turned key [] = (λ apart. apart, λ apart. apart)
-    apart_turned key (d ∷ ds) = let rest = apart_turned key ds in (λ apart. (apart.0, rest.0 apart.1), λ apart. (apart.0, rest.1 apart.1))
+    apart_turned key (d ∷ ds) =
+        let rest = apart_turned key ds in (λ apart. (apart.0, rest.0 apart.1), λ apart. (apart.0, rest.1 apart.1))
 
     hold_turned : (table found : TableState A) (ds : List (Difference A)) → HoldBefore flags table ds → HoldAfter found ds → HoldBefore flags found (map (turned flags) ds)
     hold_turned table found [] hold rows = tt

@@ -159,7 +159,9 @@ module _ {A : Type 0} where
     change-reached : (number : ℕ) (name : List ℕ) (flags : List Bool) (requested : Requested A) (state : AppliedState A) → HasItsKey flags requested → Reached state → IfOk (change_applied policy number name flags requested state) Reached
     change-reached number name flags requested state keyed reached =
         let runs_on = λ (table : TableState A) (is : target state.database name flags ≡ Some table).
-        IfOk-weaker (change_applied policy number name flags requested state) (IsMadeOrOmitted number (operations_of_patch name flags table requested.patch) state) Reached (ended (operations_of_patch name flags table requested.patch))
+        IfOk-weaker (change_applied policy number name flags requested state)
+        (IsMadeOrOmitted number (operations_of_patch name flags table requested.patch) state) Reached
+        (ended (operations_of_patch name flags table requested.patch))
         (requests-are-run policy number name flags requested state table (IfOk-at_ok (λ left. AreRising left.database) reached.1 (runs tables reached.0 rise)) keyed.0 keyed.1 is) in
         grind (arith, reached, runs_on)
       where

@@ -17,4 +17,5 @@ pub returns : goal.returns
 returns g c =
     let flags = c.args.flags.now in
     let i = c.loop-flag.flag-index in
-    grind (arith, flags-past flags i, no_set (drop i flags) c.loop-flag.key, no_kept (drop i flags) c.loop-flag.new)
+    let left = drop i flags in
+    grind (arith, flags-past flags i, no_set left c.loop-flag.key, no_kept left c.loop-flag.new)
