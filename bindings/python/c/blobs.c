@@ -137,29 +137,16 @@ typedef struct change_head {
   size_t table, old, new;
 } change_head;
 
-typedef uint32_t (*field_call)(changecap_iter *it, size_t column, changecap_value *value);
-typedef uint32_t (*bytes_call)(changecap_iter *it, size_t column, void *out, size_t room, size_t *len);
+typedef uint32_t (*record_call)(changecap_iter *it, void *out, size_t room, size_t *len);
 
-/* Puts the values before or after a change last, with an undefined field for each column that has none. */
-static uint32_t put_side(changecap_iter *it, size_t columns, field_call field, bytes_call bytes, arena *to){
-  changecap_value value;
-  for(size_t column = 0; column < columns; column++){
-    uint32_t status = field(it, column, &value);
-    if( status != CHANGECAP_OK ) return status;
-    if( !arena_has_room(to, CHANGECAP_FIELD_MAX(value.len)) ) return CHANGECAP_NOMEM;
-    uint8_t *at = to->at + to->n;
-    if( value.type == CHANGECAP_INTEGER ){
-      to->n += changecap_put_int(at, value.number);
-    }else if( value.type == CHANGECAP_TEXT || value.type == CHANGECAP_BLOB ){
-      to->n += put_head(at, value.type, value.len);
-      status = bytes(it, column, to->at + to->n, value.len, &value.len);
-      if( status != CHANGECAP_OK ) return status;
-      to->n += value.len;
-    }else{
-      to->n += value.type == CHANGECAP_NULL ? changecap_put_null(at) : changecap_put_undefined(at);
-    }
-  }
-  return CHANGECAP_OK;
+/* Puts the record of the row before or after a change last. */
+static uint32_t put_side(changecap_iter *it, record_call record, arena *to){
+  enum { FIRST = 128 };
+  uint32_t status;
+  size_t len = 0;
+  WRITTEN(status, to, FIRST, len, record(it, to->at + to->n, to->room - to->n, &len));
+  if( status == CHANGECAP_OK ) to->n += len;
+  return status;
 }
 
 /* Puts the name of the table and the key last. */
@@ -189,11 +176,11 @@ static uint32_t put_change(changecap_iter *it, arena *to){
   size_t before = to->n;
   /* Only what an operation has is asked for. */
   if( status == CHANGECAP_OK && head.info.op != CHANGECAP_INSERT )
-    status = put_side(it, head.info.columns, changecap_iter_old, changecap_iter_old_bytes, to);
+    status = put_side(it, changecap_iter_old_record, to);
   head.old = to->n - before;
   before = to->n;
   if( status == CHANGECAP_OK && head.info.op != CHANGECAP_DELETE )
-    status = put_side(it, head.info.columns, changecap_iter_new, changecap_iter_new_bytes, to);
+    status = put_side(it, changecap_iter_new_record, to);
   head.new = to->n - before;
   memcpy(to->at + begin, &head, sizeof head);
   return status;
@@ -254,8 +241,17 @@ static int see_table(table_seen *seen, const change_head *head, const uint8_t *a
   return seen->key != NULL;
 }
 
+static PyObject *insert_name, *update_name, *delete_name;
+
+int name_operations(void){
+  insert_name = PyUnicode_InternFromString("insert");
+  update_name = PyUnicode_InternFromString("update");
+  delete_name = PyUnicode_InternFromString("delete");
+  return insert_name && update_name && delete_name ? 0 : -1;
+}
+
 static PyObject *name_of_op(uint32_t op){
-  return PyUnicode_InternFromString(op == CHANGECAP_INSERT ? "insert" : op == CHANGECAP_UPDATE ? "update" : "delete");
+  return Py_NewRef(op == CHANGECAP_INSERT ? insert_name : op == CHANGECAP_UPDATE ? update_name : delete_name);
 }
 
 /* The next change of those that were put. */

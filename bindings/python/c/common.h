@@ -130,9 +130,6 @@ int put_assignments(arena *to, PyObject *fields);
 /* Puts the record of a key last, or sets the id of a row that has none. */
 int put_named(arena *to, PyObject *row, uint64_t *id);
 
-/* Writes the head of a field of n bytes, and answers how long it is. */
-size_t put_head(uint8_t *to, uint32_t type, size_t n);
-
 /* The next value of a record, and where the one behind it begins. Of a field that is undefined the value is NULL, and
  * so it is with the error set. */
 PyObject *next_value(const uint8_t **at, int *is_undefined);
@@ -219,5 +216,8 @@ static inline uint32_t of_records(uint32_t status){
 enum { FIRST_ROOM = 1 << 16 };
 
 extern PyMethodDef blob_calls[];
+
+/* Makes the names of the operations, once. Answers -1 with the error set. */
+int name_operations(void);
 
 #endif

@@ -96,7 +96,7 @@ PyMODINIT_FUNC PyInit__changecap(void){
 #ifdef Py_GIL_DISABLED
   PyUnstable_Module_SetGIL(module, Py_MOD_GIL_NOT_USED);
 #endif
-  if( fill(module) == 0 && PyModule_AddFunctions(module, blob_calls) == 0 ) return module;
+  if( name_operations() == 0 && fill(module) == 0 && PyModule_AddFunctions(module, blob_calls) == 0 ) return module;
   Py_DECREF(module);
   return NULL;
 }

@@ -69,16 +69,6 @@ PyObject *content_of(PyObject *from){
 
 /* ---- Values to records ---- */
 
-size_t put_head(uint8_t *to, uint32_t type, size_t n){
-  size_t len = 1;
-  int shift = 28;
-  to[0] = (uint8_t)type;
-  while( shift > 0 && n >> shift == 0 ) shift -= 7;
-  for(; shift > 0; shift -= 7) to[len++] = (uint8_t)(n >> shift | 0x80);
-  to[len++] = (uint8_t)(n & 0x7f);
-  return len;
-}
-
 static int put_sized(arena *to, uint32_t type, const void *bytes, Py_ssize_t n){
   if( n > 0x7fffffff ){
     PyErr_SetString(PyExc_OverflowError, "a text or a blob has at most 1,000,000,000 bytes");

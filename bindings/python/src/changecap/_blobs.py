@@ -128,7 +128,8 @@ def json(blob: Blob) -> str:
     return _changecap.json(blob)
 
 
-def _each(changes: _changecap.Changes) -> Iterator[Change]:
+def _each(opened: Callable[[], _changecap.Changes]) -> Iterator[Change]:
+    changes = opened()
     while some := changes.some():
         yield from some
 
@@ -139,7 +140,7 @@ def iterate(blob: Blob) -> Iterator[Change]:
     >>> [change.new for change in iterate(EXAMPLE)]
     [{0: 1, 1: 'x'}]
     """
-    yield from _each(_changecap.Changes(blob))
+    return _each(lambda: _changecap.Changes(blob))
 
 
 def iterate_pieces(pieces: Iterable[Blob]) -> Iterator[Change]:
@@ -148,10 +149,14 @@ def iterate_pieces(pieces: Iterable[Blob]) -> Iterator[Change]:
     >>> [change.row for change in iterate_pieces([EXAMPLE[:5], EXAMPLE[5:]])]
     [(1,)]
     """
+    return _each(lambda: _decoded(pieces))
+
+
+def _decoded(pieces: Iterable[Blob]) -> _changecap.Changes:
     decoder = _changecap.Decoder()
     for piece in pieces:
         decoder.feed(piece)
-    yield from _each(decoder.finish())
+    return decoder.finish()
 
 
 def _answer_byte(answer: int | None) -> int:
