@@ -12,12 +12,12 @@ use Rattle.std.proofs.Math.Seq.{drop-cons}
 use Rattle.cap_tree.specs.Subtree.{Subtree, Branch}
 use Rattle.cap_tree.specs.Shape.{entries_of, NoneBelow, EachBelow, AreChildren, AreFit, place, IsChild, IsFilled, IsFit}
 use Rattle.cap_tree.specs.Siblings.{IsRearrangement}
-use Rattle.cap_tree.proofs.EntryLemmas.{Each, each_back, each_front, each_turn, reversed, put_entry-past, put_entry-before, take_entry-past, take_entry-before, get-past, get-before, entries_from-past, entries_from-before, each_put, each_take, ordered_put, ordered_take, length-put_entry, length-take_entry, all_append, all_left, all_right, all_turn}
+use Rattle.cap_tree.proofs.EntryLemmas.{Each, each_back, each_front, each_turn, reversed, put_entry-past, put_entry-before, take_entry-past, take_entry-before, get-past, get-before, entries_from-past, entries_from-before, each_put, each_take, ordered_put, ordered_take, all_append, all_left, all_right, all_turn}
 use Rattle.std.specs.BTreeMap.Range.{entries_from}
 use Rattle.cap_value.specs.declared.memory.Fault.{Fault}
 use Rattle.cap_value.specs.declared.memory.Fault.TheVariants.{Refused, OutOfMemory}
 use Rattle.cap_tree.specs.Tree.{IsOrdered, get}
-use Rattle.cap_tree.specs.Change.{gain, change_entry, Changes}
+use Rattle.cap_tree.specs.Change.{change_entry, Changes}
 use Rattle.std.proofs.Math.Nat.{mul-le-mul_right, pow-le-pow_left, pow-le-pow_right, pow-suc}
 use Rattle.std.proofs.lemmas.Bool.{cases_lt}
 
@@ -251,10 +251,6 @@ module _ {K V : Type 0} (cmp : K → K → Ordering) (k : K) where
     change_ordered (Some v) es s = ordered_put cmp o k v es s
     change_ordered None es s = ordered_take cmp o k es s
 
-    change_length : (next : Option V) (es : List (K × V)) → IsOrdered cmp es → length (change_entry cmp es k next) ≤ length es + gain next
-    change_length (Some v) es s = grind (arith, length-put_entry cmp o k v es s)
-    change_length None es s = omega (arith, length-take_entry cmp k es)
-
     -- ---- below the branch p, to which the key belongs
 
     module _ (height : ℕ) (front : List (Branch K V)) (p : Branch K V) (back : List (Branch K V)) (h : AreChildren cmp height (front ++ p ∷ back)) where
@@ -293,31 +289,26 @@ module _ {K V : Type 0} (cmp : K → K → Ordering) (k : K) where
 
 -- ---- a change with a hook
 
-module _ {K V E S : Type 0} (cmp : K → K → Ordering) (gives : S → Option V → Option V → Result Unit E → S → Type 0) (k : K) (next : Option V) (s t : S) where
+module _ {K V E S : Type 0} (cmp : K → K → Ordering) (gives : S → Option V → Option V → Result Unit E → S → Type 0) (k : K) (next : Option V → Option V) (s t : S) where
   -- of equal lists
   pub changes_of : (r : Result (Option V) (Fault E)) (b c a d : List (K × V)) → b ≡ c → a ≡ d → Changes cmp gives r b k next a s t → Changes cmp gives r c k next d s t
   changes_of r b c a d e f h = rw (← e, ← f) h
 
   pub changes_keeps : IsTotalOrder cmp → (r : Result (Option V) (Fault E)) (before after : List (K × V)) → Changes cmp gives r before k next after s t → Keeps k before after
-  changes_keeps o (Ok was) before after h P p each = rw h.1 (change_keeps cmp k o next before P p each)
+  changes_keeps o (Ok was) before after h P p each = rw h.1 (change_keeps cmp k o (next (get cmp before k)) before P p each)
   changes_keeps o (Err OutOfMemory) before after h P p each = rw h.0 each
   changes_keeps o (Err (Refused why)) before after h P p each = rw h.0 each
 
   pub changes_ordered : IsTotalOrder cmp → (r : Result (Option V) (Fault E)) (before after : List (K × V)) → IsOrdered cmp before → Changes cmp gives r before k next after s t → IsOrdered cmp after
-  changes_ordered o (Ok was) before after w h = rw h.1 (change_ordered cmp k o next before w)
+  changes_ordered o (Ok was) before after w h = rw h.1 (change_ordered cmp k o (next (get cmp before k)) before w)
   changes_ordered o (Err OutOfMemory) before after w h = rw h.0 w
   changes_ordered o (Err (Refused why)) before after w h = rw h.0 w
-
-  pub changes_length : IsTotalOrder cmp → (r : Result (Option V) (Fault E)) (before after : List (K × V)) → IsOrdered cmp before → Changes cmp gives r before k next after s t → length after ≤ length before + gain next
-  changes_length o (Ok was) before after w h = rw h.1 (change_length cmp k o next before w)
-  changes_length o (Err OutOfMemory) before after w h = rw h.0 (omega arith)
-  changes_length o (Err (Refused why)) before after w h = rw h.0 (omega arith)
 
   -- below a child
   pub changes_there : (o : IsTotalOrder cmp) (height : ℕ) (front : List (Branch K V)) (p : Branch K V) (back : List (Branch K V)) → AreChildren cmp height (front ++ p ∷ back) → IsGap cmp k front p.0 back → (c : Subtree K V) (r : Result (Option V) (Fault E)) → Changes cmp gives r p.1.entries k next c.entries s t → Changes cmp gives r (entries_of (front ++ p ∷ back)) k next (entries_of (front ++ (p.0, c) ∷ back)) s t
   changes_there o height front p back h gap c (Ok was) w =
       let there = get_there cmp k o height front p back h gap in
-      (w.0 ∙ sym there, change_there cmp k o height front p back h gap next c w.1, rw there w.2)
+      (w.0 ∙ sym there, rw there (change_there cmp k o height front p back h gap (next (get cmp p.1.entries k)) c w.1), rw there w.2)
   changes_there o height front p back h gap c (Err OutOfMemory) w = (keep_there cmp k o height front p back h gap c w.0, w.1)
   changes_there o height front p back h gap c (Err (Refused why)) w = (keep_there cmp k o height front p back h gap c w.0, rw (get_there cmp k o height front p back h gap) w.1)
 

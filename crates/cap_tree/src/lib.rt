@@ -11,6 +11,7 @@ mod grow;
 mod hook;
 mod iter;
 mod leaf;
+mod modify;
 mod no_hook;
 mod node;
 mod path;
@@ -23,4 +24,5 @@ mod tree;
 
 pub use hook::Hook;
 pub use iter::Iter;
+pub use modify::Modify;
 pub use tree::Tree;

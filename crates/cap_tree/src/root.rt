@@ -73,8 +73,9 @@ pub(crate) fn change_in_root<
     change: C,
     hook: &mut H,
 ) -> Result<Option<V>, Fault<H::Refusal>>
+    requires can_make { C.can_make change (get K.cmp (arc_value root.old).entries (C.key_of change)) }
     requires can_ask { H.can_ask hook.old (get K.cmp (arc_value root.old).entries (C.key_of change))
-        (C.next_of change) }
+        (C.next_of change (get K.cmp (arc_value root.old).entries (C.key_of change))) }
     requires ordered { IsOrdered K.cmp (arc_value root.old).entries }
     requires top { IsTop (arc_value root.old) }
     ensures changes { Changes K.cmp H.gives result (arc_value root.old).entries (C.key_of change)

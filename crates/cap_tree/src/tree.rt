@@ -2,18 +2,20 @@
 ghost use Rattle.std.specs.Prelude.{◌≡◌, ℕ, ◌+◌, ◌-◌, ◌*◌, ◌^◌, ◌<◌, ◌≤◌, [], ◌++◌, length, slice_get};
 ghost use Rattle.std.specs.Prelude.{IfNone, IfSome, IsTrue, IfOk, IfErr, OnOk, OnErr, Ok, Err, None};
 ghost use Rattle.std.specs.Prelude.{Some, is_some, if◌then◌else◌, ◌↔◌};
-ghost use Rattle.std.specs.Option.{option_copied};
+ghost use Rattle.std.specs.Option.{option_copied, option_map, ForSome};
 ghost use Rattle.std.specs.List.{All};
 ghost use Rattle.std.specs.BTreeMap.Range.{entries_below, entries_from};
 ghost use Rattle.std.specs.Map.Iter.{ShowsInOrder, ShowsValuesInOrder, deref_pair};
 ghost use Rattle.cap_value.specs.Memory.{MatchFault};
+ghost use Rattle.cap_tree.specs.Change.{change_entry};
 ghost use Rattle.cap_tree.specs.Root.{IsTop};
 ghost use Rattle.cap_tree.specs.Tree.{IsOrdered, get, put_entry, take_entry, Updates};
 
-use crate::change::{Put, Take, ask_for_none};
+use crate::change::{Edit, Put, Take, ask_for_none};
 use crate::find::{find, last};
 use crate::hook::Hook;
 use crate::iter::Iter;
+use crate::modify::Modify;
 use crate::no_hook::NoHook;
 use crate::node::Node;
 use crate::path::depth;
@@ -241,6 +243,36 @@ impl<K: Ord + Exact + Drop, V: Exact + Drop, A: AllocHandle> Tree<K, V, A> {
         match &mut self.root {
             None => ask_for_none(hook),
             Some(node) => change_in_root(node, self.alloc, Take { key }, hook),
+        }
+    }
+
+    /// Puts in place of the value at the key, if there is one, the value that is made of it, if the hook
+    /// allows it, and answers the value that was there. It searches once.
+    ///
+    /// `hook` is asked once, after all memory is reserved, and is shown the present value of the key, if any,
+    /// and the one made of it. If it refuses, or on `OutOfMemory`, the tree is as it was.
+    pub fn modify_hooked<M: Modify<V>, H: Hook<V>>(
+        &mut self,
+        key: &K,
+        modify: &M,
+        hook: &mut H,
+    ) -> Result<Option<V>, Fault<H::Refusal>>
+        requires can_modify { ForSome (get K.cmp self.old key.now) (M.can_modify modify.now) }
+        requires can_ask { H.can_ask hook.old (get K.cmp self.old key.now)
+            (option_map (M.modified modify.now) (get K.cmp self.old key.now)) }
+        ensures allowed { OnOk result (H.gives hook.old (get K.cmp self.old key.now)
+            (option_map (M.modified modify.now) (get K.cmp self.old key.now)) (Ok tt) hook.new) }
+        ensures refused { IfErr result (λ fault. MatchFault fault (hook.new ≡ hook.old)
+            (λ why. H.gives hook.old (get K.cmp self.old key.now)
+            (option_map (M.modified modify.now) (get K.cmp self.old key.now)) (Err why) hook.new)) }
+        ensures err { OnErr result (self.new ≡ self.old) }
+        ensures ok { OnOk result (self.new ≡ change_entry K.cmp self.old key.now
+            (option_map (M.modified modify.now) (get K.cmp self.old key.now))) }
+        ensures replaced { IfOk result (λ o. o ≡ get K.cmp self.old key.now) }
+    {
+        match &mut self.root {
+            None => ask_for_none(hook),
+            Some(node) => change_in_root(node, self.alloc, Edit { key, modify }, hook),
         }
     }
 

@@ -8,5 +8,5 @@ invariant_of-self g c = elim c.match-self.branch [
   | in-None w ↦ rw w.self-inside-is c.self.invariant
   | in-Some w ↦
       let before = rw w.in-Some.is at c.self.invariant in
-      rw w.self-inside-is (w.change_in_root.ensures.top, changes_ordered g.K.Ord.cmp g.H.Hook.gives c.args.key.now None c.args.hook.now w.change_in_root.new.hook g.met.K.Ord.total w.change_in_root.result w.in-Some.node.value.entries w.change_in_root.new.root.value.entries before.1 w.change_in_root.ensures.changes)
+      rw w.self-inside-is (w.change_in_root.ensures.top, changes_ordered g.K.Ord.cmp g.H.Hook.gives c.args.key.now (λ _. None) c.args.hook.now w.change_in_root.new.hook g.met.K.Ord.total w.change_in_root.result w.in-Some.node.value.entries w.change_in_root.new.root.value.entries before.1 w.change_in_root.ensures.changes)
 ]
