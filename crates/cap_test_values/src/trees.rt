@@ -1,6 +1,6 @@
 //! Trees against an ordered map, beside snapshots, and in memory of which each request is refused.
 use cap_test_support::{CountingHook, Memory};
-use cap_tree::Tree;
+use cap_tree::{Modify, Tree};
 use cap_value::{AllocHandle, Fault, OutOfMemory};
 use linked_list_allocator::LocalHeap;
 use std::alloc::{AllocError, Global};
@@ -72,11 +72,26 @@ fn each_call_succeeds_with_ample_memory(rt: HostRuntime) -> Result<(), Fail> {
     Ok(())
 }
 
+// 501 in place of any value.
+#[derive(Clone, Copy, Drop)]
+struct Is501;
+
+impl Modify<u64> for Is501 {
+    ghost can_modify = { λ modify present. Unit {0} };
+
+    ghost modified = { λ modify present. 501 };
+
+    fn modify(&self, _present: &u64) -> Result<u64, OutOfMemory> {
+        Ok(501)
+    }
+}
+
 // The changes that are refused their memory in turn: each of the tree of the numbers up to 100.
 #[derive(Clone, Copy, Drop)]
 enum Change {
     Insert,
     InsertHooked,
+    Modify,
     Remove,
     RemoveHooked,
 }
@@ -84,11 +99,12 @@ enum Change {
 const CHANGES: &[Change] = &[
     Change::Insert,
     Change::InsertHooked,
+    Change::Modify,
     Change::Remove,
     Change::RemoveHooked,
 ];
 
-// Puts 101 or takes 50, and answers the value that was there.
+// Puts 101, modifies 50 or takes it, and answers the value that was there.
 fn make_change<A: AllocHandle>(
     tree: &mut Numbers<A>,
     change: Change,
@@ -97,6 +113,7 @@ fn make_change<A: AllocHandle>(
     match change {
         Change::Insert => in_place(tree.insert(101, 1010)),
         Change::InsertHooked => tree.insert_hooked(101, 1010, hook),
+        Change::Modify => tree.modify_hooked(&50, &Is501, hook),
         Change::Remove => in_place(tree.remove(&50)),
         Change::RemoveHooked => tree.remove_hooked(&50, hook),
     }
@@ -114,8 +131,14 @@ fn is_made<A: AllocHandle>(
 ) -> bool {
     match change {
         Change::Insert | Change::InsertHooked => answer == Ok(None) && is_rising(tree, 101),
+        Change::Modify => answer == Ok(Some(500)) && has_501(tree),
         Change::Remove | Change::RemoveHooked => answer == Ok(Some(500)) && lacks_50(tree),
     }
+}
+
+// Whether 50 has 501, and the tree has as many entries as before.
+fn has_501<A: AllocHandle>(tree: &Numbers<A>) -> bool {
+    tree.get(&50) == Some(&501) && tree.len() == 100
 }
 
 // Whether the tree has the numbers up to 100 but for 50.
@@ -127,7 +150,7 @@ fn lacks_50<A: AllocHandle>(tree: &Numbers<A>) -> bool {
 fn undo_change<A: AllocHandle>(tree: &mut Numbers<A>, change: Change) -> Result<(), OutOfMemory> {
     match change {
         Change::Insert | Change::InsertHooked => tree.remove(&101)?,
-        Change::Remove | Change::RemoveHooked => tree.insert(50, 500)?,
+        Change::Modify | Change::Remove | Change::RemoveHooked => tree.insert(50, 500)?,
     };
     Ok(())
 }
@@ -325,13 +348,17 @@ fn a_change_waits_for_one_answer(rt: HostRuntime) -> Result<(), Fail> {
     let (mut no, mut yes) = (CountingHook::new(false), CountingHook::new(true));
     let refused = Err(Fault::Refused(()));
     assert!(rt; tree.insert_hooked(101, 1010, &mut no) == refused);
+    assert!(rt; tree.modify_hooked(&50, &Is501, &mut no) == refused);
     assert!(rt; tree.remove_hooked(&50, &mut no) == refused);
-    assert!(rt; no.asked == 2 && is_rising(&tree, 100));
+    assert!(rt; no.asked == 3 && is_rising(&tree, 100));
     assert!(rt; tree.insert_hooked(101, 1010, &mut yes) == Ok(None));
     assert!(rt; is_rising(&tree, 101));
     assert!(rt; tree.remove_hooked(&101, &mut yes) == Ok(Some(1010)));
     assert!(rt; tree.remove_hooked(&101, &mut yes) == Ok(None));
-    assert!(rt; yes.asked == 3 && is_rising(&tree, 100));
+    assert!(rt; tree.modify_hooked(&101, &Is501, &mut yes) == Ok(None));
+    assert!(rt; yes.asked == 4 && is_rising(&tree, 100));
+    assert!(rt; tree.modify_hooked(&50, &Is501, &mut yes) == Ok(Some(500)));
+    assert!(rt; has_501(&tree));
     Ok(())
 }
 
