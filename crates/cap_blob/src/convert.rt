@@ -40,7 +40,7 @@ pub fn convert_bytes<A: AllocHandle>(
     let list = read_changes(alloc, bytes)?;
     match target {
         Target::Inverse => {
-            let inverse = invert(alloc, &list)?;
+            let inverse = invert(list)?;
             Ok(write_changes_with(alloc, key_flags, &inverse)?)
         }
         Target::Patchset => {

@@ -1,6 +1,5 @@
 -- What a group keeps of a change that is written into it.
-use Rattle.std.proofs.Common.{arith, ◌≡◌, Bool, true, false, List, [], ◌∷◌, Option, Some, None, IsTrue, refl, sym, ap, ◌∙◌, append-nil, ℕ, ◌+◌, ◌-◌, ◌≤◌, ◌++◌, length, map, take, drop, subst, append_assoc, length-append, length-drop}
-use Rattle.std.specs.List.{flat_map}
+use Rattle.std.proofs.Common.{arith, ◌≡◌, Bool, true, false, List, [], ◌∷◌, Option, Some, None, IsTrue, refl, sym, ap, subst, ◌∙◌, append-nil, ℕ, zero, suc, ◌+◌, ◌-◌, ◌≤◌, ◌<◌, ◌++◌, length, map, take, drop, take_at, drop_at, set, get_or, slice_get, length-append, length-drop}
 use Rattle.std.specs.Option.{ForSome}
 use Rattle.cap_row.specs.Encoding.{AreValues}
 use Rattle.cap_row.specs.Fields.{Fields}
@@ -17,20 +16,19 @@ use Rattle.cap_changes.specs.Fits.{change_fits, patch_fits}
 use Rattle.cap_changes.specs.HasValues.{HasValues, PatchHasValues}
 use Rattle.cap_changes.specs.Invert.{inverse_of}
 use Rattle.cap_changes.specs.Patch.{patch_of, update_record}
-use Rattle.cap_changes.specs.Stored.{IsEntry, AreEntries, IsKept, end_of, entries_of, part}
+use Rattle.cap_changes.specs.Stored.{IsEntry, IsKept, entries_of, start_of, part}
 use Rattle.cap_changes.specs.declared.row_change.RowChange.{RowChange}
 use Rattle.cap_changes.specs.declared.patch.Patch.{Patch}
 use Rattle.cap_changes.proofs.InvertLemmas.{inverse_of-fits, exchanged}
 use Rattle.cap_changes.proofs.PatchLemmas.{patch_of-fits}
 use Rattle.cap_changes.proofs.StoredChange.{change_entry, patch_entry}
 use Rattle.cap_changes.proofs.ValueLemmas.{inverse_values, patch_values, values_of}
-use Rattle.std.proofs.lemmas.List.{length-take-le, drop-drop}
-use Rattle.std.proofs.Math.Seq.{drop-append_seam, take-append_seam}
-use Rattle.cap_changes.specs.Entries.{AllFit}
+use borrow.Rule.Slice.PartMut.{put_mid}
+use Rattle.std.proofs.lemmas.List.{length-take-le, take_all, drop_all, take-append-drop}
+use Rattle.std.proofs.lemmas.List.Edits.{map_over_more}
 use Rattle.cap_changes.specs.Field.{record_bytes}
 use Rattle.cap_changes.specs.FieldRecord.{RecordFields}
-use Rattle.cap_changes.proofs.LeftLemmas.{first_fits, others_fit}
-use Rattle.cap_changes.proofs.PutLemmas.{put_on}
+use Rattle.cap_changes.proofs.StoredEntries.{as_many as entries_count, Lent, lent_at, further, replaced, start_behind}
 
 module _ {A : Type 0} where
   pub patch_again : (flags : List Bool) (change : RowChange A) → IsTrue (change_fits flags change) → HasValues change
@@ -71,6 +69,11 @@ module _ {A : Type 0} where
 
 -- ---- the inverse of each change, written over its bytes, which are as many
 
+found : {X : Type 0} (xs : List X) (place : ℕ) (x : X) → Some x ≡ slice_get xs place → x ≡ get_or xs place x
+found [] place x is = cc
+found (y ∷ xs) zero x is = cc
+found (y ∷ xs) (suc place) x is = found xs place x is
+
 module _ {A : Type 0} where
   pub as_many : (flags : List Bool) (change : RowChange A) → IsTrue (change_fits flags change) → length (change_bytes (inverse_of flags change)) ≡ length (change_bytes change)
   as_many flags (Update indirect old new) fits = grind (arith, length-append, exchanged flags old new)
@@ -83,70 +86,57 @@ module _ {A : Type 0} where
       let count : length bytes ≡ 2 + length records = ap length spelled ∙ sym (as_many flags change fits) ∙ ap (λ (c : RowChange A). length (change_bytes (inverse_of flags c))) is ∙ omega (arith, ap length records_are) in
       length-take-le (length bytes - 2) (drop 2 bytes) (omega (arith, length-drop 2 bytes)) ∙ omega (arith, count)
 
-  -- ---- the bytes of a group
+-- ---- one change after another
 
-  abbrev inverses : List Bool → List (RowChange A) → List ℕ
-  inverses flags changes = flat_map change_bytes (map (inverse_of flags) changes)
+module _ (A : Type 0) where
+  -- the changes before a place are inverted, and the one there begins here
+  pub record Inverted (flags : List Bool) (old ends : List ℕ) (place begin : ℕ) (bytes : List ℕ) : Type 0 where
+    pub kept : IsKept (change_fits {A = A}) HasValues change_bytes stored_change flags bytes ends
+    pub begins : begin ≡ start_of 0 ends place
+    pub changes : ◌≡◌ {A = List (RowChange A)} (entries_of stored_change flags bytes 0 ends) (map (inverse_of flags) (take place (entries_of stored_change flags old 0 ends)) ++ drop place (entries_of stored_change flags old 0 ends))
 
-  -- bytes of which each entry is one of these, and ends there
-  pub record AreOf (flags : List Bool) (bytes : List ℕ) (start : ℕ) (ends : List ℕ) (changes : List (RowChange A)) : Type 0 where
-    pub are : AreEntries (change_fits {A = A}) HasValues change_bytes stored_change flags bytes start ends
-    pub end : end_of start ends ≡ length bytes
-    pub entries : entries_of stored_change flags bytes start ends ≡ changes
+-- a vector whose items are written over
+pub written_back : {X : Type 0} (len : ℕ) (new old : List X) → length new ≡ length old → length old ≡ len → take len (new ++ drop (length new) old) ≡ new
+written_back len new old same is = take_at new (drop (length new) old) len (omega (arith, same, is))
 
-  pub inverted : (flags : List Bool) (bytes front new : List ℕ) (start : ℕ) (ends : List ℕ) → AreEntries (change_fits {A = A}) HasValues change_bytes stored_change flags bytes start ends → length front ≡ start
-      → new ≡ front ++ inverses flags (entries_of stored_change flags bytes start ends) → AreOf flags new start ends (map (inverse_of flags) (entries_of stored_change flags bytes start ends))
-  inverted flags bytes front new start [] are long is =
-      let count : length new ≡ start = ap length (is ∙ append-nil front) ∙ long in
-      record { are = omega (arith, count); end = sym count; entries = refl }
-  inverted flags bytes front new start (end ∷ ends) are long is =
-      let piece = part start end bytes in
-      let change : RowChange A = stored_change flags piece in
-      let written = change_bytes (inverse_of flags change) in
-      let behind = inverses flags (entries_of stored_change flags bytes end ends) in
-      let again = change_entry flags (inverse_of flags change) written (inverse_of-fits flags change are.2.fits) (inverse_values flags change are.2.values) refl in
-      let count : length written ≡ end - start = as_many flags change are.2.fits ∙ ap length (sym are.2.spelled) ∙ length-take-le (end - start) (drop start bytes) (omega (arith, length-drop start bytes, are.1)) in
-      let grown : length (front ++ written) ≡ end = omega (arith, length-append front written, long, count, are.0) in
-      let parts : new ≡ (front ++ written) ++ behind = is ∙ sym (append_assoc front written behind) in
-      let rest = inverted flags bytes (front ++ written) new end ends are.3 grown parts in
-      let here : part start end new ≡ written =
-      (λ i. take (sym count i) (drop (sym long i) (is i))) ∙ ap (take (length written)) (drop-append_seam front (written ++ behind)) ∙ take-append_seam written behind in
+-- a part that is written as it was
+pub as_it_was : (begin end : ℕ) (bytes new : List ℕ) → new ≡ part begin end bytes → put_mid begin (end - begin) bytes new ≡ bytes
+as_it_was begin end bytes new is =
+    ap (λ (b : List ℕ). take begin bytes ++ (b ++ drop (end - begin) (drop begin bytes))) is ∙ ap (λ (b : List ℕ). take begin bytes ++ b) (take-append-drop (end - begin) (drop begin bytes)) ∙ take-append-drop begin bytes
+
+module _ {A : Type 0} {flags : List Bool} {old ends : List ℕ} {place begin : ℕ} {bytes : List ℕ} where
+  -- the change there
+  pub next_change : Inverted A flags old ends place begin bytes → place < length ends
+      → Lent (change_fits {A = A}) HasValues change_bytes stored_change flags bytes begin (get_or ends place 0) (slice_get (entries_of stored_change flags bytes 0 ends) place)
+  next_change i lt = rw i.begins (lent_at (change_fits {A = A}) HasValues change_bytes stored_change flags bytes 0 ends place i.kept.each lt)
+
+  pub one_more : (piece : List ℕ) → Inverted A flags old ends place begin bytes → place < length ends → piece ≡ change_bytes (inverse_of {A = A} flags (stored_change flags (part begin (get_or ends place 0) bytes)))
+      → Inverted A flags old ends (place + 1) (get_or ends place 0) (put_mid begin (get_or ends place 0 - begin) bytes piece)
+  one_more piece i lt piece_is =
+      let l = next_change i lt in
+      let end = get_or ends place 0 in
+      let change : RowChange A = stored_change flags (part begin end bytes) in
+      let new = put_mid begin (end - begin) bytes piece in
+      let front = take begin bytes in
+      let others = piece ++ drop (end - begin) (drop begin bytes) in
+      let again = change_entry flags (inverse_of flags change) piece (inverse_of-fits flags change l.is.fits) (inverse_values flags change l.is.values) piece_is in
+      let count : length piece ≡ end - begin =
+      ap length piece_is ∙ as_many flags change l.is.fits ∙ ap length (sym l.is.spelled) ∙ length-take-le (end - begin) (drop begin bytes) (omega (arith, length-drop begin bytes, l.within)) in
+      let before : length front ≡ begin = length-take-le begin bytes (omega (arith, l.before, l.within)) in
+      let behind = further begin end bytes l.before in
+      let long : length new ≡ length bytes = omega (arith, length-append front others, length-append piece (drop (end - begin) (drop begin bytes)), ap length behind, length-drop end bytes, before, count, l.before, l.within) in
+      let all = entries_of (stored_change {A = A}) flags old 0 ends in
+      let now = entries_of (stored_change {A = A}) flags bytes 0 ends in
+      let r = replaced (change_fits {A = A}) HasValues change_bytes stored_change flags bytes new piece 0 ends place i.kept.each lt again.1 long (omega (arith, i.begins, l.before, l.within))
+      (subst (λ (n : ℕ). take n new ≡ take n bytes) i.begins (take_at front others begin before)) (subst (λ (n : ℕ). drop n new ≡ piece ++ drop end bytes) i.begins (drop_at front others begin before ∙ ap (λ (b : List ℕ). piece ++ b) behind)) (omega (arith, count, i.begins)) in
       record {
-        are = (are.0, omega (arith, ap length parts, length-append (front ++ written) behind, grown), subst (λ (p : List ℕ). IsEntry (change_fits {A = A}) HasValues change_bytes flags (stored_change flags p) p) (sym here) again.1, rest.are);
-        end = rest.end;
-        entries = λ i. (ap (stored_change flags) here ∙ again.0) i ∷ rest.entries i;
+        kept = record { keyed = i.kept.keyed; each = r.are; end = i.kept.end ∙ sym long };
+        begins = ap (λ (n : ℕ). get_or ends n 0) (omega arith) ∙ start_behind 0 ends (place + 1) (omega arith) (omega (arith, lt));
+        changes = r.entries ∙ ap (set now place) again.0 ∙ map_over_more (inverse_of flags) all now place change (omega (arith, lt, entries_count (stored_change {A = A}) flags old 0 ends)) i.changes (found now place change l.lent);
       }
 
-  pub inverse_kept : (flags : List Bool) (bytes new ends : List ℕ) → IsKept (change_fits {A = A}) HasValues change_bytes stored_change flags bytes ends → new ≡ inverses flags (entries_of stored_change flags bytes 0 ends)
-      → IsKept (change_fits {A = A}) HasValues change_bytes stored_change flags new ends
-      × (◌≡◌ {A = List (RowChange A)} (entries_of stored_change flags new 0 ends) (map (inverse_of flags) (entries_of stored_change flags bytes 0 ends)))
-  inverse_kept flags bytes new ends kept is =
-      let are = inverted flags bytes [] new 0 ends kept.each refl is in
-      (record { keyed = kept.keyed; each = are.are; end = are.end }, are.entries)
-
-  -- ---- one change after another
-
-  -- what is written, up to a place, with the inverses of the changes that are left behind it, is all
-  pub record Written (flags : List Bool) (bytes : List ℕ) (begin : ℕ) (changes : List (RowChange A)) (all : List ℕ) : Type 0 where
-    pub within : begin ≤ length bytes
-    pub left : drop begin bytes ≡ flat_map change_bytes changes
-    pub so_far : take begin bytes ++ inverses flags changes ≡ all
-    pub fit : AllFit change_fits flags changes
-
-  pub one_more : (flags : List Bool) (bytes new : List ℕ) (begin end : ℕ) (changes others : List (RowChange A)) (change : RowChange A) (all : List ℕ) → Written flags bytes begin changes all → changes ≡ change ∷ others
-      → end ≡ begin + length (change_bytes change) → new ≡ take begin bytes ++ (change_bytes (inverse_of flags change) ++ drop end bytes) → Written flags new end others all
-  one_more flags bytes new begin end changes others change all w is end_is new_is =
-      let piece = change_bytes (inverse_of flags change) in
-      let front = take begin bytes ++ piece in
-      let long = as_many flags change (first_fits (change_fits {A = A}) flags flags changes others change refl is w.fit) in
-      let count : length front ≡ end = omega (arith, length-append (take begin bytes) piece, length-take-le begin bytes w.within, long, end_is) in
-      let behind : drop end bytes ≡ flat_map change_bytes others =
-      ap (λ (n : ℕ). drop n bytes) end_is ∙ sym (drop-drop (length (change_bytes change)) begin bytes) ∙ ap (drop (length (change_bytes change))) (w.left ∙ ap (flat_map change_bytes) is)
-      ∙ drop-append_seam (change_bytes change) (flat_map change_bytes others) in
-      let parts : new ≡ front ++ flat_map change_bytes others = new_is ∙ sym (append_assoc (take begin bytes) piece (drop end bytes)) ∙ ap (λ (b : List ℕ). front ++ b) behind in
-      record {
-        within = omega (arith, ap length parts, length-append front (flat_map change_bytes others), count);
-        left = (λ i. drop (sym count i) (parts i)) ∙ drop-append_seam front (flat_map change_bytes others);
-        so_far = put_on (take begin bytes) (take end new) piece (inverses flags others) (inverses flags changes) all ((λ i. take (sym count i) (parts i)) ∙ take-append_seam front (flat_map change_bytes others)) (ap (inverses flags) is) w.so_far;
-        fit = others_fit (change_fits {A = A}) flags changes others change is w.fit;
-      }
+  pub inverted : Inverted A flags old ends place begin bytes → length ends ≤ place → ◌≡◌ {A = List (RowChange A)} (entries_of stored_change flags bytes 0 ends) (map (inverse_of flags) (entries_of stored_change flags old 0 ends))
+  inverted i le =
+      let all = entries_of (stored_change {A = A}) flags old 0 ends in
+      let none : length all ≤ place = omega (arith, le, entries_count (stored_change {A = A}) flags old 0 ends) in
+      i.changes ∙ (λ j. map (inverse_of flags) (take_all place all none j) ++ drop_all place all none j) ∙ append-nil (map (inverse_of flags) all)

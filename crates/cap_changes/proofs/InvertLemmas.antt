@@ -1,5 +1,5 @@
 -- The inverse of a change that fits its table fits it too, and its inverse is the change again.
-use Rattle.std.proofs.Common.{length, length-append, ◌+◌, ◌≡◌, List, [], ◌∷◌, map, Bool, true, IsTrue, Result, Ok, Err, refl, ap, ◌∙◌, arith}
+use Rattle.std.proofs.Common.{length, length-append, take, drop, ℕ, zero, suc, ◌++◌, ◌+◌, ◌≡◌, List, [], ◌∷◌, map, Bool, true, IsTrue, Result, Ok, Err, refl, ap, ◌∙◌, arith}
 use Rattle.std.specs.Prelude.{IfOk}
 use Rattle.std.specs.List.{AllByRecursion}
 use Rattle.std.proofs.lemmas.List.Elements.{recursion_from_All}
@@ -15,6 +15,13 @@ use Rattle.cap_changes.specs.declared.row_change.RowChange.{RowChange}
 use Rattle.cap_changes.specs.declared.row_change.RowChange.TheVariants.{Update}
 use Rattle.cap_changes.specs.declared.record_kind.RecordKind.TheVariants as record_kinds
 use Rattle.cap_changes.proofs.PatchLemmas.{update_fits}
+
+-- a list of which the first items are inverted is as long
+pub as_long : {X : Type 0} (f : X → X) (xs : List X) (place : ℕ) → length (map f (take place xs) ++ drop place xs) ≡ length xs
+as_long f [] zero = refl
+as_long f [] (suc place) = refl
+as_long f (x ∷ xs) zero = refl
+as_long f (x ∷ xs) (suc place) = ap suc (as_long f xs place)
 
 module _ {A : Type 0} where
   -- two records whose fields are exchanged, but for the key fields, fit, are as many bytes, and are the same when

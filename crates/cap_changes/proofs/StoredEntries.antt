@@ -1,5 +1,5 @@
 -- Entries as their bytes, one after another, and where each ends.
-use Rattle.std.proofs.Common.{◌≡◌, ℕ, zero, suc, ◌-◌, ◌≤◌, ◌<◌, Bool, List, [], ◌∷◌, ◌++◌, length, take, drop, get_or, slice_get, Option, Some, IsTrue, Result, Ok, Err, is_ok, refl, sym, ap, subst, ◌∙◌, append-nil, length-append, length-drop, arith, if◌then◌else◌}
+use Rattle.std.proofs.Common.{◌≡◌, ℕ, zero, suc, ◌-◌, ◌≤◌, ◌<◌, Bool, List, [], ◌∷◌, ◌++◌, length, take, drop, set, get_or, slice_get, Option, Some, IsTrue, Result, Ok, Err, is_ok, refl, sym, ap, subst, ◌∙◌, append-nil, length-append, length-drop, arith, if◌then◌else◌}
 use mathlib.Core.List.{IsPrefix}
 use Rattle.std.specs.Prelude.{All, OnOk, OnErr}
 use Rattle.std.specs.List.{AllByRecursion, flat_map}
@@ -14,6 +14,13 @@ pub part_before : (start end : ℕ) (bytes more : List ℕ) → start ≤ end �
 part_before start end bytes more le within =
     ap (take (end - start)) (drop-append-le start bytes more (omega arith))
     ∙ take-append-le (end - start) (drop start bytes) more (omega (arith, length-drop start bytes))
+
+part_cut : (start end cut : ℕ) (bytes : List ℕ) → start ≤ end → end ≤ cut → cut ≤ length bytes → part start end (take cut bytes) ≡ part start end bytes
+part_cut start end cut bytes le before within =
+    sym (part_before start end (take cut bytes) (drop cut bytes) le (omega (arith, length-take-le cut bytes within, before))) ∙ ap (part start end) (take-append-drop cut bytes)
+
+pub further : (start end : ℕ) (bytes : List ℕ) → start ≤ end → drop (end - start) (drop start bytes) ≡ drop end bytes
+further start end bytes le = drop-drop (end - start) start bytes ∙ ap (λ (n : ℕ). drop n bytes) (omega (arith, le))
 
 -- what was appended
 pub part_behind : (bytes piece : List ℕ) → part (length bytes) (length (bytes ++ piece)) (bytes ++ piece) ≡ piece
@@ -84,7 +91,7 @@ module _ {C : Type 0} (fits_in : List Bool → C → Bool) (has_values : C → T
   spelled_from bytes start [] are reaches = ap (λ (n : ℕ). drop n bytes) reaches ∙ drop_all (length bytes) bytes (omega arith)
   spelled_from bytes start (end ∷ ends) are reaches =
       sym (take-append-drop (end - start) (drop start bytes))
-      ∙ ap (λ (r : List ℕ). part start end bytes ++ r) (drop-drop (end - start) start bytes ∙ ap (λ (n : ℕ). drop n bytes) (omega (arith, are.0)))
+      ∙ ap (λ (r : List ℕ). part start end bytes ++ r) (further start end bytes are.0)
       ∙ ap (λ (front : List ℕ). front ++ drop end bytes) are.2.spelled
       ∙ ap (λ (rest : List ℕ). bytes_of (stored flags (part start end bytes)) ++ rest) (spelled_from bytes end ends are.3 reaches)
 
@@ -115,8 +122,7 @@ module _ {C : Type 0} (fits_in : List Bool → C → Bool) (has_values : C → T
   are_first cut (suc count) bytes start (end ∷ ends) are lt is =
       let others = are_first cut count bytes end ends are.3 (omega arith) is in
       let long = length-take-le cut bytes others.within in
-      let same : part start end (take cut bytes) ≡ part start end bytes =
-      sym (part_before start end (take cut bytes) (drop cut bytes) are.0 (omega (arith, long, others.from))) ∙ ap (part start end) (take-append-drop cut bytes) in
+      let same = part_cut start end cut bytes are.0 others.from others.within in
       record {
         from = omega (arith, are.0, others.from);
         within = others.within;
@@ -124,6 +130,36 @@ module _ {C : Type 0} (fits_in : List Bool → C → Bool) (has_values : C → T
         end = others.end;
         entries = λ i. stored flags (same i) ∷ others.entries i;
       }
+
+  -- ---- an entry in the place of another, in as many bytes
+
+  -- entries behind a place do not depend on the bytes before it
+  behind_same : (bytes new : List ℕ) (start : ℕ) (ends : List ℕ) → length new ≡ length bytes → drop start new ≡ drop start bytes → Are bytes start ends → Are new start ends × (entries_of stored flags new start ends ≡ entries_of stored flags bytes start ends)
+  behind_same bytes new start [] long same are = (omega (arith, long, are), refl)
+  behind_same bytes new start (end ∷ ends) long same are =
+      let here : part start end new ≡ part start end bytes = ap (take (end - start)) same in
+      let others = behind_same bytes new end ends long (sym (further start end new are.0) ∙ ap (drop (end - start)) same ∙ further start end bytes are.0) are.3 in
+      ((are.0, omega (arith, long, are.1), subst Is (sym here) are.2, others.0), λ i. stored flags (here i) ∷ others.1 i)
+
+  pub record Replaced (bytes new piece : List ℕ) (start : ℕ) (ends : List ℕ) (place : ℕ) : Type 0 where
+    pub from : start ≤ start_of start ends place
+    pub are : Are new start ends
+    pub entries : entries_of stored flags new start ends ≡ set (entries_of stored flags bytes start ends) place (stored flags piece)
+
+  pub replaced : (bytes new piece : List ℕ) (start : ℕ) (ends : List ℕ) (place : ℕ) → Are bytes start ends → place < length ends → Is piece → length new ≡ length bytes → start_of start ends place ≤ length bytes
+      → take (start_of start ends place) new ≡ take (start_of start ends place) bytes → drop (start_of start ends place) new ≡ piece ++ drop (get_or ends place 0) bytes → length piece ≡ get_or ends place 0 - start_of start ends place
+      → Replaced bytes new piece start ends place
+  replaced bytes new piece start [] place are lt is long within front behind count = absurd (omega arith)
+  replaced bytes new piece start (end ∷ ends) zero are lt is long within front behind count =
+      let here : part start end new ≡ piece = ap (take (end - start)) behind ∙ ap (λ (n : ℕ). take n (piece ++ drop end bytes)) (sym count) ∙ take-append_seam piece (drop end bytes) in
+      let others = behind_same bytes new end ends long
+      (sym (further start end new are.0) ∙ ap (drop (end - start)) behind ∙ ap (λ (n : ℕ). drop n (piece ++ drop end bytes)) (sym count) ∙ drop-append_seam piece (drop end bytes)) are.3 in
+      record { from = omega arith; are = (are.0, omega (arith, long, are.1), subst Is (sym here) is, others.0); entries = λ i. stored flags (here i) ∷ others.1 i }
+  replaced bytes new piece start (end ∷ ends) (suc place) are lt is long within front behind count =
+      let others = replaced bytes new piece end ends place are.3 (omega arith) is long within front behind count in
+      let cut = start_of end ends place in
+      let same : part start end new ≡ part start end bytes = sym (part_cut start end cut new are.0 others.from (omega (arith, long, within))) ∙ ap (part start end) front ∙ part_cut start end cut bytes are.0 others.from within in
+      record { from = omega (arith, are.0, others.from); are = (are.0, omega (arith, long, are.1), subst Is (sym same) are.2, others.are); entries = λ i. stored flags (same i) ∷ others.entries i }
 
 -- as many as there are ends
 pub as_many : {C : Type 0} (stored : List Bool → List ℕ → C) (flags : List Bool) (bytes : List ℕ) (start : ℕ) (ends : List ℕ) → length (entries_of stored flags bytes start ends) ≡ length ends

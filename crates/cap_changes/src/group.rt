@@ -17,7 +17,7 @@ ghost use Rattle.cap_changes.specs.Stored.{IsEntry, IsKept};
 ghost use Rattle.cap_changes.specs.Touched.{is_changed};
 
 use crate::entries::start_at;
-use crate::inverse::inverse_bytes;
+use crate::inverse::write_inverses;
 use crate::operation::Operation;
 use crate::patches::push_patch;
 use crate::touched::{are_values, push_change};
@@ -308,23 +308,18 @@ impl<A: AllocHandle> TableGroup<RowChange<A>, A> {
         let pushed = push_change(&mut self.bytes, &self.schema, indirect, image, now);
         end(&mut self.bytes, &mut self.ends, before, pushed)
     }
-}
 
-impl<A: AllocHandle> TableGroup<RowChange<A>, A> {
-    /// The inverse of each change, in the same order.
-    #[tactic(auto, using(crate::proofs::StoredEntries::spelled))]
-    pub(crate) fn inverse(&self, alloc: A) -> Result<Self, OutOfMemory>
-        ensures { IfOk result (λ inverse. inverse ≡ made.group_of inverse_of self.now) }
+    /// Writes the inverse of each change over it: those before one whose memory is refused, or all.
+    pub(crate) fn invert(&mut self) -> Result<(), OutOfMemory>
+        ensures { OnOk result (self.new ≡ made.group_of inverse_of self.old) }
     {
-        let flags = self.schema.flags();
-        let bytes = inverse_bytes(alloc, flags, self.changes(), self.bytes.as_slice())?;
-        Ok(TableGroup {
-            table: self.table.copy()?,
-            schema: self.schema.copy()?,
-            bytes,
-            ends: Vec::from_slice(alloc, self.ends.as_slice())?,
-            marker: PhantomData,
-        })
+        let alloc = *self.bytes.allocator();
+        write_inverses(
+            alloc,
+            self.schema.flags(),
+            self.ends.as_slice(),
+            self.bytes.as_mut_slice(),
+        )
     }
 }
 

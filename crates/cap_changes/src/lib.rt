@@ -12,7 +12,6 @@ mod field_requirement;
 mod group;
 mod inverse;
 mod list;
-mod made;
 mod operation;
 mod pass;
 mod patch;

@@ -1,6 +1,7 @@
 //! Changesets and patchsets as lists of groups.
-ghost use Rattle.std.specs.Prelude.{◌≡◌, ◌++◌, ◌∷◌, [], OnOk, OnErr};
+ghost use Rattle.std.specs.Prelude.{◌≡◌, ◌++◌, ◌∷◌, [], IfOk, OnOk, OnErr};
 ghost use Rattle.cap_changes.specs.Entries.{AreFitting};
+ghost use Rattle.cap_changes.specs.Invert.{inverse_list_of};
 
 use crate::{Entry, Patch, RowChange, TableGroup};
 use cap_value::{AllocHandle, OutOfMemory};
@@ -62,5 +63,19 @@ impl<C: Entry, A: AllocHandle> GroupList<C, A> {
         ensures { AreFitting C.fits_in self.now }
     {
         let _groups = &self.groups;
+    }
+}
+
+impl<A: AllocHandle> ChangeList<A> {
+    /// The list with the inverse of each change written over it.
+    pub(crate) fn into_inverse(self) -> Result<Self, OutOfMemory>
+        ensures { IfOk result (λ inverse. inverse ≡ inverse_list_of self) }
+    {
+        let GroupList { mut groups } = self;
+        for group in groups.iter_mut() {
+            group.invert()?;
+            group.fits();
+        }
+        Ok(GroupList { groups })
     }
 }

@@ -9,7 +9,6 @@ ghost use Rattle.cap_changes.specs.Requirements.{requirements, satisfy};
 ghost use Rattle.cap_changes.specs.declared.record_kind.RecordKind.TheVariants.{Full};
 
 use crate::bytes::push_operation;
-use crate::made::{Made, made_list};
 use crate::operation::Operation;
 use crate::{
     ChangeList, ChangeRef, EntryRef, Group, Patch, PatchGroup, PatchList, RecordRef, RowChange,
@@ -25,22 +24,23 @@ pub fn to_patches<A: AllocHandle>(
 ) -> Result<PatchList<A>, OutOfMemory>
     ensures { IfOk result (λ patches. patches ≡ made.patch_list_of list.now) }
 {
-    made_list(alloc, list)
+    let mut patches = PatchList::new(alloc);
+    for group in list.groups() {
+        patches.push(group_patches(alloc, group)?)?;
+    }
+    Ok(patches)
 }
 
-impl<A: AllocHandle> Made<A> for Patch<A> {
-    ghost use Rattle.cap_changes.specs.Patch.{patch_of};
-
-    ghost made = { λ flags change. patch_of flags change };
-
-    fn made_group(alloc: A, group: &Group<A>) -> Result<PatchGroup<A>, OutOfMemory> {
-        let mut patches = TableGroup::new(alloc, group.table().copy()?, group.schema().copy()?);
-        patches.reserve_for(group)?;
-        for change in group.changes() {
-            patches.push_patch_of(&change)?;
-        }
-        Ok(patches)
+// The patch of each change of a group, in the same order.
+fn group_patches<A: AllocHandle>(alloc: A, group: &Group<A>) -> Result<PatchGroup<A>, OutOfMemory>
+    ensures { IfOk result (λ patches. patches ≡ made.patches_of group.now) }
+{
+    let mut patches = TableGroup::new(alloc, group.table().copy()?, group.schema().copy()?);
+    patches.reserve_for(group)?;
+    for change in group.changes() {
+        patches.push_patch_of(&change)?;
     }
+    Ok(patches)
 }
 
 /// Appends the bytes of the patch of a change.

@@ -126,7 +126,7 @@ fn has_patches(alloc: Global, bytes: &[u8]) -> Result<bool, Fault<BlobFault>> {
 
 // Whether the inverse of the list is written as these bytes.
 fn has_inverse(alloc: Global, bytes: &[u8]) -> Result<bool, Fault<BlobFault>> {
-    let inverse = invert(alloc, &changes(alloc)?)?;
+    let inverse = invert(changes(alloc)?)?;
     Ok(write_changes(alloc, &inverse)?.as_slice() == bytes)
 }
 
@@ -147,7 +147,7 @@ pub(crate) fn make_patches<A: AllocHandle>(alloc: A) -> Result<bool, Fault<BlobF
 
 /// Reads a list, and makes its inverse: whether it is of one table.
 pub(crate) fn make_inverse<A: AllocHandle>(alloc: A) -> Result<bool, Fault<BlobFault>> {
-    Ok(invert(alloc, &changes(alloc)?)?.groups().len() == 1)
+    Ok(invert(changes(alloc)?)?.groups().len() == 1)
 }
 
 // Each request for memory of an inverse is refused in turn, and the inverse is made once none is. None is

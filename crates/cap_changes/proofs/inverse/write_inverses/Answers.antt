@@ -1,17 +1,25 @@
-use Rattle.std.proofs.Common.{length-drop, length-append, List, ℕ, ap, arith, length, take, drop, ◌++◌, ◌∙◌, ◌+◌}
-use Rattle.std.proofs.lemmas.List.{drop-drop}
-use Rattle.std.specs.List.{flat_map}
-use Rattle.cap_changes.specs.ChangeBytes.{change_bytes}
-use Rattle.cap_changes.proofs.GroupLemmas.{one_more}
+use Rattle.std.proofs.Common.{arith, get_or}
+use Rattle.cap_changes.proofs.GroupLemmas.{as_it_was, next_change, one_more, inverted}
 use Rattle.cap_changes.proofs.inverse.write_inverses.Goals as goal
 
-pub slice_bounds-write_inverse-end : goal.slice_bounds-write_inverse-end
-slice_bounds-write_inverse-end g c =
-    let left = c.loop-change.invariant.left ∙ ap (flat_map change_bytes) c.in-Some.ensures.steps in
-    omega (arith, c.loop-change.invariant.within, ap length left, length-drop c.loop-change.begin c.loop-change.bytes, length-append (change_bytes c.in-Some.change) (flat_map change_bytes c.next.new.self), ap length c.as_bytes.ensures.bytes)
+pub slice_bounds-write_inverse-count : goal.slice_bounds-write_inverse-count
+slice_bounds-write_inverse-count g c = (next_change c.loop-end.invariant c.loop-end-test.true).before
 
-pub loop-change-preserved : goal.loop-change-preserved
-loop-change-preserved g c =
-    one_more c.args.flags.now c.loop-change.bytes _ c.loop-change.begin (c.loop-change.begin + length c.as_bytes.result.now) c.loop-change.change-iterator c.next.new.self c.in-Some.change _ c.loop-change.invariant c.in-Some.ensures.steps (ap (λ (b : List ℕ). c.loop-change.begin + length b) c.as_bytes.ensures.bytes)
-    (ap (λ (b : List ℕ). take c.loop-change.begin c.loop-change.bytes ++ (c.write_inverse.new.bytes ++ b)) (drop-drop _ c.loop-change.begin c.loop-change.bytes ∙ ap (λ (n : ℕ). drop n c.loop-change.bytes) (omega arith))
-    ∙ ap (λ (b : List ℕ). take c.loop-change.begin c.loop-change.bytes ++ (b ++ drop (c.loop-change.begin + length c.as_bytes.result.now) c.loop-change.bytes)) c.in_ok-write_inverse.ensures)
+pub slice_bounds-write_inverse-start : goal.slice_bounds-write_inverse-start
+slice_bounds-write_inverse-start g c = let l = next_change c.loop-end.invariant c.loop-end-test.true in omega (arith, l.before, l.within)
+
+pub slice_bounds-write_inverse-end : goal.slice_bounds-write_inverse-end
+slice_bounds-write_inverse-end g c = let l = next_change c.loop-end.invariant c.loop-end-test.true in omega (arith, l.before, l.within)
+
+pub write_inverse-requires : goal.write_inverse-requires
+write_inverse-requires g c = (next_change c.loop-end.invariant c.loop-end-test.true).is
+
+pub returns-in_err-write_inverse-clause-kept : goal.returns-in_err-write_inverse-clause-kept
+returns-in_err-write_inverse-clause-kept g c =
+    rw (as_it_was c.loop-end.begin (get_or c.args.ends.now c.loop-end.end-index 0) c.loop-end.bytes c.write_inverse.new.bytes c.in_err-write_inverse.ensures.err) c.loop-end.invariant.kept
+
+pub loop-end-preserved : goal.loop-end-preserved
+loop-end-preserved g c = one_more c.write_inverse.new.bytes c.loop-end.invariant c.loop-end-test.true c.in_ok-write_inverse.ensures.ok
+
+pub returns-clause-inverse : goal.returns-clause-inverse
+returns-clause-inverse g c = inverted c.loop-end.invariant c.loop-end-test.false

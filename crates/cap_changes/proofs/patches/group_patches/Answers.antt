@@ -4,7 +4,7 @@ use Rattle.cap_changes.specs.Fits.{change_fits}
 use Rattle.cap_changes.specs.Patch.{patch_of}
 use Rattle.cap_changes.specs.declared.patch.Patch.{Patch}
 use Rattle.cap_changes.proofs.LeftLemmas.{first_fits, others_fit, image_made}
-use Rattle.cap_changes.proofs.patches.PatchMade.made_group.Goals as goal
+use Rattle.cap_changes.proofs.patches.group_patches.Goals as goal
 
 pub push_patch_of-requires : goal.push_patch_of-requires
 push_patch_of-requires g c =

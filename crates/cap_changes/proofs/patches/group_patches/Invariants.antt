@@ -2,7 +2,7 @@ use Rattle.std.proofs.Common.{◌≡◌, ◌++◌, map}
 use Rattle.cap_changes.specs.Entries.{AllFit}
 use Rattle.cap_changes.specs.Fits.{change_fits}
 use Rattle.cap_changes.specs.Patch.{patch_of}
-use Rattle.cap_changes.proofs.patches.PatchMade.made_group.Given as goal
+use Rattle.cap_changes.proofs.patches.group_patches.Given as goal
 
 -- the patches so far, and those of the changes that are left
 abbrev pub invariant-loop-change : goal.invariant-loop-change
