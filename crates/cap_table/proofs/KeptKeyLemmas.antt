@@ -1,24 +1,30 @@
--- An update that sets no key column leaves each row its key, and the table with the new row under it; and when a hook may be asked.
-use Rattle.std.proofs.Common.{◌≡◌, ℕ, suc, ◌+◌, Bool, true, false, cond, Some, List, [], ◌∷◌, Ok, Err, length, map, get_or, refl, sym, ap, subst, ◌∙◌, arith, None}
-use Rattle.std.specs.Prelude.{is_some}
+-- An update that sets no key column leaves each row its key; and what an operation comes to by the rule on the present row.
+use Rattle.std.proofs.Common.{◌≡◌, ℕ, suc, ◌+◌, Bool, true, false, Option, Some, List, Result, [], ◌∷◌, Ok, Err, length, map, get_or, refl, sym, ap, subst, ◌∙◌, arith, None}
+use Rattle.std.specs.Prelude.{OnOk}
 use Rattle.std.specs.Cmp.{Equal-is, tied_itself}
 use Rattle.std.specs.List.{list_any, enumerate_from}
 use Rattle.std.specs.Option.{option_map}
 use Rattle.std.proofs.lemmas.Bool.Decides.{nat_tests}
 use Rattle.std.proofs.lemmas.List.{length-map}
 use Rattle.std.proofs.lemmas.List.FromFn.{length-enumerate_from}
-use Rattle.cap_value.specs.declared.refusal.Refusal.TheVariants.{BadColumn, NoRow}
+use Rattle.cap_value.specs.declared.refusal.Refusal.{Refusal as Why}
 use Rattle.cap_value.specs.declared.value.Value.{Value}
 use Rattle.cap_row.specs.Fields.{Fields}
 use Rattle.cap_row.specs.Key.{fields_cmp, fields_cmp_total, key_fields, key_from, key_of}
-use Rattle.cap_row.specs.Row.{are_columns, columns_of, new_value, row_with, with_fields}
+use Rattle.cap_row.specs.Row.{are_columns, columns_of, new_value, row_with}
+use Rattle.cap_tree.specs.Change.{change_entry}
 use Rattle.cap_tree.specs.Tree.{get}
 use Rattle.cap_table.specs.KeptKey.{keeps_key, new_key}
-use Rattle.cap_table.specs.Operation.{update_row, with_key, delete_row, insert_row, placed, under_key, without}
+use Rattle.cap_table.specs.Operation.{delete_row, insert_row, placed, update_row, with_key, without}
+use Rattle.cap_table.specs.RowRule.{GivesByRule, refused_row}
+use Rattle.cap_table.specs.WithHook.{LeavesIfAllowed}
+use Rattle.cap_table.specs.declared.change_fault.ChangeFault.{ChangeFault}
+use Rattle.cap_table.specs.declared.change_fault.ChangeFault.TheVariants.{Refused, OutOfMemory, Vetoed}
 use Rattle.cap_table.specs.Sound.{IsTable}
 use Rattle.cap_table.specs.Table.{TableState}
 use Rattle.cap_table.specs.declared.row_ref.RowRef.TheVariants.{Key}
 use Rattle.cap_table.proofs.BackLemmas.{own-row}
+use Rattle.cap_table.proofs.TableLemmas.{put_keyed, take_keyed}
 
 module _ {A : Type 0} where
   unset : (flags : List Bool) (c : ℕ) (v : Value A) (fields : List (ℕ × Value A)) → list_any (λ field. get_or flags field.0 false) fields ≡ false → get_or flags c false ≡ true → new_value fields c v ≡ v
@@ -38,46 +44,60 @@ module _ {A : Type 0} where
       let none : list_any (λ (field : ℕ × Value A). get_or flags field.0 false) fields ≡ false = grind arith in
       ap key_from (kept_fields fields flags 0 row (λ i v key. subst (λ m. new_value fields m v ≡ v) (omega arith) (unset flags i v fields none key)))
 
-  -- the new row of an update, and what the update leaves
-  pub record IsUpdated (t : TableState A) (key : Fields A) (changes : List (ℕ × Value A)) (made : Fields A) : Type 0 where
-    pub width : length made ≡ length t.schema
-    pub own : key_of t.schema made ≡ Some key
-    pub next : option_map (row_with changes) (get fields_cmp t.keyed key) ≡ Some made
-    pub left : update_row t (Key key) changes ≡ Ok (with_key t key made)
+  -- the new row of an update has the table's width and keeps its key
+  next-own : (t : TableState A) (key : Fields A) (changes : List (ℕ × Value A)) → keeps_key t.schema changes ≡ true → IsTable t → (row : Fields A) → get fields_cmp t.keyed key ≡ Some row → (length (row_with changes row) ≡ length t.schema) × (key_of t.schema (row_with changes row) ≡ Some key)
+  next-own t key changes keeps h row there =
+      let own = own-row t key row h there in
+      (length-map _ _ ∙ length-enumerate_from 0 row ∙ own.0, same_key t.schema changes keeps row ∙ own.1)
 
-  if_ok : (b : Bool) (row made : Fields A) → cond b (Ok row) (Err BadColumn) ≡ Ok made → (b ≡ true) × (row ≡ made)
-  if_ok b row made is = grind arith
+  -- the rows with a key after an update of one of them, if it is there
+  abbrev pub next_rows : TableState A → Fields A → List (ℕ × Value A) → List (Fields A × Fields A)
+  next_rows t key changes = change_entry fields_cmp t.keyed key (option_map (row_with changes) (get fields_cmp t.keyed key))
 
-  pub updated_to : (t : TableState A) (key : Fields A) (changes : List (ℕ × Value A)) → keeps_key t.schema changes ≡ true → IsTable t → (row made : Fields A) → Some row ≡ get fields_cmp t.keyed key → with_fields t.schema row changes ≡ Ok made → IsUpdated t key changes made
-  updated_to t key changes keeps h row made there with =
-      let own = own-row t key row h (sym there) in
-      let is = if_ok (are_columns (length t.schema) (columns_of changes)) (row_with changes row) made with in
-      let same : key_of t.schema made ≡ Some key = ap (λ (r : Fields A). key_of t.schema r) (sym is.1) ∙ same_key t.schema changes keeps row ∙ own.1 in
-      record {
-        width = ap length (sym is.1) ∙ length-map _ _ ∙ length-enumerate_from 0 row ∙ own.0;
-        own = same;
-        next = ap (option_map (row_with changes)) (sym there) ∙ ap Some is.1;
-        left = let tie = (Equal-is (fields_cmp key key)).1 (tied_itself fields_cmp_total key) in grind arith;
-      }
+  pub next_rows-stand : (t : TableState A) (key : Fields A) (changes : List (ℕ × Value A)) → keeps_key t.schema changes ≡ true → IsTable t → IsTable (record t { keyed = next_rows t key changes })
+  next_rows-stand t key changes keeps h = stand (get fields_cmp t.keyed key) refl
+    where
+      stand : (found : Option (Fields A)) → get fields_cmp t.keyed key ≡ found → IsTable (record t { keyed = change_entry fields_cmp t.keyed key (option_map (row_with changes) found) })
+      stand None is = take_keyed t key h
+      stand (Some row) is = let own = next-own t key changes keeps h row is in put_keyed t key (row_with changes row) h own.0 own.1
 
--- ---- when a hook may be asked: what an operation leaves where its key is free, or where the row is there
+-- ---- what an operation comes to by the rule on the present row
+
+-- the rule's refusal, or what is left where it refuses nothing
+abbrev pub ruled : {S : Type 0} → Option Why → S → Result S Why
+ruled (Some why) left = Err why
+ruled None left = Ok left
+
+pub allowed : {S : Type 0} {refused : Option Why} {answer : Result S Why} {left : S} → answer ≡ ruled refused left → refused ≡ None → answer ≡ Ok left
+allowed {left = left} is none = is ∙ ap (λ r. ruled r left) none
+
+module _ {S E : Type 0} where
+  pub leaves : (refused : Option Why) (result : Result (Unit {0}) (ChangeFault E)) {answer : Result S Why} (left after : S) {unasked still : Type 0} {gives told : Result (Unit {0}) E → Type 0} → answer ≡ ruled refused left → GivesByRule refused result unasked gives → OnOk result (after ≡ left) → (unasked → still) → ((a : Result (Unit {0}) E) → gives a → told a) → LeavesIfAllowed result answer after still told
+  leaves (Some why) result left after is by made keep tell = rw by.0 (is, keep by.1)
+  leaves None (Ok done) left after is by made keep tell = (is ∙ ap Ok (sym made), tell (Ok tt) by)
+  leaves None (Err (Vetoed why)) left after is by made keep tell = (rw is refl, tell (Err why) by)
+  leaves None (Err (Refused why)) left after is by made keep tell = absurd by
+  leaves None (Err OutOfMemory) left after is by made keep tell = absurd by
+
+pub none-there : {V : Type 0} (found : Option V) → refused_row true found ≡ None → found ≡ None
+none-there None is = refl
+none-there (Some row) is = cc
 
 module _ {A : Type 0} where
-  -- a new row that has a key, and what its insert comes to
-  pub record IsNew (t : TableState A) (row key : Fields A) : Type 0 where
-    pub width : length row ≡ length t.schema
-    pub own : key_of t.schema row ≡ Some key
-    pub insert : insert_row t row ≡ under_key (is_some (get fields_cmp t.keyed key)) t key row
+  -- a new row that has a key has the table's width, and this key
+  pub new-own : (t : TableState A) (row key : Fields A) → new_key t row ≡ Some key → (length row ≡ length t.schema) × (key_of t.schema row ≡ Some key)
+  new-own t row key is = (grind (arith, nat_tests), grind (arith, nat_tests))
 
-  pub is_new : (t : TableState A) (row key : Fields A) → new_key t row ≡ Some key → IsNew t row key
-  is_new t row key is =
-      let width : length row ≡ length t.schema = grind (arith, nat_tests) in
-      let own : key_of t.schema row ≡ Some key = grind (arith, nat_tests) in
-      let place = ap (placed t row) own in
-      record { width = width; own = own; insert = grind (arith, nat_tests) }
+  pub inserted : (t : TableState A) (row key : Fields A) → new_key t row ≡ Some key → insert_row t row ≡ ruled (refused_row true (get fields_cmp t.keyed key)) (with_key t key row)
+  inserted t row key is =
+      let own = new-own t row key is in
+      let place = ap (placed t row) own.1 in
+      grind (arith, nat_tests)
 
-  pub free_key : (t : TableState A) (row key : Fields A) → new_key t row ≡ Some key → get fields_cmp t.keyed key ≡ None → insert_row t row ≡ Ok (with_key t key row)
-  free_key t row key is free = let new = is_new t row key is in grind arith
+  pub deleted : (t : TableState A) (key : Fields A) → delete_row t (Key key) ≡ ruled (refused_row false (get fields_cmp t.keyed key)) (without t (Key key))
+  deleted t key = grind arith
 
-  pub deleted : (t : TableState A) (key : Fields A) → is_some (get fields_cmp t.keyed key) ≡ true → delete_row t (Key key) ≡ Ok (without t (Key key))
-  deleted t key there = ap (λ b. cond b (Ok (without t (Key key))) (Err NoRow)) there
+  pub updated_to : (t : TableState A) (key : Fields A) (changes : List (ℕ × Value A)) → are_columns (length t.schema) (columns_of changes) ≡ true → keeps_key t.schema changes ≡ true → IsTable t → update_row t (Key key) changes ≡ ruled (refused_row false (get fields_cmp t.keyed key)) (record t { keyed = next_rows t key changes })
+  updated_to t key changes columns keeps h =
+      let tie = (Equal-is (fields_cmp key key)).1 (tied_itself fields_cmp_total key) in
+      grind (arith, next-own t key changes keeps h)

@@ -5,3 +5,4 @@ pub mod Sound
 pub mod Table
 pub mod ChangeFault
 pub mod KeptKey
+pub mod RowRule

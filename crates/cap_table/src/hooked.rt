@@ -1,24 +1,24 @@
-//! Operations on rows that have a key. Each looks the present row up and judges it, and then changes the tree,
-//! which asks the caller's hook.
+//! Operations on rows that have a key, each by one search of the tree. The tree asks the table's rule, which
+//! judges the present row before it asks the caller's hook.
 ghost use Rattle.std.specs.Prelude.{◌≡◌, Result, Ok, Err, Some, None, IfOk, IfErr, OnOk, OnErr, IsTrue};
-ghost use Rattle.std.specs.Prelude.{length, get_or, is_some, option_map, false};
+ghost use Rattle.std.specs.Prelude.{length, get_or, is_some, option_map, false, if◌then◌else◌};
 ghost use Rattle.std.specs.List.{list_any};
-ghost use Rattle.cap_value.specs.declared.refusal.Refusal.{Refusal};
 ghost use Rattle.cap_row.specs.Fields.{Fields};
 ghost use Rattle.cap_row.specs.Row.{row_with};
-ghost use Rattle.cap_row.specs.Key.{key_of, fields_cmp};
+ghost use Rattle.cap_row.specs.Key.{fields_cmp};
 ghost use Rattle.cap_tree.specs.Tree.{get};
 ghost use Rattle.cap_table.specs.WithHook.{LeavesIfAllowed};
 ghost use Rattle.cap_table.specs.ChangeFault.{RefusesAtOnce};
 ghost use Rattle.cap_table.specs.Operation.{delete_row, insert_row, update_row};
-ghost use Rattle.cap_table.specs.Operation.{refused_delete, refused_update, with_key, without};
+ghost use Rattle.cap_table.specs.Operation.{refused_delete, refused_update};
 ghost use Rattle.cap_table.specs.KeptKey.{keeps_key, new_key};
 ghost use Rattle.cap_table.specs.Table.{TableState};
 
+use crate::row_rule::{RowRule, RowUpdate};
 use crate::table::Table;
 use crate::{ChangeFault, RowRef};
 use cap_row::{Key, Row, are_columns, key_of};
-use cap_tree::Hook;
+use cap_tree::{Hook, Tree};
 use cap_value::{AllocHandle, Fault, OutOfMemory, Refusal, Value};
 
 impl<A: AllocHandle> Table<A> {
@@ -57,9 +57,11 @@ impl<A: AllocHandle> Table<A> {
         ensures kept { OnErr result (self.new ≡ self.old) }
         ensures free { OnOk result (get fields_cmp self.old.keyed key ≡ None) }
     {
-        match self.keyed().get(&key) {
-            Some(_) => Err(ChangeFault::Refused(Refusal::Duplicate)),
-            None => self.put_hooked(key, row, hook),
+        let mut rule = RowRule { is_new: true, hook };
+        match self.keyed.insert_hooked(key, row, &mut rule) {
+            Ok(_) => Ok(()),
+            Err(Fault::Refused(why)) => Err(why),
+            Err(Fault::OutOfMemory) => Err(ChangeFault::OutOfMemory),
         }
     }
 
@@ -78,9 +80,14 @@ impl<A: AllocHandle> Table<A> {
         ensures kept { OnErr result (self.new ≡ self.old) }
         ensures first { RefusesAtOnce (refused_delete self.old (RowRef.Key key.now)) result }
     {
-        match self.keyed().get(key) {
-            None => Err(ChangeFault::Refused(Refusal::NoRow)),
-            Some(_) => self.take_hooked(key, hook),
+        let mut rule = RowRule {
+            is_new: false,
+            hook,
+        };
+        match self.keyed.remove_hooked(key, &mut rule) {
+            Ok(_) => Ok(()),
+            Err(Fault::Refused(why)) => Err(why),
+            Err(Fault::OutOfMemory) => Err(out_of_memory(&self.keyed, key)),
         }
     }
 
@@ -108,57 +115,31 @@ impl<A: AllocHandle> Table<A> {
         if !are_columns(self.schema.width(), fields) {
             return Err(ChangeFault::Refused(Refusal::BadColumn));
         }
-        let Some(old) = self.keyed().get(key) else {
-            return Err(ChangeFault::Refused(Refusal::NoRow));
+        let update = RowUpdate {
+            alloc: &self.alloc,
+            schema: &self.schema,
+            fields,
         };
-        match (
-            key.copy(),
-            old.with_fields(self.alloc, self.schema(), fields),
-        ) {
-            (Ok(key), Ok(row)) => self.put_hooked(key, row, hook),
-            _ => Err(ChangeFault::OutOfMemory),
+        let mut rule = RowRule {
+            is_new: false,
+            hook,
+        };
+        match self.keyed.modify_hooked(key, &update, &mut rule) {
+            Ok(_) => Ok(()),
+            Err(Fault::Refused(why)) => Err(why),
+            Err(Fault::OutOfMemory) => Err(out_of_memory(&self.keyed, key)),
         }
     }
+}
 
-    // Removes the row of a key, in place.
-    fn take_hooked<H: Hook<Row<A>>>(
-        &mut self,
-        key: &Key<A>,
-        hook: &mut H,
-    ) -> Result<(), ChangeFault<H::Refusal>>
-        requires { H.can_ask hook.old (get fields_cmp self.old.keyed key.now) None }
-        ensures table { LeavesIfAllowed result (Ok (without self.old (RowRef.Key key.now))) self.new
-            (hook.new ≡ hook.old)
-            (λ answer. H.gives hook.old (get fields_cmp self.old.keyed key.now) None answer hook.new) }
-        ensures kept { OnErr result (self.new ≡ self.old) }
-    {
-        match self.keyed.remove_hooked(key, hook) {
-            Ok(_) => Ok(()),
-            Err(Fault::Refused(why)) => Err(ChangeFault::Vetoed(why)),
-            Err(Fault::OutOfMemory) => Err(ChangeFault::OutOfMemory),
-        }
-    }
-
-    // A row under its own key, in place.
-    fn put_hooked<H: Hook<Row<A>>>(
-        &mut self,
-        key: Key<A>,
-        row: Row<A>,
-        hook: &mut H,
-    ) -> Result<(), ChangeFault<H::Refusal>>
-        requires width { length row ≡ length self.old.schema }
-        requires key { key_of self.old.schema row ≡ Some key }
-        requires can_ask { H.can_ask hook.old (get fields_cmp self.old.keyed key) (Some row) }
-        ensures table { LeavesIfAllowed result (Ok (with_key self.old key row)) self.new
-            (hook.new ≡ hook.old)
-            (λ answer. H.gives hook.old (get fields_cmp self.old.keyed key) (Some row) answer hook.new) }
-        ensures kept { OnErr result (self.new ≡ self.old) }
-    {
-        match self.keyed.insert_hooked(key, row, hook) {
-            Ok(_) => Ok(()),
-            Err(Fault::Refused(why)) => Err(ChangeFault::Vetoed(why)),
-            Err(Fault::OutOfMemory) => Err(ChangeFault::OutOfMemory),
-        }
+// Out of memory, unless no row has the key: a missing row is refused even then.
+fn out_of_memory<A: AllocHandle, E>(keyed: &Tree<Key<A>, Row<A>, A>, key: &Key<A>) -> ChangeFault<E>
+    ensures { result ≡ (if is_some (get fields_cmp keyed.now key.now) then ChangeFault.OutOfMemory
+        else ChangeFault.Refused Refusal.NoRow) }
+{
+    match keyed.get(key) {
+        Some(_) => ChangeFault::OutOfMemory,
+        None => ChangeFault::Refused(Refusal::NoRow),
     }
 }
 

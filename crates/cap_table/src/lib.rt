@@ -10,6 +10,7 @@ mod limits;
 mod replaced;
 mod row_name;
 mod row_ref;
+mod row_rule;
 mod rows;
 mod scan;
 mod table;

@@ -1,29 +1,31 @@
-use Rattle.std.proofs.Common.{◌≡◌, Some, sym, subst}
-use Rattle.cap_row.specs.Key.{fields_cmp}
-use Rattle.cap_tree.specs.Tree.{get}
-use Rattle.cap_table.proofs.BackLemmas.{own-row}
-use Rattle.cap_table.proofs.KeptKeyLemmas.{updated_to}
+use Rattle.std.proofs.Common.{Ok, Err, refl, rules, sym, ◌∙◌}
+use Rattle.cap_table.specs.declared.row_ref.RowRef.TheVariants.{Key}
+use Rattle.cap_table.proofs.KeptKeyLemmas.{allowed, leaves, next_rows-stand, updated_to}
+use Rattle.cap_table.proofs.TableLemmas.{found-wide}
 use Rattle.cap_table.proofs.table.Table.update_kept_hooked.Goals as goal
 
-pub with_fields-requires : goal.with_fields-requires
-with_fields-requires g c =
-    let there : Some c.in-Some.old.now ≡ get fields_cmp c.args.self.now.keyed c.args.key.now = rw c.keyed.ensures.rows at c.in-Some.ensures in
-    rw c.schema.ensures (sym (own-row c.args.self.now c.args.key.now c.in-Some.old.now c.keyed.ensures.sound (sym there)).0)
+pub modify_hooked-requires-clause-can_modify : goal.modify_hooked-requires-clause-can_modify
+modify_hooked-requires-clause-can_modify g c = λ row there. sym (found-wide _ (Key c.args.key.now) row c.self.invariant there)
 
-pub put_hooked-requires : goal.put_hooked-requires
-put_hooked-requires g c =
-    let there = rw c.keyed.ensures.rows at c.in-Some.ensures in
-    let with = rw c.schema.ensures at c.in-Ok-Ok.ensures'.row in
-    let e = updated_to c.args.self.now c.args.key.now c.args.fields.now c.requires.kept c.keyed.ensures.sound c.in-Some.old.now c.in-Ok-Ok.row there with in
-    rw c.in-Ok-Ok.ensures (record {
-      width = e.width;
-      key = e.own;
-      can_ask = subst (λ next. g.H.Hook.can_ask c.args.hook.now (get fields_cmp c.args.self.now.keyed c.args.key.now) next) e.next (c.requires.can_ask _ e.left);
-    })
+pub modify_hooked-requires-clause-can_ask : goal.modify_hooked-requires-clause-can_ask
+modify_hooked-requires-clause-can_ask g c =
+    let is = updated_to _ c.args.key.now c.args.fields.now (rw (← c.width.ensures.columns) (sym c.are_columns.ensures ∙ c.if-not-are_columns.false)) (rw (← c.self.view_is) at c.requires.kept) c.self.invariant in
+    let can = rw (← c.self.view_is) at c.requires.can_ask in
+    λ there. can _ (allowed is there)
 
-pub returns-in-Ok-Ok-clause-table : goal.returns-in-Ok-Ok-clause-table
-returns-in-Ok-Ok-clause-table g c =
-    let there = rw c.keyed.ensures.rows at c.in-Some.ensures in
-    let with = rw c.schema.ensures at c.in-Ok-Ok.ensures'.row in
-    let e = updated_to c.args.self.now c.args.key.now c.args.fields.now c.requires.kept c.keyed.ensures.sound c.in-Some.old.now c.in-Ok-Ok.row there with in
-    rw (e.left, e.next) (rw c.in-Ok-Ok.ensures at c.put_hooked.ensures.table)
+pub invariant_of-self : goal.invariant_of-self
+invariant_of-self g c = rw c.in-Ok.ensures.ok (next_rows-stand _ c.args.key.now c.args.fields.now (rw (← c.self.view_is) at c.requires.kept) c.self.invariant)
+
+pub returns-in-Ok-clause-table : goal.returns-in-Ok-clause-table
+returns-in-Ok-clause-table g c =
+    let is = updated_to _ c.args.key.now c.args.fields.now (rw (← c.width.ensures.columns) (sym c.are_columns.ensures ∙ c.if-not-are_columns.false)) (rw (← c.self.view_is) at c.requires.kept) c.self.invariant in
+    let all = leaves _ (Ok tt) _ _ is c.in-Ok.ensures.allowed.1 refl (λ same. same) (λ a told. told) in
+    let name = c.in-Ok.ensures.allowed.0 in
+    rw (← c.self.view_is, c.in-Ok.ensures.ok) (all.0, search rules)
+
+pub returns-in-Err-Refused-clause-table : goal.returns-in-Err-Refused-clause-table
+returns-in-Err-Refused-clause-table g c =
+    let is = updated_to _ c.args.key.now c.args.fields.now (rw (← c.width.ensures.columns) (sym c.are_columns.ensures ∙ c.if-not-are_columns.false)) (rw (← c.self.view_is) at c.requires.kept) c.self.invariant in
+    let refused = rw c.in-Err-Refused.field-0-is at c.in-Err-Refused.ensures.refused in
+    let name = refused.0 in
+    rw (← c.self.view_is) (leaves _ (Err c.in-Err-Refused.why) _ _ is refused.1 tt (λ same. search rules) (λ a told. search rules))
